@@ -1,0 +1,70 @@
+-- The paper's view of an answer (document 01, "Refusals from the input", "Refusals from the state"): values, or a number
+-- with what it carries. Every contract of a public call is stated through it. [01:FM14 FM15]
+use Prim.Native.Nat.{ℕ}
+use mathlib.Core.List.{List, [], _∷_}
+use Rattle.answer.specs.declared.Refusal.{Refusal}
+use Rattle.answer.specs.declared.Refusal.the-variants.{KeyLength, FieldLength, ShareRange, NonceLength, IdLength, TokenLength, SizeRange, SliceLength, TextLength, Header, Mark, TokenShares, Damage, CountRange, EntryRows, CounterRows, LogRows, OutputLength, NonceCount}
+use Rattle.answer.specs.declared.Completion.{Completion}
+use Rattle.answer.specs.declared.Completion.the-variants.{Done, Refused as Refused₀}
+use Rattle.answer.specs.declared.Counted.{Counted}
+use Rattle.answer.specs.declared.Counted.the-variants.{Number, Refused as Refused₁}
+
+-- done, with the values answered; refused, with the paper's number and what it carries
+pub data Answer : Type 0 where
+  done : List ℕ → Answer
+  refused : ℕ → List ℕ → Answer
+
+-- the paper's number of each refusal
+abbrev pub numberOf : Refusal → ℕ
+numberOf KeyLength = 1
+numberOf FieldLength = 2
+numberOf ShareRange = 3
+numberOf NonceLength = 4
+numberOf IdLength = 5
+numberOf TokenLength = 6
+numberOf SizeRange = 7
+numberOf SliceLength = 8
+numberOf TextLength = 9
+numberOf Header = 10
+numberOf Mark = 11
+numberOf TokenShares = 12
+numberOf Damage = 13
+numberOf CountRange = 14
+numberOf EntryRows = 15
+numberOf CounterRows = 16
+numberOf LogRows = 17
+numberOf (OutputLength n) = 18
+numberOf NonceCount = 19
+
+-- what a refusal carries: 18 the number of ids found, every other nothing
+abbrev pub carriedBy : Refusal → List ℕ
+carriedBy KeyLength = []
+carriedBy FieldLength = []
+carriedBy ShareRange = []
+carriedBy NonceLength = []
+carriedBy IdLength = []
+carriedBy TokenLength = []
+carriedBy SizeRange = []
+carriedBy SliceLength = []
+carriedBy TextLength = []
+carriedBy Header = []
+carriedBy Mark = []
+carriedBy TokenShares = []
+carriedBy Damage = []
+carriedBy CountRange = []
+carriedBy EntryRows = []
+carriedBy CounterRows = []
+carriedBy LogRows = []
+carriedBy (OutputLength n) = n ∷ []
+carriedBy NonceCount = []
+
+abbrev pub refusal : Refusal → Answer
+refusal r = refused (numberOf r) (carriedBy r)
+
+abbrev pub completion : Completion → Answer
+completion Done = done []
+completion (Refused₀ r) = refusal r
+
+abbrev pub counted : Counted → Answer
+counted (Number n) = done (n ∷ [])
+counted (Refused₁ r) = refusal r
