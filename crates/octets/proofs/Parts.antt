@@ -12,6 +12,10 @@ pub copy-byte : (i : ℕ) (to from : List ℕ) → i < length to → i < length 
     → take (i + 1) (set to i (getD from i 0)) ≡ take (i + 1) from
 copy-byte i to from h k e = rw (add-one i, take-suc-set to i (getD from i 0) h, e, take-suc from i 0 k)
 
+-- how long a lent part is
+pub length-part : (xs : List ℕ) (a e : ℕ) → e ≤ length xs → length (take (e - a) (drop a xs)) ≡ e - a
+length-part xs a e h = length-take-le (e - a) (drop a xs) (omega (arith, length-drop a xs))
+
 module _ (xs : List ℕ) (a e : ℕ) (ys : List ℕ) (ae : a ≤ e) (el : e ≤ length xs) (same : length ys ≡ e - a) where
   pub length-back : length (back xs a e ys) ≡ length xs
   length-back =
@@ -41,3 +45,8 @@ module _ (xs : List ℕ) (a e : ℕ) (ys : List ℕ) (ae : a ≤ e) (el : e ≤ 
 -- a part that comes back as it was lent changes nothing
 pub back-same : (xs : List ℕ) (a e : ℕ) → back xs a e (take (e - a) (drop a xs)) ≡ xs
 back-same xs a e = ap (λ (l : List ℕ). take a xs ++ l) (take-append-drop (e - a) (drop a xs)) ∙ take-append-drop a xs
+
+-- parts that are written one after the other: the part behind front comes back as ys
+pub back-next : (front junk ys : List ℕ) (a e : ℕ) → length front ≡ a
+    → back (front ++ junk) a e ys ≡ (front ++ ys) ++ drop (e - a) junk
+back-next front junk ys a e f = rw (take-at front junk a f, drop-at front junk a f) (sym (append-assoc front ys (drop (e - a) junk)))

@@ -1,0 +1,108 @@
+// SHA-256 (FIPS 180-4). Each full block is read where it stands in the caller's slice; only the
+// padded tail is built aside.
+ghost use mathlib.Core.Path.{_≡_};
+ghost use Prim.Native.Nat.{_+_, _-_, _*_, _/_, _<_, _≤_, _%_};
+ghost use mathlib.Core.List.{_++_};
+ghost use lib.ListN.{length, replicate};
+ghost use Rattle.answer.specs.Answer.{completion};
+ghost use Rattle.sha256.specs.Constants.{K as constantsOf};
+ghost use Rattle.sha256.specs.Compression.{words};
+ghost use Rattle.sha256.specs.Padding.{zeros, padding};
+ghost use Rattle.sha256.specs.Hash.{Blocks, Tail, Final, Digest, hashAnswer, hashDigest};
+
+pub mod compression;
+mod functions;
+mod schedule;
+
+use answer::Completion;
+use answer::Refusal;
+use compression::State;
+use compression::compress;
+use compression::initial;
+
+// The hash value after the full blocks of a slice.
+fn blocks<'a>(s: State, m: &'a [u8], k: &'a [u32; 64]) -> State
+    requires { ⌜ now k ≡ constantsOf ⌝ }
+    ensures { λ r. ⌜ words r ≡ Blocks (length (now (m .entry)) / 64) (words s) (now (m .entry)) ⌝ }
+{
+    let mut v = s;
+    let mut at = 0;
+    while 64 <= m.len() - at {
+        let e = at + 64;
+        v = compress(v, &m[at..e], k);
+        at = e;
+    }
+    v
+}
+
+// Writes the rest of a message of n bytes in all, and its padding (5.1.1), over whole blocks.
+fn pad(to: &mut [u8], rest: &[u8], n: usize)
+    requires { ⌜ (length (now to) ≡ length (now rest) + (zeros n + 9)) × (n ≤ 131072) ⌝ }
+    ensures { λ _. ⌜ now (to .exit) ≡ now (rest .entry) ++ padding n ⌝ }
+{
+    let r = rest.len();
+    let a = r + 1;
+    let e = to.len();
+    let b = e - 8;
+    octets::copy(&mut to[..r], rest);
+    to[r] = 128;
+    octets::clear(&mut to[a..b]);
+    octets::put(&mut to[b..e], 8 * (n as u64));
+}
+
+// The hash value after the rest of a message of n bytes in all, with its padding.
+fn tail<'a>(s: State, rest: &'a [u8], n: usize, k: &'a [u32; 64]) -> State
+    requires { ⌜ (now k ≡ constantsOf) × ((length (now rest) ≡ n % 64) × (n ≤ 131072)) ⌝ }
+    ensures { λ r. ⌜ words r ≡ Tail (words s) (now (rest .entry)) n ⌝ }
+{
+    let mut last = [0u8; 128];
+    let e = (rest.len() + 72) / 64 * 64;
+    pad(&mut last[..e], rest, n);
+    blocks(s, &last[..e], k)
+}
+
+// The hash value after the last bytes of a message of which n bytes, whole blocks, led to s.
+pub fn finish(s: State, n: usize, m: &[u8]) -> State
+    requires { ⌜ (n % 64 ≡ 0) × ((n ≤ 65536) × (length (now m) ≤ 65536)) ⌝ }
+    ensures { λ r. ⌜ words r ≡ Final (words s) n (now (m .entry)) ⌝ }
+{
+    let k = functions::constants();
+    let v = blocks(s, m, &k);
+    let at = m.len() / 64 * 64;
+    tail(v, &m[at..], n + m.len(), &k)
+}
+
+// A word as a wider number.
+fn wide(x: u32) -> u64
+    ensures { λ r. ⌜ r ≡ x ⌝ }
+{
+    x as u64
+}
+
+// Writes the words of a hash value, big-endian.
+pub fn digest(s: State, to: &mut [u8])
+    requires { ⌜ length (now to) ≡ 32 ⌝ }
+    ensures { λ _. ⌜ now (to .exit) ≡ Digest (words s) ⌝ }
+{
+    let w = [s.a, s.b, s.c, s.d, s.e, s.f, s.g, s.h];
+    let mut i = 0;
+    while i < 8 {
+        let at = 4 * i;
+        let e = at + 4;
+        octets::put(&mut to[at..e], wide(w[i]));
+        i += 1;
+    }
+}
+
+// The hash of a message of at most 65,536 bytes; refusal 9 above, with the digest left as lent.
+pub fn hash(message: &[u8], out: &mut [u8; 32]) -> Completion
+    ensures { λ r. ⌜ completion r ≡ hashAnswer (now (message .entry)) ⌝ }
+    ensures { λ _. ⌜ now (out .exit) ≡ hashDigest (now (message .entry)) (now (out .entry)) ⌝ }
+{
+    if 65536 < message.len() {
+        return Completion::Refused(Refusal::TextLength);
+    }
+    let s = finish(initial(), 0, message);
+    digest(s, out);
+    Completion::Done
+}
