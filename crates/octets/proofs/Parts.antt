@@ -1,11 +1,11 @@
 -- Laws of copying in place, and of a part that was lent and has come back (specs/Part): what stands before, in and after it.
-use mathlib.Core.Path.{_≡_, refl, sym, ap, _∙_}
-use mathlib.Core.List.{List, [], _∷_, _++_, append-assoc}
+use mathlib.Core.Path.{_≡_, refl, sym, ap, ap₂, _∙_}
+use mathlib.Core.List.{List, [], _∷_, _++_, map, map-append, append-assoc, append-nil}
 use Prim.Native.Nat.{ℕ, zero, suc, _+_, _-_, _<_, _≤_}
 use native.Mathlib.Omega.{arith}
 use native.Mathlib.Numerals.{add-one}
-use lib.ListN.{length, length-append, length-take, length-drop, take, drop, set, getD, take-append-drop}
-use lib.Seq.{take-suc, take-suc-set, take-at, drop-at, drop-drop, length-take-le, take-append-le}
+use lib.ListN.{length, length-append, length-take, length-drop, length-map, drop-of-length-le, take, drop, set, getD, take-append-drop}
+use lib.Seq.{take-suc, take-suc-set, take-all, take-at, drop-at, drop-cons, drop-drop, getD-at, set-at, length-take-le}
 use Rattle.octets.specs.Part.{back}
 
 pub copy-byte : (i : ℕ) (to from : List ℕ) → i < length to → i < length from → take i to ≡ take i from
@@ -50,3 +50,37 @@ back-same xs a e = ap (λ (l : List ℕ). take a xs ++ l) (take-append-drop (e -
 pub back-next : (front junk ys : List ℕ) (a e : ℕ) → length front ≡ a
     → back (front ++ junk) a e ys ≡ (front ++ ys) ++ drop (e - a) junk
 back-next front junk ys a e f = rw (take-at front junk a f, drop-at front junk a f) (sym (append-assoc front ys (drop (e - a) junk)))
+
+-- ---- loops that change each byte in place
+
+-- the first i elements changed by f
+abbrev pub partly : (ℕ → ℕ) → ℕ → List ℕ → List ℕ
+partly f i xs = map f (take i xs) ++ drop i xs
+
+module _ (f : ℕ → ℕ) (i : ℕ) (xs : List ℕ) where
+  pub length-partly : length (partly f i xs) ≡ length xs
+  length-partly =
+      length-append (map f (take i xs)) (drop i xs)
+      ∙ omega (arith, length-map (take i xs) f, length-take i xs, length-drop i xs)
+
+  pub partly-all : length xs ≤ i → partly f i xs ≡ map f xs
+  partly-all h =
+      ap₂ (λ (l r : List ℕ). map f l ++ r) (take-all i xs h) (drop-of-length-le xs h) ∙ append-nil (map f xs)
+
+  module _ (h : i < length xs) where
+    front : length (map f (take i xs)) ≡ i
+    front = length-map (take i xs) f ∙ length-take-le i xs (omega arith)
+
+    -- the next element is still as it was
+    pub partly-at : getD (partly f i xs) i 0 ≡ getD xs i 0
+    partly-at =
+        ap (λ (l : List ℕ). getD (map f (take i xs) ++ l) i 0) (drop-cons xs i 0 h)
+        ∙ getD-at (map f (take i xs)) (getD xs i 0) (drop (suc i) xs) 0 i front
+
+    pub partly-more : (to : List ℕ) → to ≡ partly f i xs → set to i (f (getD to i 0)) ≡ partly f (i + 1) xs
+    partly-more to e =
+        ap₂ (λ (l : List ℕ) (x : ℕ). set l i (f x)) e (ap (λ (l : List ℕ). getD l i 0) e ∙ partly-at)
+        ∙ ap (λ (l : List ℕ). set (map f (take i xs) ++ l) i (f (getD xs i 0))) (drop-cons xs i 0 h)
+        ∙ set-at (map f (take i xs)) (getD xs i 0) (drop (suc i) xs) (f (getD xs i 0)) i front
+        ∙ sym (append-assoc (map f (take i xs)) (f (getD xs i 0) ∷ []) (drop (suc i) xs))
+        ∙ rw (add-one i, take-suc xs i 0 h, map-append f (take i xs) (getD xs i 0 ∷ []))

@@ -15,7 +15,7 @@ use Rattle.octets.proofs.Parts.{back-next, length-back, length-part}
 use Rattle.sha256.specs.Words.{_⊞_, σ0, σ1}
 use Rattle.sha256.specs.Constants.{K, H0}
 use Rattle.sha256.specs.Schedule.{Word, Words, Next, Schedule}
-use Rattle.sha256.specs.Compression.{Step, Steps, Compress}
+use Rattle.sha256.specs.Compression.{Step, Steps, Added, Compress}
 use Rattle.sha256.specs.Padding.{zeros, padding}
 use Rattle.sha256.specs.Hash.{Blocks, Tail, Final, Digest, Hash}
 
@@ -298,3 +298,25 @@ module _ (i : ℕ) (to ws ys : List ℕ) (h : i < length ws) (e : length to ≡ 
       long =
           length-append (take (4 * i) to) ys
           ∙ omega (arith, length-take-le (4 * i) to (omega arith), ap length four, length-bytes 4 (getD ws i 0))
+
+-- ---- how long a hash value and a digest are
+
+length-digest : (ws : List ℕ) → length (Digest ws) ≡ 4 * length ws
+unfolding Digest
+length-digest [] = refl
+length-digest (w ∷ ws) = length-append (bytes 4 w) (Digest ws) ∙ omega (arith, length-bytes 4 w, length-digest ws)
+
+length-blocks : (n : ℕ) (s m : List ℕ) → length s ≡ 8 → length (Blocks n s m) ≡ 8
+unfolding Blocks Compress Added
+length-blocks zero s m e = e
+length-blocks (suc n) s m e = length-blocks n (Compress s (take 64 m)) (drop 64 m) refl
+
+pub length-final : (s m : List ℕ) (n : ℕ) → length s ≡ 8 → length (Digest (Final s n m)) ≡ 32
+unfolding Final Tail
+length-final s m n e =
+    length-digest (Final s n m)
+    ∙ ap (λ (k : ℕ). 4 * k) (length-blocks (length (m ++ padding (n + length m)) / 64) s (m ++ padding (n + length m)) e)
+
+pub length-hash : (m : List ℕ) → length (Hash m) ≡ 32
+unfolding Hash H0
+length-hash m = length-final H0 m 0 refl

@@ -5,8 +5,8 @@ ghost use Prim.Native.Nat.{_+_, _-_, _*_, _/_, _<_, _≤_, _%_};
 ghost use mathlib.Core.List.{_++_};
 ghost use lib.ListN.{length, replicate};
 ghost use Rattle.answer.specs.Answer.{completion};
-ghost use Rattle.sha256.specs.Constants.{K as constantsOf};
-ghost use Rattle.sha256.specs.Compression.{words};
+ghost use Rattle.sha256.specs.Constants.{K as constantsOf, H0};
+ghost use Rattle.sha256.specs.Compression.{words, Compress};
 ghost use Rattle.sha256.specs.Padding.{zeros, padding};
 ghost use Rattle.sha256.specs.Hash.{Blocks, Tail, Final, Digest, hashAnswer, hashDigest};
 
@@ -70,6 +70,15 @@ pub fn finish(s: State, n: usize, m: &[u8]) -> State
     let v = blocks(s, m, &k);
     let at = m.len() / 64 * 64;
     tail(v, &m[at..], n + m.len(), &k)
+}
+
+// The hash value after a message's first block.
+pub fn first(block: &[u8]) -> State
+    requires { ⌜ length (now block) ≡ 64 ⌝ }
+    ensures { λ r. ⌜ words r ≡ Compress H0 (now (block .entry)) ⌝ }
+{
+    let k = functions::constants();
+    compress(initial(), block, &k)
 }
 
 // A word as a wider number.

@@ -1,0 +1,43 @@
+-- Refused by the two lengths alone; a prepared key gives F.
+use Rattle.hmac.proofs.Laws.{prepared}
+use Rattle.hmac.specs.Hmac.{Tag, within, macAnswer, macTag}
+use borrow.Author.Tests.{lt-leb, le-leb}
+use lib.ListN.{length}
+use Prim.Native.Nat.{ℕ}
+use mathlib.Core.List.{List}
+use mathlib.Core.Path.{_≡_, ap₂, sym, _∙_}
+use borrow.Author.Needs.{needs}
+use Rattle.hmac.proofs.mac.Statement.{statement}
+use Rattle.hmac.proofs.mac.Tie as tie
+
+returns : tie.Need-returns
+unfolding macAnswer macTag within
+returns c =
+    let over = lt-leb (length (c .before .before .before .args .key .now)) 65536 (c .if1 .taken) in (simp over, simp over)
+
+returns-2 : tie.Need-returns-2
+unfolding macAnswer macTag within
+returns-2 c =
+    let key = le-leb (length (c .before .before .before .before .args .key .now)) 65536 (c .before .if1 .left) in
+    let over = lt-leb (length (c .before .before .before .before .args .message .now)) 65536 (c .if2 .taken) in
+    (simp (key, over), simp (key, over))
+
+prepare-requires : tie.Need-prepare-requires
+prepare-requires c κs = search needs
+
+tag-requires : tie.Need-tag-requires
+tag-requires c κs = search needs
+
+returns-3 : tie.Need-returns-3
+unfolding macAnswer macTag within
+returns-3 c =
+    let key = le-leb (length (c .before .before .before .before .before .before .before .args .key .now)) 65536 (c .before .before .before .before .if1 .left) in
+    let message = le-leb (length (c .before .before .before .before .before .before .before .args .message .now)) 65536 (c .before .before .before .if2 .left) in (
+      simp (key, message),
+      simp (key, message)
+          (c .tag .ensures ∙ ap₂ (λ (i o : List ℕ). Tag i o (c .before .before .before .before .before .before .before .args .message .now)) (c .before .before .prepare .ensures .0) (c .before .before .prepare .ensures .1)
+          ∙ prepared (c .before .before .before .before .before .before .before .args .key .now) (c .before .before .before .before .before .before .before .args .message .now)),
+    )
+
+pub mac-spec : {M : Type 1} → statement M
+mac-spec = tie.close (tie.spec returns returns-2 prepare-requires tag-requires returns-3)
