@@ -1,0 +1,7 @@
+pub mod Words
+pub mod Quarter
+pub mod Rounds
+pub mod Block
+pub mod Cipher
+pub mod Call
+pub mod Laws
