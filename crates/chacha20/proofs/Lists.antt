@@ -1,12 +1,11 @@
 -- Laws over plain lists that the loops ask for: four stores in a row, words as bytes, and a text XORed part by part.
-use Prim.Native.Nat.{ℕ, zero, suc, _+_, _-_, _*_, _≤_, _<_}
+use Prim.Native.Nat.{ℕ, suc, _+_, _-_, _*_, _≤_, _<_}
 use mathlib.Core.Path.{_≡_, refl, sym, ap, _∙_}
 use mathlib.Core.List.{List, [], _∷_, _++_, append-assoc, append-nil}
 use native.Mathlib.Numerals.{add-one, add-two, add-three}
 use native.Mathlib.Omega.{arith}
-use native.Mathlib.Nat.{mul-suc}
 use lib.ListN.{length, getD, take, drop, set, length-append, length-take, length-drop, drop-of-length-le}
-use lib.Seq.{sets-eq, take-all, take-at, drop-at, drop-cons, take-suc, take-suc-set, drop-set-lt, drop-drop, take-add, take-length, length-take-le}
+use lib.Seq.{sets-eq, take-all, take-at, drop-at, drop-cons, take-suc, take-suc-set, drop-set-lt, length-take-le}
 use Rattle.chacha20.specs.Words.{_⊕_}
 use Rattle.chacha20.specs.Block.{bytesOf, serialized}
 use Rattle.chacha20.specs.Cipher.{xored}

@@ -1,7 +1,7 @@
 -- What holds of the cipher: it keeps the length, it undoes itself, and bytes stay bytes. [01:KF3]
 -- That it undoes itself needs no bound on the text: XOR with one number twice is nothing, digit by digit.
-use Prim.Native.Nat.{ℕ, zero, suc, _+_, _*_, _/_, _%_, _^_, _<_}
-use mathlib.Core.Path.{_≡_, refl, sym, ap, _∙_, subst}
+use Prim.Native.Nat.{ℕ, zero, suc, _+_, _/_, _%_, _^_, _<_}
+use mathlib.Core.Path.{_≡_, refl, ap, _∙_}
 use mathlib.Core.List.{List, [], _∷_, _++_}
 use native.Mathlib.Omega.{arith}
 use lib.Arith.{bin-ind}

@@ -5,3 +5,4 @@ pub mod Block
 pub mod Cipher
 pub mod Call
 pub mod Laws
+pub mod Examples

@@ -1,15 +1,14 @@
 // ChaCha20 (RFC 8439) with first block counter 1: a lent text is XORed with the stream in place.
-// Specs name the RFC's sections; the struct of 16 words stands for the state's list of words.
+// The definitions of specs/ follow the RFC's sections; a state there is the list of the struct's words.
 ghost use mathlib.Core.Path.{_≡_};
 ghost use Prim.Native.Nat.{_+_, _<_, _≤_, min};
 ghost use mathlib.Core.List.{_++_};
 ghost use lib.ListN.{length, take, drop, set};
 ghost use Rattle.answer.specs.Answer.{completion};
-ghost use Rattle.chacha20.specs.Words.{_⊞_};
-ghost use Rattle.chacha20.specs.Words.{rotl as rotated};
+ghost use Rattle.chacha20.specs.Words.{_⊞_, rotl as rotated};
 ghost use Rattle.chacha20.specs.Quarter.{four, quarterRound};
 ghost use Rattle.chacha20.specs.Rounds.{words, columns, diagonals, doubleRounds};
-ghost use Rattle.chacha20.specs.Block.{wordAt, initialState, blockWords, sums, bytesOf, serialized, block as blockOf};
+ghost use Rattle.chacha20.specs.Block.{wordAt, initialState, sums, bytesOf, serialized, block as blockOf};
 ghost use Rattle.chacha20.specs.Cipher.{xored, E};
 ghost use Rattle.chacha20.specs.Call.{cipherAnswer, cipherText};
 use answer::Completion;

@@ -56,7 +56,8 @@ loop-again c =
       omega arith,
       w,
       rw (ap (λ (b : List ℕ). getD b 12 0) (c .next-state .ensures))
-          (text-turn (a .key .now) (a .nonce .now) (d .loop .text) (x .xor-block .last .1 .0) (s .x12) at e (length (a .text .now)) (d .loop .inv .0) (omega arith) (omega arith) ys
+          (text-turn (a .key .now) (a .nonce .now) (d .loop .text) (x .xor-block .last .1 .0) (s .x12) at e (length (a .text .now))
+          (d .loop .inv .0) (omega arith) (omega arith) ys
           ∙ d .loop .inv .3),
     )
 

@@ -1,7 +1,7 @@
 -- `chacha20::rounds` meets its contract. The invariant: the double rounds that are left lead to the same state.
 use Prim.Native.Nat.{ℕ, suc, _+_, _-_, _≤_, _<_}
 use mathlib.Core.List.{List}
-use mathlib.Core.Path.{_≡_, refl, sym, ap, _∙_}
+use mathlib.Core.Path.{_≡_, sym, ap, _∙_}
 use native.Mathlib.Omega.{arith}
 use borrow.Author.Needs.{needs}
 use Rattle.chacha20.specs.Rounds.{words, columns, diagonals, doubleRounds}
@@ -24,7 +24,8 @@ step i s h =
 loop-again : tie.Need-loop-again Inv-loop μ-loop
 loop-again c =
     let d = c .before .before in
-    (omega arith, ap (doubleRounds (10 - (d .loop .i + 1))) (c .double-round .ensures) ∙ sym (step (d .loop .i) (words (d .loop .s)) (omega arith)) ∙ d .loop .inv .1)
+    let i = d .loop .i in
+    (omega arith, ap (doubleRounds (10 - (i + 1))) (c .double-round .ensures) ∙ sym (step i (words (d .loop .s)) (omega arith)) ∙ d .loop .inv .1)
 
 returns : tie.Need-returns Inv-loop μ-loop
 unfolding doubleRounds

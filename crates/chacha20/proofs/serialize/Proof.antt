@@ -24,8 +24,12 @@ loop-holds c = (omega arith, refl, refl)
 loop-again : tie.Need-loop-again Inv-loop μ-loop
 loop-again c =
     let d = c .before .before .before .before in
-    let i = d .loop .i in
-    (omega arith, c .before .put .kept .0 ∙ d .loop .inv .1, ap (take (4 * (i + 1))) (c .before .put .ensures) ∙ serialized-more (words (d .before .args .s)) (d .loop .out) i (omega arith) (omega arith) (d .loop .inv .2))
+    let i = d .loop .i in (
+      omega arith,
+      c .before .put .kept .0 ∙ d .loop .inv .1,
+      ap (take (4 * (i + 1))) (c .before .put .ensures)
+          ∙ serialized-more (words (d .before .args .s)) (d .loop .out) i (omega arith) (omega arith) (d .loop .inv .2),
+    )
 
 returns : tie.Need-returns Inv-loop μ-loop
 returns c =

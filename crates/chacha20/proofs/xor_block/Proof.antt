@@ -15,7 +15,8 @@ use Rattle.chacha20.proofs.xor_block.Tie as tie
 
 abbrev Inv-loop : tie.InvT-loop
 Inv-loop text₀ ks i₀ text i =
-    (length text ≡ length text₀) × (length ks ≡ 64) × (i ≤ length text) × (take i text ++ xored (drop i text) (drop i ks) ≡ xored text₀ ks)
+    (length text ≡ length text₀) × (length ks ≡ 64) × (i ≤ length text)
+    × (take i text ++ xored (drop i text) (drop i ks) ≡ xored text₀ ks)
 
 abbrev μ-loop : tie.MeasureT-loop
 μ-loop text₀ ks i₀ text i = length text - i
@@ -25,8 +26,12 @@ loop-holds c = (refl, ap length (c .block .ensures) ∙ length-block (words (c .
 
 loop-again : tie.Need-loop-again Inv-loop μ-loop
 loop-again c =
-    let d = c .before .before in
-    (simp length-set (d .loop .inv .0), d .loop .inv .1, simp length-set (omega arith), xored-more (d .loop .text) (d .before .block .result) (d .loop .i) (omega arith) (omega arith) ∙ d .loop .inv .3)
+    let d = c .before .before in (
+      simp length-set (d .loop .inv .0),
+      d .loop .inv .1,
+      simp length-set (omega arith),
+      xored-more (d .loop .text) (d .before .block .result) (d .loop .i) (omega arith) (omega arith) ∙ d .loop .inv .3,
+    )
 
 returns : tie.Need-returns Inv-loop μ-loop
 returns c =
