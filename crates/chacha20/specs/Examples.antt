@@ -1,5 +1,5 @@
 -- The worked examples of RFC 8439 hold of the definitions: the quarter round (2.1.1), the block function (2.3.2) and the
--- encryption (2.4.2), each computed. [01:KF2 KF7]
+-- encryption (2.4.2), each computed. [01:KF2]
 use Prim.Native.Nat.{ℕ}
 use mathlib.Core.Path.{_≡_, refl}
 use mathlib.Core.List.{List, [], _∷_}
