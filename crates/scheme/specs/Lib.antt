@@ -1,0 +1,16 @@
+pub mod Suite
+pub mod Labels
+pub mod Keys
+pub mod Store
+pub mod Reading
+pub mod Refusals
+pub mod Insert
+pub mod Erase
+pub mod Find
+pub mod Count
+pub mod Compaction
+pub mod Call
+pub mod Ledger
+pub mod Run
+pub mod Premise
+pub mod Claim
