@@ -62,6 +62,10 @@ listed es = flat (map (λ e. e .ids) es)
 unfoldable pub H : Ledger → ℕ
 H l = length (listed (l .entries))
 
+-- an entry with an id removed from its list
+unfoldable pub removed : List ℕ → Entry → Entry
+removed id e = record { pair = e .pair; ids = select (λ x. not (same x id)) (e .ids); made = e .made }
+
 -- the set with a pair put in
 unfoldable pub withPair : Pair → List Pair → List Pair
 withPair pr T = cond (anyOf (samePair pr) T) T (pr ∷ T)
@@ -99,9 +103,6 @@ module _ (z : Bounds) (l : Ledger) where
   }
 
   -- erase: removes the id from all lists; answer the number removed [01:LG9]
-  unfoldable pub removed : List ℕ → Entry → Entry
-  removed id e = record { pair = e .pair; ids = select (λ x. not (same x id)) (e .ids); made = e .made }
-
   unfoldable pub afterErase : List ℕ → Ledger
   afterErase id = record { entries = map (removed id) (l .entries); W = l .W; T = l .T; A = l .A }
 

@@ -39,20 +39,21 @@ positionOf (counter B start k n) = start + k
 -- the greatest k up to a bound such that i + 1 to i + k are all held
 abbrev pub walk : (ℕ → Bool) → ℕ → ℕ → ℕ
 walk held zero i = zero
-walk held (suc bound) i = elim (held (suc i)) [ true ↦ suc (walk held bound (suc i)) | false ↦ zero ]
+walk held (suc bound) i = cond (held (suc i)) (suc (walk held bound (suc i))) zero
+
+-- the numbers in a row of C found by a lookup
+unfoldable pub numbersAt : Suite → List ℕ → Option (List ℕ) → Numbers
+numbersAt suite cl none = record { a = 0; n = 0 }
+numbersAt suite cl (some b) = record { a = valueOf (take 8 (plainIn suite cl b)); n = valueOf (drop 8 (plainIn suite cl b)) }
 
 module _ (suite : Suite) (c : ℕ) (cl : List ℕ) (t : Table) where
-  unfoldable pub numbersAt : Option (List ℕ) → Numbers
-  numbersAt none = record { a = 0; n = 0 }
-  numbersAt (some b) = record { a = valueOf (take 8 (plainIn suite cl b)); n = valueOf (drop 8 (plainIn suite cl b)) }
-
   -- B: the greatest number up to c such that anchors 1 to B are all held [01:RC1]
   unfoldable pub anchorsHeld : ℕ
   anchorsHeld = walk (λ b. holds (anchorTag suite cl b) t) c 0
 
   -- the numbers of anchor B, 0 and 0 if B = 0; Start is the first [01:RC2]
   unfoldable pub anchorNumbers : Numbers
-  anchorNumbers = cond (eqb anchorsHeld 0) (record { a = 0; n = 0 }) (numbersAt (lookup (anchorTag suite cl anchorsHeld) t))
+  anchorNumbers = cond (eqb anchorsHeld 0) (record { a = 0; n = 0 }) (numbersAt suite cl (lookup (anchorTag suite cl anchorsHeld) t))
 
   unfoldable pub startOf : ℕ
   startOf = anchorNumbers .a
@@ -64,7 +65,7 @@ module _ (suite : Suite) (c : ℕ) (cl : List ℕ) (t : Table) where
   -- the numbers of counter Start + k if k > 0, else 0 and the count of anchor B, else 0 and 0 [01:RC4]
   unfoldable pub counterNumbers : Numbers
   counterNumbers =
-      cond (eqb countersHeld 0) (record { a = 0; n = anchorNumbers .n }) (numbersAt (lookup (counterTag suite cl (startOf + countersHeld)) t))
+      cond (eqb countersHeld 0) (record { a = 0; n = anchorNumbers .n }) (numbersAt suite cl (lookup (counterTag suite cl (startOf + countersHeld)) t))
 
   -- damage: the first number of counter Start + k isn't 0, or its count, or a number of anchor B, is above the limit [01:RS6 RC6]
   unfoldable pub isDamage : Bool

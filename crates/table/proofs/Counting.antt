@@ -102,6 +102,14 @@ module _ {A : Type 0} where
   count-agree P p q h [] a = refl
   count-agree P p q h (x ∷ xs) a = let e = count-agree P p q h xs (a .1) in rw (h x (a .0)) (ap (λ (n : ℕ). bit (q x) + n) e)
 
+  pub count-ext : (p q : A → Bool) → ((x : A) → p x ≡ q x) → (l : List A) → count p l ≡ count q l
+  count-ext p q h [] = refl
+  count-ext p q h (x ∷ xs) = let e = count-ext p q h xs in rw (h x) (ap (λ (n : ℕ). bit (q x) + n) e)
+
+  pub count-none : (p : A → Bool) → ((x : A) → p x ≡ false) → (l : List A) → count p l ≡ 0
+  count-none p h [] = refl
+  count-none p h (x ∷ xs) = let e = count-none p h xs in rw (h x) (omega arith)
+
   pub select-agree : (P : A → Type 0) (p q : A → Bool) → ((x : A) → P x → p x ≡ q x) → (l : List A) → All P l → select p l ≡ select q l
   select-agree P p q h [] a = refl
   select-agree P p q h (x ∷ xs) a = rw (h x (a .0), select-agree P p q h xs (a .1)) refl
