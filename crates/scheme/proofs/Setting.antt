@@ -6,7 +6,7 @@ use mathlib.Core.Option
 use mathlib.Core.Option.{Option}
 use mathlib.Core.List.{List, [], _∷_, _++_}
 use native.Mathlib.Omega.{arith}
-use lib.Dec.{eqb}
+use lib.Dec.{eqb, ltb}
 use lib.ListN.{length, take, drop, length-append}
 use lib.Seq.{take-at, drop-at, drop-drop}
 use borrow.Author.Tests.{eqb-true, eq-eqb}
@@ -83,6 +83,10 @@ module _ (suite : Suite) where
   pub counted-used : (cl tag nonce : List ℕ) (a n : ℕ) → isFree (countedRow suite cl tag nonce a n) ≡ false
   unfolding countedRow
   counted-used cl tag nonce a n = refl
+
+  pub counted-mark : (cl tag nonce : List ℕ) (a n : ℕ) → ltb 1 (markOf (countedRow suite cl tag nonce a n)) ≡ false
+  unfolding countedRow
+  counted-mark cl tag nonce a n = refl
 
   pub counted-tag : (cl tag nonce : List ℕ) (a n : ℕ) → length tag ≡ 32 → take 32 (body (countedRow suite cl tag nonce a n)) ≡ tag
   unfolding countedRow

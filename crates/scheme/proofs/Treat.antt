@@ -14,6 +14,7 @@ use borrow.Author.Tests.{eqb-true, eqb-false}
 use Rattle.table.specs.Lists.{bit, same, select, count, All, Same}
 use Rattle.table.specs.Table.{Row, Table, used, body, isFree, hasTag, lookup, holds, placeOf, zeroRow, freeAt, Placed}
 use Rattle.table.proofs.Counting.{same-true, same-refl, same-eq, ne-same, same-ne, same-sym, count-select, count-split, count-ext, count-none, all-select, select-map, Same-select, same-length}
+use Rattle.table.proofs.Distinct.{without}
 use Rattle.table.proofs.Rows.{placed-same, free-at-none, Held, place-held, free-one-length, free-one-other, held-other}
 use Rattle.scheme.specs.Store.{countedRow, anchorRow}
 use Rattle.scheme.specs.Reading.{numbersAt, limit}
@@ -73,9 +74,6 @@ module _ (x : Setting) (pr : Pair) (ok : OK x pr) (t : Table) where
 module _ (x : Setting) where
   open Setting x using (suite, K, z, calls, premise)
 
-  abbrev pub without : List ℕ → List (List ℕ) → List (List ℕ)
-  without cl L = select (λ y. not (same y cl)) L
-
   run-without : (L : List (List ℕ)) (pr q : Pair) → OK x pr → OK x q → (q ≡ pr → ⊥) → runOf x (without (clOf x pr) L) q ≡ runOf x L q
   run-without L pr q ok oq ne =
       count-select (λ y. not (same y (clOf x pr))) (same (clOf x q)) L
@@ -100,7 +98,7 @@ module _ (x : Setting) where
       go true = refl
       go false = refl
 
-  without-length : (L : List (List ℕ)) (pr : Pair) → length L ≡ runOf x L pr + length (without (clOf x pr) L)
+  pub without-length : (L : List (List ℕ)) (pr : Pair) → length L ≡ runOf x L pr + length (without (clOf x pr) L)
   without-length L pr =
       let e = count-split (λ y. same y (clOf x pr)) L in
       let f = count-ext (λ y. same y (clOf x pr)) (same (clOf x pr)) (λ y. same-sym y (clOf x pr)) L in

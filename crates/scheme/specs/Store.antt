@@ -20,11 +20,11 @@ pub record Sizes : Type 0 where
   pub s : ℕ
 
 -- p above 15, or m, c or s outside 1 to 4,096 [01:KT3 ST2]
+abbrev pub rowsBad : ℕ → Bool
+rowsBad n = ltb n 1 || ltb 4096 n
+
 unfoldable pub sizesBad : Sizes → Bool
 sizesBad z = ltb 15 (z .p) || (rowsBad (z .m) || (rowsBad (z .c) || rowsBad (z .s)))
-  where
-    rowsBad : ℕ → Bool
-    rowsBad n = ltb n 1 || ltb 4096 n
 
 -- the length of a store with these sizes [01:ST3]
 unfoldable pub lengthFor : Sizes → ℕ
@@ -68,12 +68,12 @@ joined st = st .header ++ (flat (st .tM) ++ (flat (st .tV) ++ (flat (st .tC) ++ 
 unfoldable pub headerBad : List ℕ → Bool
 headerBad b = ltb (length b) 8 || (not (eqb (getD b 0 0) 1) || (sizesBad (sizesOf b) || not (eqb (length b) (lengthFor (sizesOf b)))))
 
--- the condition of 11 [01:RS3]
+-- the condition of 11: a mark other than 0 and 1 [01:RS3]
+abbrev pub markBad : Table → Bool
+markBad t = anyOf (λ r. ltb 1 (markOf r)) t
+
 unfoldable pub marksBad : Store → Bool
-marksBad st = bad (st .tM) || (bad (st .tV) || (bad (st .tC) || bad (st .tS)))
-  where
-    bad : Table → Bool
-    bad t = anyOf (λ r. ltb 1 (markOf r)) t
+marksBad st = markBad (st .tM) || (markBad (st .tV) || (markBad (st .tC) || markBad (st .tS)))
 
 -- making a store writes the header and zeroes the rest [01:ST16]
 unfoldable pub fresh : Sizes → List ℕ

@@ -70,4 +70,4 @@ upTo (suc n) = upTo n ++ (suc n ∷ [])
 -- each element once, in the order of its first place
 abbrev pub distinct : List (List ℕ) → List (List ℕ)
 distinct [] = []
-distinct (x ∷ xs) = x ∷ select (λ y. not (same x y)) (distinct xs)
+distinct (x ∷ xs) = x ∷ select (λ y. not (same y x)) (distinct xs)
