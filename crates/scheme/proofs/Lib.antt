@@ -5,3 +5,4 @@ pub mod Shape
 pub mod Counters
 pub mod Treat
 pub mod Compacting
+pub mod Entries

@@ -198,6 +198,35 @@ module _ {A : Type 0} where
       go true h e k = let q : y ≡ x = cc in rw (← q) h
       go false h e k = k e
 
+  abbrev pub onlyIf : (A → Bool) → Option A → Option A
+  onlyIf r none = none
+  onlyIf r (some x) = cond (r x) (some x) none
+
+  -- what passes once, among those selected
+  pub first-select : (q r : A → Bool) (l : List A) → count q l ≤ 1 → first q (select r l) ≡ onlyIf r (first q l)
+  first-select q r [] h = refl
+  first-select q r (x ∷ xs) h = go (q x) (r x) refl refl h (first-select q r xs)
+    where
+      go : (a b : Bool) → q x ≡ a → r x ≡ b → bit a + count q xs ≤ 1 → (count q xs ≤ 1 → first q (select r xs) ≡ onlyIf r (first q xs))
+          → first q (cond b (x ∷ select r xs) (select r xs)) ≡ onlyIf r (cond a (some x) (first q xs))
+      go true true e f h k = rw (e, f) refl
+      go true false e f h k =
+          let w = count-select r q xs in
+          let v = count-stricter (λ y. r y && q y) q (λ y u. both (r y) (q y) u .1) xs in
+          rw f (first-none q (select r xs) (omega arith))
+      go false true e f h k = rw e (k (omega arith))
+      go false false e f h k = k (omega arith)
+
+  -- each element passes the tests that it passes
+  pub all-counted : (G l : List A) → ((p : A → Bool) → count p l ≤ count p G) → All (λ g. (p : A → Bool) → p g ≡ true → 1 ≤ count p G) l
+  all-counted G [] h = tt
+  all-counted G (x ∷ xs) h =
+      ((λ p e. let w = h p in let b : bit (p x) ≡ 1 = ap bit e in omega arith), all-counted G xs (λ p. let w = h p in omega arith))
+
+  pub all-both : (P Q : A → Type 0) (l : List A) → All P l → All Q l → All (λ g. P g × Q g) l
+  all-both P Q [] a b = tt
+  all-both P Q (x ∷ xs) a b = ((a .0, b .0), all-both P Q xs (a .1) (b .1))
+
   -- ---- the same elements
 
   pub same-length : (l r : List A) → Same l r → length l ≡ length r

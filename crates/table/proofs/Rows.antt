@@ -264,3 +264,16 @@ used-zero w (suc n) = rw (zero-free w) (used-zero w n)
 pub all-replicate : (P : Row → Type 0) (n : ℕ) (r : Row) → P r → All P (replicate n r)
 all-replicate P zero r h = tt
 all-replicate P (suc n) r h = (h, all-replicate P n r h)
+
+-- ---- several rows placed
+
+pub record PlacedOne (t : Table) (row : Row) (rest : List Row) (t′ : Table) : Type 0 where
+  pub between : Table
+  pub one : Placed t row between
+  pub more : PlacedAll between rest t′
+
+pub placed-none : (t t′ : Table) → PlacedAll t [] t′ → t ≡ t′
+placed-none t t′ none-placed = refl
+
+pub placed-next : (t : Table) (row : Row) (rest : List Row) (t′ : Table) → PlacedAll t (row ∷ rest) t′ → PlacedOne t row rest t′
+placed-next t row rest t′ (one-placed {t₁ = b} p ps) = record { between = b; one = p; more = ps }
