@@ -13,7 +13,7 @@ use lib.Seq.{take-at, drop-at, length-take-le}
 use borrow.Author.Tests.{eqb-true, eqb-false, eq-eqb}
 use Rattle.table.specs.Lists.{bit, same, select, count, first, anyOf, All, Same}
 use Rattle.table.specs.Table.{Row, Table, used, body, isFree, hasTag, lookup, freeWhere, Placed, PlacedAll}
-use Rattle.table.proofs.Counting.{both, same-true, same-refl, same-eq, ne-same, count-map, count-agree, count-ext, count-select, count-stricter, select-map, select-agree, first-agree, first-map, onSome, onlyIf, first-select, first-none, first-same, first-passes, all-select, all-map, all-both, all-counted, any-count, count-any, none-any, Same-refl, Same-trans, Same-cons, Same-select, Same-map, same-length}
+use Rattle.table.proofs.Counting.{both, same-true, same-refl, same-eq, ne-same, count-map, count-agree, count-ext, count-select, count-stricter, select-map, select-append, select-agree, first-agree, first-map, onSome, onlyIf, first-select, first-none, first-same, first-passes, all-select, all-map, all-both, all-counted, any-count, count-any, none-any, Same-refl, Same-trans, Same-cons, Same-select, Same-map, same-length}
 use Rattle.table.proofs.Rows.{placed-same, free-where-used, placed-none, placed-next, PlacedOne}
 use Rattle.scheme.specs.Suite.{Suite, number8}
 use Rattle.scheme.specs.Keys.{MT, ME}
@@ -240,7 +240,7 @@ module _ (x : Setting) where
     }
 
   -- the same entries under other names
-  entries-as : (tM tV tM′ tV′ : Table) (all all′ : List (List ℕ)) (ids ids′ : Pair → List (List ℕ)) (made made′ : Pair → ℕ)
+  pub entries-as : (tM tV tM′ tV′ : Table) (all all′ : List (List ℕ)) (ids ids′ : Pair → List (List ℕ)) (made made′ : Pair → ℕ)
       → tM ≡ tM′ → tV ≡ tV′ → Same all′ all → ((q : Pair) → ids′ q ≡ ids q) → ((q : Pair) → made′ q ≡ made q)
       → Entries tM tV all ids made → Entries tM′ tV′ all′ ids′ made′
   entries-as tM tV tM′ tV′ all all′ ids ids′ made made′ eM eV s ei em X = record {
@@ -414,14 +414,6 @@ module _ (x : Setting) where
             by : (b : Bool) → idItem (cond b (some g) none) ≡ cond b (g .id ∷ []) []
             by true = refl
             by false = refl
-
-        select-append : (p : List ℕ → Bool) (l r : List (List ℕ)) → select p (l ++ r) ≡ select p l ++ select p r
-        select-append p [] r = refl
-        select-append p (y ∷ ys) r = by (p y) (select-append p ys r)
-          where
-            by : (b : Bool) → select p (ys ++ r) ≡ select p ys ++ select p r → cond b (y ∷ select p (ys ++ r)) (select p (ys ++ r)) ≡ cond b (y ∷ select p ys) (select p ys) ++ select p r
-            by true e = ap (λ (l : List (List ℕ)). y ∷ l) e
-            by false e = e
 
     -- erase's answer
     pub erase-count : count (λ b. same (reverseId b) id) (used tV) ≡ count (λ y. same y id) all

@@ -6,3 +6,7 @@ pub mod Counters
 pub mod Treat
 pub mod Compacting
 pub mod Entries
+pub mod LedgerLaws
+pub mod Simulation
+pub mod Verdicts
+pub mod Queries

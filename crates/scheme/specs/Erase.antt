@@ -1,14 +1,14 @@
 -- Document 01, "Operations": erase.
 use Prim.Native.Nat.{ℕ}
 use mathlib.Core.Bool.{Bool}
-use mathlib.Core.Option.{Option, none, some}
+use mathlib.Core.Option.{Option}
 use mathlib.Core.List.{List, [], _∷_, _++_, map}
 use lib.ListN.{take}
 use Rattle.table.specs.Lists.{same, select, count, anyOf}
 use Rattle.table.specs.Table.{Table, used, freeWhere}
 use Rattle.answer.specs.Answer.{Answer, done}
 use Rattle.scheme.specs.Store.{Store, cut, joined, headerBad, marksBad, reverseId, reverseTag}
-use Rattle.scheme.specs.Refusals.{Test, _⇒_, verdict, answerOr, Result, eraseInputTests}
+use Rattle.scheme.specs.Refusals.{Test, _⇒_, verdict, answerOr, unlessRefused, Result, eraseInputTests}
 
 module _ (before id : List ℕ) where
   -- 5, 10, 11 [01:RI6 RS2 RS3]
@@ -39,6 +39,6 @@ module _ (before id : List ℕ) where
   unfoldable pub erase : Result
   erase = record {
     answer = answerOr eraseVerdict (done (count isReverse (used (cut before .tV)) ∷ []));
-    store = elim eraseVerdict [ none ↦ joined erasedStore | some r ↦ before ];
+    store = unlessRefused eraseVerdict (joined erasedStore) before;
     output = [];
   }

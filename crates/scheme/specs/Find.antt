@@ -12,7 +12,7 @@ use Rattle.scheme.specs.Suite.{Suite}
 use Rattle.scheme.specs.Keys.{share, findMT, findME, findCL}
 use Rattle.scheme.specs.Store.{sizesOf, cut, headerBad, marksBad, entryTag, idIn}
 use Rattle.scheme.specs.Reading.{Reading, damaged, countOf, reading}
-use Rattle.scheme.specs.Refusals.{Test, _⇒_, _⇒_carrying_, verdict, answerOr, Result, tokenTests}
+use Rattle.scheme.specs.Refusals.{Test, _⇒_, _⇒_carrying_, verdict, answerOr, unlessRefused, Result, tokenTests}
 
 module _ (suite : Suite) where
   -- a missing address is skipped, a held one gives its id [01:OP6]
@@ -52,5 +52,5 @@ module _ (suite : Suite) (before token output : List ℕ) where
   find = record {
     answer = answerOr findVerdict (done (length idsFound ∷ []));
     store = before;
-    output = elim findVerdict [ none ↦ flat idsFound ++ drop (16 * length idsFound) output | some r ↦ output ];
+    output = unlessRefused findVerdict (flat idsFound ++ drop (16 * length idsFound) output) output;
   }

@@ -9,7 +9,7 @@ use lib.ListN.{length, drop}
 use Rattle.table.specs.Lists.{same, select, count, anyOf, flat, sum, upTo}
 use Rattle.answer.specs.Answer.{Answer, done}
 use Rattle.scheme.specs.Labels.{Field, sameField}
-use Rattle.scheme.specs.Refusals.{Test, _⇒_, _⇒_carrying_, verdict, answerOr, idCount, idsIn, insertTokenTests, fieldTokenTests, keyTests, insertInputTests, eraseInputTests, compactionInputTests}
+use Rattle.scheme.specs.Refusals.{Test, _⇒_, _⇒_carrying_, verdict, answerOr, unlessRefused, idCount, idsIn, insertTokenTests, fieldTokenTests, keyTests, insertInputTests, eraseInputTests, compactionInputTests}
 use Rattle.scheme.specs.Call
 use Rattle.scheme.specs.Call.{Call, Told}
 
@@ -144,7 +144,7 @@ module _ (z : Bounds) (l : Ledger) where
   ledgerStep (Call.find key f output) = record {
     told = record {
       answer = answerOr (ledgerFindVerdict key f output) (done (length (ledgerIds f) ∷ []));
-      output = elim (ledgerFindVerdict key f output) [ none ↦ flat (ledgerIds f) ++ drop (16 * length (ledgerIds f)) output | some r ↦ output ];
+      output = unlessRefused (ledgerFindVerdict key f output) (flat (ledgerIds f) ++ drop (16 * length (ledgerIds f)) output) output;
     };
     next = l;
   }

@@ -27,6 +27,11 @@ abbrev pub answerOr : Option Answer → Answer → Answer
 answerOr none a = a
 answerOr (some r) a = r
 
+-- the bytes after a call: a refusal leaves them as they were [01:RS13]
+abbrev pub unlessRefused : Option Answer → List ℕ → List ℕ → List ℕ
+unlessRefused none new old = new
+unlessRefused (some r) new old = old
+
 -- what a call answers, the store after it, and the output after it
 pub record Result : Type 0 where
   pub answer : Answer

@@ -1,7 +1,6 @@
 -- Document 01, "Store": the header, the four tables as parts of one slice, their rows, and making a store.
 use Prim.Native.Nat.{ℕ, _+_, _*_, _-_, _/_, _%_}
 use mathlib.Core.Bool.{Bool, _||_, not}
-use mathlib.Core.Option.{none, some}
 use mathlib.Core.List.{List, [], _∷_, _++_}
 use lib.Dec.{ltb, eqb}
 use lib.ListN.{length, getD, take, drop, replicate}
@@ -9,7 +8,7 @@ use Rattle.table.specs.Lists.{flat, anyOf}
 use Rattle.table.specs.Table.{Row, Table, rows, markOf}
 use Rattle.answer.specs.Answer.{Answer, done}
 use Rattle.scheme.specs.Suite.{Suite, number8}
-use Rattle.scheme.specs.Refusals.{Test, _⇒_, verdict, answerOr}
+use Rattle.scheme.specs.Refusals.{Test, _⇒_, verdict, answerOr, unlessRefused}
 use Rattle.scheme.specs.Keys.{CT, CE}
 
 -- p, m, c, s of a header [01:ST2]
@@ -87,7 +86,7 @@ unfoldable pub makeAnswer : Sizes → List ℕ → Answer
 makeAnswer z slice = answerOr (verdict (makeTests z slice)) (done [])
 
 unfoldable pub makeStore : Sizes → List ℕ → List ℕ
-makeStore z slice = elim (verdict (makeTests z slice)) [ none ↦ fresh z | some r ↦ slice ]
+makeStore z slice = unlessRefused (verdict (makeTests z slice)) (fresh z) slice
 
 module _ (suite : Suite) where
   open Suite suite using (F, E)

@@ -87,6 +87,14 @@ module _ {A : Type 0} where
       go true e = omega arith
       go false e = omega arith
 
+  pub select-append : (p : A → Bool) (l r : List A) → select p (l ++ r) ≡ select p l ++ select p r
+  select-append p [] r = refl
+  select-append p (y ∷ ys) r = go (p y) (select-append p ys r)
+    where
+      go : (b : Bool) → select p (ys ++ r) ≡ select p ys ++ select p r → cond b (y ∷ select p (ys ++ r)) (select p (ys ++ r)) ≡ cond b (y ∷ select p ys) (select p ys) ++ select p r
+      go true e = ap (λ (l : List A). y ∷ l) e
+      go false e = e
+
   -- those that pass and those that do not
   pub count-split : (p : A → Bool) (l : List A) → length l ≡ count p l + length (select (λ x. not (p x)) l)
   count-split p [] = refl
