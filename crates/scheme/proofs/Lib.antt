@@ -10,3 +10,7 @@ pub mod LedgerLaws
 pub mod Simulation
 pub mod Verdicts
 pub mod Queries
+pub mod Tokens
+pub mod Inserting
+pub mod Compactions
+pub mod Claim

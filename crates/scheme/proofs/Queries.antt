@@ -168,8 +168,8 @@ module _ (x : Setting) where
     field-made : (key : List ℕ) (f : Field) → (key ≡ K) ⊎ (length key ≡ 32 → ⊥) → verdict (fieldTokenTests key f) ≡ none → Made key f
     unfolding fieldTokenTests
     field-made key f k e =
-        let a = passed (lengthNot 32 key) 1 ((fieldLengthsBad f ⇒ 2) ∷ []) e in
-        let b = passed (fieldLengthsBad f) 2 [] (a .1) in
+        let a = passed (lengthNot 32 key) _ _ e in
+        let b = passed (fieldLengthsBad f) _ _ (a .1) in
         record { key-is = go k (length-passed 32 key (a .0)); valid = b .0 }
       where
         go : (key ≡ K) ⊎ (length key ≡ 32 → ⊥) → length key ≡ 32 → key ≡ K

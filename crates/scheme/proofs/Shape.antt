@@ -12,7 +12,7 @@ use borrow.Author.Tests.{le-ltb, eq-eqb}
 use Rattle.table.specs.Lists.{flat, anyOf, All}
 use Rattle.table.specs.Table.{Row, Table, rows, markOf, used, freeRows, zeroRow, freeAt, freeWhere, Placed, PlacedAll}
 use Rattle.table.specs.Table.PlacedAll.{none-placed, one-placed}
-use Rattle.table.proofs.Rows.{flat-length, rows-flat, placed-all, placed-length, free-where-all, free-where-length, free-at-all, free-at-length, free-used, rows-zero, all-replicate}
+use Rattle.table.proofs.Rows.{placed-none, placed-next, PlacedOne, flat-length, rows-flat, placed-all, placed-length, free-where-all, free-where-length, free-at-all, free-at-length, free-used, rows-zero, all-replicate}
 use Rattle.table.proofs.Counting.{all-map}
 use Rattle.scheme.specs.Store.{Sizes, sizesBad, lengthFor, headerOf, sizesOf, Store, cut, joined, headerBad, markBad, marksBad, fresh}
 
@@ -173,3 +173,9 @@ fresh-is z =
     ∙ ap (λ (l : List ℕ). replicate (61 * z .m) 0 ++ l) (lib.ListN.replicate-append-replicate (49 * z .m) (61 * z .c + 45 * z .s) 0)
     ∙ lib.ListN.replicate-append-replicate (61 * z .m) (49 * z .m + (61 * z .c + 45 * z .s)) 0
     ∙ ap (λ (k : ℕ). replicate k 0) e)))
+
+pub placed-all-ok : (w n : ℕ) (t : Table) (new : List Row) (t′ : Table) → PlacedAll t new t′ → All (RowOK w) new → TableOK w n t → TableOK w n t′
+placed-all-ok w n t [] t′ p a ok = rw (placed-none t t′ p) at ok
+placed-all-ok w n t (row ∷ rest) t′ p a ok =
+    let q = placed-next t row rest t′ p in
+    placed-all-ok w n (q .between) rest t′ (q .more) (a .1) (placed-ok w n t row (q .between) (q .one) (a .0) ok)

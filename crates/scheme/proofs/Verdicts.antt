@@ -34,9 +34,13 @@ or-none none = refl
 or-none (some r) = refl
 
 -- where nothing refuses, the first condition does not hold, nor any later
-pub passed : (t : Bool) (n : ℕ) (ts : List Test) → verdict ((t ⇒ n) ∷ ts) ≡ none → (t ≡ false) × (verdict ts ≡ none)
-passed true n ts e = absurd (let z : _≡_ {A = ℕ} 0 1 = cc in omega arith)
-passed false n ts e = (refl, e)
+pub passed : (t : Bool) (r : Answer) (rest : Option Answer) → cond t (some r) rest ≡ none → (t ≡ false) × (rest ≡ none)
+passed true r rest e = absurd (let z : _≡_ {A = ℕ} 0 1 = cc in omega arith)
+passed false r rest e = (refl, e)
+
+pub both-none : (o q : Option Answer) → orElse o q ≡ none → (o ≡ none) × (q ≡ none)
+both-none none q e = (refl, e)
+both-none (some r) q e = absurd (let w : _≡_ {A = ℕ} 0 1 = cc in omega arith)
 
 pub length-passed : (n : ℕ) (l : List ℕ) → lengthNot n l ≡ false → length l ≡ n
 length-passed n l e = eqb-true (length l) n (not-false (eqb (length l) n) e)

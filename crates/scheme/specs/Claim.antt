@@ -18,7 +18,7 @@ boundsOf z = record { p = z .p; m = z .m; c = z .c; s = z .s }
 
 -- for every master key of 32 bytes, all sizes in range, every list of calls with that key or keys of a refused length, under the
 -- premise on tags, and every run of it from a fresh store: what the run told is what the ledger tells [01:LG14 LG17 LG18 LG19]
-pub Claim : Suite → Type 0
+unfoldable pub Claim : Suite → Type 0
 Claim suite =
     (K : List ℕ) (z : Sizes) (calls : List Call) (told : List Told) (after : List ℕ)
     → length K ≡ 32

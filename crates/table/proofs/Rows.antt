@@ -277,3 +277,15 @@ placed-none t t′ none-placed = refl
 
 pub placed-next : (t : Table) (row : Row) (rest : List Row) (t′ : Table) → PlacedAll t (row ∷ rest) t′ → PlacedOne t row rest t′
 placed-next t row rest t′ (one-placed {t₁ = b} p ps) = record { between = b; one = p; more = ps }
+
+-- ---- pieces of bytes
+
+pub rows-length : (w n : ℕ) (l : List ℕ) → length (rows w n l) ≡ n
+rows-length w zero l = refl
+rows-length w (suc n) l = ap suc (rows-length w n (drop w l))
+
+pub rows-wide : (w n : ℕ) (l : List ℕ) → w * n ≤ length l → All (λ r. length r ≡ w) (rows w n l)
+rows-wide w zero l h = tt
+rows-wide w (suc n) l h =
+    let d = lib.ListN.length-drop w l in
+    (lib.Seq.length-take-le w l (omega arith), rows-wide w n (drop w l) (omega arith))
