@@ -14,3 +14,4 @@ pub mod Tokens
 pub mod Inserting
 pub mod Compactions
 pub mod Claim
+pub mod Examples

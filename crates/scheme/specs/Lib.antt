@@ -12,5 +12,7 @@ pub mod Compaction
 pub mod Call
 pub mod Ledger
 pub mod Run
+pub mod Lowest
 pub mod Premise
 pub mod Claim
+pub mod Examples
