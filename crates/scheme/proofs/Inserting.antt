@@ -1,0 +1,446 @@
+-- Insert tells what the ledger tells, and the store after it is the ledger's after it.
+use Prim.Native.Nat.{ℕ, zero, suc, _+_, _*_, _/_, _%_, _≤_, _<_}
+use mathlib.Core.Path.{_≡_, refl, sym, ap, _∙_}
+use mathlib.Core.Bool.{Bool, true, false, cond, not, _||_, true≢false}
+use mathlib.Core.Logic.{_⊎_, inl, inr}
+use mathlib.Core.Option.{Option, none, some}
+use mathlib.Core.List.{List, [], _∷_, _++_, map, List·Memᴰ}
+use native.Mathlib.Omega.{arith}
+use lib.Dec.{eqb, ltb}
+use lib.ListN.{length, take, drop, length-drop, length-append}
+use lib.Seq.{length-take-le}
+use borrow.Author.Tests.{eqb-true, not-false, ltb-false}
+use Rattle.answer.specs.Answer.{Answer, done, refused}
+use Rattle.table.specs.Lists.{bit, same, select, count, anyOf, flat, All, Same, distinct}
+use Rattle.table.specs.Table.{Table, Row, rows, used, body, isFree, markOf, freeRows, Placed, PlacedAll}
+use Rattle.table.proofs.Counting.{neither, same-sym, same-refl, same-length, ne-same, Same-trans, Same-cons, Same-map, Same-refl, Same-sym, count-le}
+use Rattle.table.proofs.Rows.{placed-same, rows-length, rows-wide, placed-none, placed-next, PlacedOne}
+use Rattle.table.proofs.Distinct.{any-same, distinct-same, distinct-more}
+use Rattle.scheme.specs.Suite.{Suite, number8}
+use Rattle.scheme.specs.Labels.{Field, fieldLengthsBad}
+use Rattle.scheme.specs.Keys.{MT, ME, CL, KS, insertToken, tokenP, tokenMT, tokenME, tokenCL, tokenLog}
+use Rattle.scheme.specs.Store.{Store, Sizes, cut, joined, sizesOf, headerBad, marksBad, entryTag, entryRow, reverseRow, counterRow, countedRow, logRow, clIn}
+use Rattle.scheme.specs.Reading
+use Rattle.scheme.specs.Reading.{Reading, reading, damaged, countOf, positionOf, limit}
+use Rattle.scheme.specs.Refusals.{Test, _⇒_, verdict, answerOr, idCount, idsIn, insertTokenTests, insertInputTests, tokenTests, lengthNot}
+use Rattle.scheme.specs.Insert.{entryRows, reverseRows, insertReading, newCount, insertStateTests, insertVerdict, Inserted, Insert}
+use Rattle.scheme.specs.Compaction.{logOf}
+use Rattle.scheme.specs.Call
+use Rattle.scheme.specs.Call.{Call, Told}
+use Rattle.scheme.specs.Ledger.{Pair, samePair, Entry, Ledger, entryOf, withEntry, listed, H, withPair, ledgerInsertVerdict, appended, afterInsert, ledgerStep, nextOr}
+use Rattle.scheme.specs.Premise.{Kind, counter}
+use Rattle.scheme.specs.Run.{InsertCall}
+use Rattle.scheme.specs.Claim.{boundsOf}
+use Rattle.scheme.proofs.Setting.{Setting, OK, clOf, ctag, tag-length, counted-length, counted-mark, cl-differ, samePair-refl, samePair-true}
+use Rattle.scheme.proofs.Shape.{Shaped, RowOK, TableOK, placed-ok, placed-all-ok, free-is}
+use Rattle.scheme.proofs.Counters.{runOf, PairCounter, Counters, counters-insert}
+use Rattle.scheme.proofs.Entries.{Item, Entries, mtOf, meOf, itemM, itemV, entries-insert-all}
+use Rattle.scheme.proofs.LedgerLaws.{entry-own, entry-other, listed-more, with-length, with-own, with-other}
+use Rattle.scheme.proofs.Simulation.{madeIn, listIn, logIn, Sim, later}
+use Rattle.scheme.proofs.Verdicts.{orElse, both-none, verdict-append, or-none, passed, length-passed, length-refused, shift}
+use Rattle.scheme.proofs.Queries.{After, told-eq, cut-is, sizes-are, header-is, marks-are, read-is}
+use Rattle.scheme.proofs.Tokens
+
+-- where nothing refuses the token
+pub record TokenMade (K key : List ℕ) (f : Field) (p u : ℕ) (nonce : List ℕ) : Type 0 where
+  pub key-is : key ≡ K
+  pub valid : fieldLengthsBad f ≡ false
+  pub shared : u ≤ p
+  pub nonce-length : length nonce ≡ 12
+
+token-made : (K key : List ℕ) (f : Field) (p u : ℕ) (nonce : List ℕ) → (key ≡ K) ⊎ (length key ≡ 32 → ⊥) → verdict (insertTokenTests key f p u nonce) ≡ none → TokenMade K key f p u nonce
+unfolding insertTokenTests
+token-made K key f p u nonce k e =
+    let a = passed (lengthNot 32 key) _ _ e in
+    let b = passed (fieldLengthsBad f) _ _ (a .1) in
+    let c = passed (ltb 15 p || ltb p u) _ _ (b .1) in
+    let d = passed (lengthNot 12 nonce) _ _ (c .1) in
+    let n = neither (ltb 15 p) (ltb p u) (c .0) in
+    record { key-is = go k (length-passed 32 key (a .0)); valid = b .0; shared = ltb-false p u (n .1); nonce-length = length-passed 12 nonce (d .0) }
+  where
+    go : (key ≡ K) ⊎ (length key ≡ 32 → ⊥) → length key ≡ 32 → key ≡ K
+    go (inl p) l = p
+    go (inr n) l = absurd (n l)
+
+-- where nothing refuses the ids and nonces
+pub record InputGood (ids nonces : List ℕ) : Type 0 where
+  pub nonces-length : length nonces ≡ 12 * (idCount ids + 1)
+  pub whole : 16 * idCount ids ≤ length ids
+  pub least : 1 ≤ idCount ids
+  pub most : idCount ids ≤ 64
+
+input-good : (ids nonces : List ℕ) → verdict (insertInputTests ids nonces) ≡ none → InputGood ids nonces
+unfolding insertInputTests
+input-good ids nonces e =
+    let a = passed (lengthNot (12 * (idCount ids + 1)) nonces) _ _ e in
+    let b = passed (not (eqb (length ids % 16) 0) || (ltb (idCount ids) 1 || ltb 64 (idCount ids))) _ _ (a .1) in
+    let c = neither (not (eqb (length ids % 16) 0)) (ltb (idCount ids) 1 || ltb 64 (idCount ids)) (b .0) in
+    let d = neither (ltb (idCount ids) 1) (ltb 64 (idCount ids)) (c .1) in
+    let m = ltb-false (idCount ids) 1 (d .0) in
+    let n = ltb-false 64 (idCount ids) (d .1) in
+    record { nonces-length = length-passed (12 * (idCount ids + 1)) nonces (a .0); whole = omega arith; least = m; most = n }
+
+-- the new rows have their widths and marks
+entry-row-ok : (suite : Suite) (mt me : List ℕ) (a : ℕ) (nonce id : List ℕ) → length nonce ≡ 12 → length id ≡ 16 → RowOK 61 (entryRow suite mt me a nonce id)
+unfolding entryRow entryTag
+entry-row-ok suite mt me a nonce id hn hi = record {
+  width =
+      let e = suite .E-length me nonce id in
+      let f = suite .F-length mt (number8 a) in
+      let g = length-append nonce (suite .E me nonce id) in
+      let h = length-append (suite .F mt (number8 a)) (nonce ++ suite .E me nonce id) in
+      omega arith;
+  mark = refl;
+}
+
+entry-rows-ok : (suite : Suite) (mt me : List ℕ) (g : ℕ) (l : List (List ℕ)) (nonces : List ℕ) → All (λ r. length r ≡ 16) l → 12 * length l ≤ length nonces → All (RowOK 61) (entryRows suite mt me g l nonces)
+entry-rows-ok suite mt me g [] nonces a h = tt
+entry-rows-ok suite mt me g (id ∷ l) nonces a h =
+    let d = length-drop 12 nonces in
+    (entry-row-ok suite mt me (suc g) (take 12 nonces) id (length-take-le 12 nonces (omega arith)) (a .0), entry-rows-ok suite mt me (suc g) l (drop 12 nonces) (a .1) (omega arith))
+
+reverse-row-ok : (suite : Suite) (mt : List ℕ) (a : ℕ) (id : List ℕ) → length id ≡ 16 → RowOK 49 (reverseRow suite mt a id)
+unfolding reverseRow entryTag
+reverse-row-ok suite mt a id hi = record {
+  width =
+      let f = suite .F-length mt (number8 a) in
+      let h = length-append id (suite .F mt (number8 a)) in
+      omega arith;
+  mark = refl;
+}
+
+reverse-rows-ok : (suite : Suite) (mt : List ℕ) (g : ℕ) (l : List (List ℕ)) → All (λ r. length r ≡ 16) l → All (RowOK 49) (reverseRows suite mt g l)
+reverse-rows-ok suite mt g [] a = tt
+reverse-rows-ok suite mt g (id ∷ l) a = (reverse-row-ok suite mt (suc g) id (a .0), reverse-rows-ok suite mt (suc g) l (a .1))
+
+or-same : (b : Bool) → (b || b) ≡ b
+or-same true = refl
+or-same false = refl
+
+-- the ledger's conditions 12 to 17
+abbrev ledgerTests : Sizes → Ledger → Field → ℕ → ℕ → List ℕ → List Test
+ledgerTests z l f p u ids =
+    (not (eqb p (z .p)) ⇒ 12)
+    ∷ (ltb 4294967295 (madeIn l (record { field = f; u = u }) + idCount ids) ⇒ 14)
+    ∷ (ltb (z .m) (H l + idCount ids) ⇒ 15)
+    ∷ (ltb (z .c) (l .A + l .W + 1) ⇒ 16)
+    ∷ (ltb (z .s) (l .W + 1) ⇒ 17)
+    ∷ []
+
+module _ (x : Setting) (i : ℕ) (before : List ℕ) (l : Ledger) (hi : suc i ≤ length (x .calls)) (s : Sim x i before l)
+    (f : Field) (p u : ℕ) (nonce ids nonces : List ℕ) (valid : fieldLengthsBad f ≡ false) (shared : u ≤ p) (nonce-length : length nonce ≡ 12)
+    (named : List·Memᴰ f (flat (map Rattle.scheme.specs.Premise.fieldsOf (x .calls)))) where
+  open Setting x using (suite, K, z, calls)
+
+  abbrev pr : Pair
+  pr = record { field = f; u = u }
+
+  abbrev token : List ℕ
+  token = insertToken suite K f p u nonce
+
+  abbrev j : ℕ
+  j = idCount ids
+
+  abbrev hi₀ : i ≤ length calls
+  hi₀ = omega arith
+
+  abbrev L : List (List ℕ)
+  L = logIn x (s .st .tS)
+
+  used-M : length (used (s .st .tM)) ≡ H l
+  unfolding H
+  used-M =
+      let a = same-length (used (s .st .tM)) (map (itemM x) (s .entries .G)) (s .entries .rowsM) in
+      let b = same-length (listed (l .entries)) (map (λ (g : Item). g .id) (s .entries .G)) (s .entries .listing) in
+      let c = lib.ListN.length-map (s .entries .G) (itemM x) in
+      let d = lib.ListN.length-map (s .entries .G) (λ (g : Item). g .id) in
+      omega arith
+
+  used-V : length (used (s .st .tV)) ≡ H l
+  unfolding H
+  used-V =
+      let a = same-length (used (s .st .tV)) (map (itemV x) (s .entries .G)) (s .entries .rowsV) in
+      let b = same-length (listed (l .entries)) (map (λ (g : Item). g .id) (s .entries .G)) (s .entries .listing) in
+      let c = lib.ListN.length-map (s .entries .G) (itemV x) in
+      let d = lib.ListN.length-map (s .entries .G) (λ (g : Item). g .id) in
+      omega arith
+
+  log-used : length L ≡ length (used (s .st .tS))
+  unfolding logOf
+  log-used = lib.ListN.length-map (used (s .st .tS)) (clIn suite (KS suite K))
+
+  room-entries : (ltb (freeRows (cut before .tM)) j || ltb (freeRows (cut before .tV)) j) ≡ ltb (z .m) (H l + j)
+  room-entries =
+      let a = free-is 61 (z .m) (s .st .tM) (s .shaped .M-ok) in
+      let b = free-is 49 (z .m) (s .st .tV) (s .shaped .V-ok) in
+      let c = used-M in
+      let d = used-V in
+      rw (cut-is x i before l hi₀ s, shift (freeRows (s .st .tM)) (H l) (z .m) j (omega arith), shift (freeRows (s .st .tV)) (H l) (z .m) j (omega arith))
+      (or-same (ltb (z .m) (H l + j)))
+
+  room-counter : ltb (freeRows (cut before .tC)) 1 ≡ ltb (z .c) (l .A + l .W + 1)
+  room-counter =
+      let a = free-is 61 (z .c) (s .st .tC) (s .shaped .C-ok) in
+      let b = s .counters .total in
+      let w = s .W-is in
+      rw (cut-is x i before l hi₀ s) (shift (freeRows (s .st .tC)) (l .A + l .W) (z .c) 1 (omega arith))
+
+  room-log : ltb (freeRows (cut before .tS)) 1 ≡ ltb (z .s) (l .W + 1)
+  room-log =
+      let a = free-is 45 (z .s) (s .st .tS) (s .shaped .S-ok) in
+      let b = log-used in
+      let w = s .W-is in
+      rw (cut-is x i before l hi₀ s) (shift (freeRows (s .st .tS)) (l .W) (z .s) 1 (omega arith))
+
+  -- where the token's p is the store's
+  module _ (p-is : p ≡ z .p) where
+    ok : OK x pr
+    ok = record { named = named; valid = valid; shared = omega arith }
+
+    abbrev P : PairCounter x (s .st .tC) L (l .A) i pr (madeIn l pr)
+    P = s .counters .pairs pr ok
+
+    read : insertReading suite before ids nonces token ≡ Reading.counter (P .B) (P .start) (runOf x L pr) (madeIn l pr)
+    unfolding insertReading
+    read = rw (Tokens.token-CL suite K f p u nonce) (read-is x i before l hi₀ s pr ok)
+
+    new-is : newCount suite before ids nonces token ≡ madeIn l pr + j
+    unfolding newCount
+    new-is = rw read refl
+
+  states : verdict (insertStateTests suite before ids nonces token) ≡ verdict (ledgerTests z l f p u ids)
+  unfolding insertStateTests
+  states =
+      rw (header-is x i before l hi₀ s, marks-are x i before l hi₀ s, Tokens.token-p suite K f p u nonce, sizes-are x i before l hi₀ s, room-entries, room-counter, room-log)
+      (go (eqb p (z .p)) refl)
+    where
+      go : (b : Bool) → eqb p (z .p) ≡ b
+          → verdict ((not b ⇒ 12) ∷ (damaged (insertReading suite before ids nonces token) ⇒ 13) ∷ (ltb limit (newCount suite before ids nonces token) ⇒ 14) ∷ (ltb (z .m) (H l + j) ⇒ 15) ∷ (ltb (z .c) (l .A + l .W + 1) ⇒ 16) ∷ (ltb (z .s) (l .W + 1) ⇒ 17) ∷ [])
+          ≡ verdict ((not b ⇒ 12) ∷ (ltb 4294967295 (madeIn l pr + j) ⇒ 14) ∷ (ltb (z .m) (H l + j) ⇒ 15) ∷ (ltb (z .c) (l .A + l .W + 1) ⇒ 16) ∷ (ltb (z .s) (l .W + 1) ⇒ 17) ∷ [])
+      go true e =
+          let q = eqb-true p (z .p) e in
+          rw (read q, new-is q) refl
+      go false e = refl
+
+  insert-verdict : insertVerdict suite before ids nonces token ≡ orElse (verdict (insertInputTests ids nonces)) (verdict (ledgerTests z l f p u ids))
+  unfolding insertVerdict tokenTests
+  insert-verdict =
+      verdict-append (insertInputTests ids nonces) (tokenTests 141 token ++ insertStateTests suite before ids nonces token)
+      ∙ ap (orElse (verdict (insertInputTests ids nonces)))
+      (verdict-append (tokenTests 141 token) (insertStateTests suite before ids nonces token) ∙ right)
+    where
+      right : orElse (verdict (tokenTests 141 token)) (verdict (insertStateTests suite before ids nonces token)) ≡ verdict (ledgerTests z l f p u ids)
+      right = rw (length-refused 141 token (Tokens.token-length suite K f p u nonce nonce-length)) states
+
+  -- ---- an accepted insert
+
+  module _ (p-is : p ≡ z .p) (good : InputGood ids nonces) (fits : madeIn l pr + j ≤ limit) (after : List ℕ) (ins : Inserted suite before ids nonces token after) where
+    abbrev l′ : Ledger
+    l′ = afterInsert (boundsOf z) l f u ids
+
+    made-own : madeIn l′ pr ≡ madeIn l pr + j
+    unfolding afterInsert appended
+    made-own = ap (λ (e : Entry). e .made) (entry-own (appended (boundsOf z) l f u ids) (l .entries))
+
+    made-other : (q : Pair) → (q ≡ pr → ⊥) → madeIn l′ q ≡ madeIn l q
+    unfolding afterInsert appended
+    made-other q ne = ap (λ (e : Entry). e .made) (entry-other (appended (boundsOf z) l f u ids) (l .entries) q ne)
+
+    ids-own : listIn l′ pr ≡ listIn l pr ++ idsIn ids
+    unfolding afterInsert appended
+    ids-own = ap (λ (e : Entry). e .ids) (entry-own (appended (boundsOf z) l f u ids) (l .entries))
+
+    ids-other : (q : Pair) → (q ≡ pr → ⊥) → listIn l′ q ≡ listIn l q
+    unfolding afterInsert appended
+    ids-other q ne = ap (λ (e : Entry). e .ids) (entry-other (appended (boundsOf z) l f u ids) (l .entries) q ne)
+
+    listing : Same (listed (l′ .entries)) (idsIn ids ++ listed (l .entries))
+    unfolding afterInsert appended
+    listing = record {
+      counts = λ t.
+          listed-more (idsIn ids) (appended (boundsOf z) l f u ids) (l .entries) refl t
+          ∙ sym (Rattle.table.proofs.Counting.count-append t (idsIn ids) (listed (l .entries)));
+    }
+
+    count-read : countOf (insertReading suite before ids nonces token) ≡ madeIn l pr
+    count-read = ap countOf (read p-is)
+
+    position-read : positionOf (insertReading suite before ids nonces token) ≡ P p-is .start + runOf x L pr
+    position-read = ap positionOf (read p-is)
+
+    pM : PlacedAll (s .st .tM) (entryRows suite (mtOf x pr) (meOf x pr) (madeIn l pr) (idsIn ids) nonces) (ins .tM′)
+    pM = rw (cut-is x i before l hi₀ s, Tokens.token-MT suite K f p u nonce, Tokens.token-ME suite K f p u nonce, count-read) at (ins .entries)
+
+    pV : PlacedAll (s .st .tV) (reverseRows suite (mtOf x pr) (madeIn l pr) (idsIn ids)) (ins .tV′)
+    pV = rw (cut-is x i before l hi₀ s, Tokens.token-MT suite K f p u nonce, count-read) at (ins .reverses)
+
+    pC : Placed (s .st .tC) (counterRow suite (clOf x pr) (P p-is .start + runOf x L pr + 1) (drop (12 * j) nonces) (madeIn l pr + j)) (ins .tC′)
+    pC = rw (cut-is x i before l hi₀ s, Tokens.token-CL suite K f p u nonce, position-read, new-is p-is) at (ins .counter)
+
+    pS : Placed (s .st .tS) (logRow (Tokens.log suite K f p u nonce)) (ins .tS′)
+    pS = rw (cut-is x i before l hi₀ s, Tokens.token-log suite K f p u nonce) at (ins .log)
+
+    busyS : isFree (logRow (Tokens.log suite K f p u nonce)) ≡ false
+    unfolding logRow
+    busyS = refl
+
+    bodyS : clIn suite (KS suite K) (body (logRow (Tokens.log suite K f p u nonce))) ≡ clOf x pr
+    unfolding logRow
+    bodyS = Tokens.log-CL suite K f p u nonce nonce-length
+
+    logged : Same (logIn x (ins .tS′)) (clOf x pr ∷ L)
+    unfolding logOf
+    logged = rw bodyS at (Same-map (clIn suite (KS suite K)) (used (ins .tS′)) (body (logRow (Tokens.log suite K f p u nonce)) ∷ used (s .st .tS)) (placed-same (s .st .tS) (logRow (Tokens.log suite K f p u nonce)) (ins .tS′) pS busyS))
+
+    last-nonce : length (drop (12 * j) nonces) ≡ 12
+    last-nonce = let d = length-drop (12 * j) nonces in let n = good .nonces-length in omega arith
+
+    ids-length : length (idsIn ids) ≡ j
+    ids-length = rows-length 16 j ids
+
+    ids-wide : All (λ r. length r ≡ 16) (idsIn ids)
+    ids-wide = rows-wide 16 j ids (good .whole)
+
+    nonces-enough : 12 * length (idsIn ids) ≤ length nonces
+    nonces-enough = let a = ids-length in let n = good .nonces-length in omega arith
+
+    counters-after : Counters x (ins .tC′) (logIn x (ins .tS′)) (l .A) (suc i) (madeIn l′)
+    counters-after =
+        let g = good .least in
+        counters-insert x (s .st .tC) L (l .A) i (madeIn l) (s .counters) hi pr (ok p-is) (drop (12 * j) nonces) (madeIn l pr + j) last-nonce (omega arith) fits
+        (ins .tC′) pC (logIn x (ins .tS′)) logged (madeIn l′) made-own made-other
+
+    entries-after : Entries x (ins .tM′) (ins .tV′) (listed (l′ .entries)) (listIn l′) (madeIn l′)
+    entries-after =
+        let a = ids-length in
+        let m = s .small pr (ok p-is) in
+        let g = good .most in
+        let own : madeIn l′ pr ≡ madeIn l pr + length (idsIn ids) = made-own ∙ ap (λ (n : ℕ). madeIn l pr + n) (sym a) in
+        entries-insert-all x pr (ok p-is) (idsIn ids) nonces (madeIn l pr) (s .st .tM) (s .st .tV) (ins .tM′) (ins .tV′) (listed (l .entries)) (listed (l′ .entries)) (listIn l) (listIn l′) (madeIn l) (madeIn l′)
+        (s .entries) refl ids-wide nonces-enough (omega arith) pM pV listing ids-own ids-other own made-other
+
+    st′ : Store
+    st′ = record { header = s .st .header; tM = ins .tM′; tV = ins .tV′; tC = ins .tC′; tS = ins .tS′ }
+
+    log-row-ok : RowOK 45 (logRow (Tokens.log suite K f p u nonce))
+    unfolding logRow
+    log-row-ok = record { width = ap suc (Tokens.log-length suite K f p u nonce nonce-length); mark = refl }
+
+    counter-row-ok : RowOK 61 (counterRow suite (clOf x pr) (P p-is .start + runOf x L pr + 1) (drop (12 * j) nonces) (madeIn l pr + j))
+    unfolding counterRow
+    counter-row-ok = record {
+      width = counted-length suite (clOf x pr) (ctag x pr counter (P p-is .start + runOf x L pr + 1)) (drop (12 * j) nonces) 0 (madeIn l pr + j) (tag-length suite (clOf x pr) counter (P p-is .start + runOf x L pr + 1)) last-nonce;
+      mark = counted-mark suite (clOf x pr) (ctag x pr counter (P p-is .start + runOf x L pr + 1)) (drop (12 * j) nonces) 0 (madeIn l pr + j);
+    }
+
+    shaped′ : Shaped z st′
+    unfolding st′
+    shaped′ = record {
+      head = s .shaped .head;
+      M-ok = placed-all-ok 61 (z .m) (s .st .tM) _ (ins .tM′) pM (entry-rows-ok suite (mtOf x pr) (meOf x pr) (madeIn l pr) (idsIn ids) nonces ids-wide nonces-enough) (s .shaped .M-ok);
+      V-ok = placed-all-ok 49 (z .m) (s .st .tV) _ (ins .tV′) pV (reverse-rows-ok suite (mtOf x pr) (madeIn l pr) (idsIn ids) ids-wide) (s .shaped .V-ok);
+      C-ok = placed-ok 61 (z .c) (s .st .tC) _ (ins .tC′) pC counter-row-ok (s .shaped .C-ok);
+      S-ok = placed-ok 45 (z .s) (s .st .tS) _ (ins .tS′) pS log-row-ok (s .shaped .S-ok);
+    }
+
+    split : (T : Pair → Type 0) → T pr → ((q : Pair) → (q ≡ pr → ⊥) → T q) → (q : Pair) → T q
+    split T y n q = go (samePair q pr) refl
+      where
+        go : (b : Bool) → samePair q pr ≡ b → T q
+        go true e = rw (samePair-true q pr e) y
+        go false e = n q (λ w. true≢false (sym (samePair-refl pr) ∙ (rw w at e)))
+
+    members : (q : Pair) → OK x q → anyOf (samePair q) (withPair pr (l .T)) ≡ anyOf (λ y. same y (clOf x q)) (logIn x (ins .tS′))
+    members = split (λ q. OK x q → anyOf (samePair q) (withPair pr (l .T)) ≡ anyOf (λ y. same y (clOf x q)) (logIn x (ins .tS′)))
+        (λ oq. with-own pr (l .T) ∙ sym (any-same (λ y. same y (clOf x pr)) (logIn x (ins .tS′)) (clOf x pr ∷ L) logged ∙ rw (same-refl (clOf x pr)) refl))
+        (λ q ne oq.
+        let d : same (clOf x pr) (clOf x q) ≡ false = ne-same (clOf x pr) (clOf x q) (λ e. ne (sym (cl-differ x pr q (ok p-is) oq e))) in
+        with-other pr (l .T) q ne ∙ s .T-member q oq ∙ sym (any-same (λ y. same y (clOf x q)) (logIn x (ins .tS′)) (clOf x pr ∷ L) logged ∙ rw d refl))
+
+    insert-sim : Sim x (suc i) after l′
+    unfolding afterInsert st′
+    insert-sim = record {
+      st = st′;
+      bytes = ins .written ∙ rw (cut-is x i before l hi₀ s) refl;
+      shaped = shaped′;
+      counters = counters-after;
+      entries = entries-after;
+      small = split (λ q. OK x q → madeIn l′ q ≤ 64 * suc i)
+          (λ oq. let m = s .small pr oq in let g = good .most in let e = made-own in omega arith)
+          (λ q ne oq. let m = s .small q oq in let e = made-other q ne in omega arith);
+      W-is = let a = same-length (logIn x (ins .tS′)) (clOf x pr ∷ L) logged in let w = s .W-is in omega arith;
+      T-length =
+          let a = with-length pr (l .T) in
+          let b = distinct-same (logIn x (ins .tS′)) (clOf x pr ∷ L) logged in
+          let c = distinct-more (clOf x pr) L in
+          let d : bit (anyOf (samePair pr) (l .T)) ≡ bit (anyOf (λ y. same y (clOf x pr)) L) = ap bit (s .T-member pr (ok p-is)) in
+          let t = s .T-length in
+          omega arith;
+      T-member = members;
+    }
+
+-- ---- the step
+
+module _ (x : Setting) (i : ℕ) (before : List ℕ) (l : Ledger) (hi : suc i ≤ length (x .calls)) (s : Sim x i before l)
+    (key : List ℕ) (f : Field) (p u : ℕ) (nonce ids nonces : List ℕ) (keyed : (key ≡ x .K) ⊎ (length key ≡ 32 → ⊥))
+    (named : List·Memᴰ f (flat (map Rattle.scheme.specs.Premise.fieldsOf (x .calls)))) where
+  open Setting x using (suite, K, z, calls)
+
+  ledger-verdict : ledgerInsertVerdict (boundsOf z) l key f p u nonce ids nonces
+      ≡ orElse (verdict (insertTokenTests key f p u nonce)) (orElse (verdict (insertInputTests ids nonces)) (verdict (ledgerTests z l f p u ids)))
+  unfolding ledgerInsertVerdict
+  ledger-verdict =
+      verdict-append (insertTokenTests key f p u nonce) (insertInputTests ids nonces ++ ledgerTests z l f p u ids)
+      ∙ ap (orElse (verdict (insertTokenTests key f p u nonce))) (verdict-append (insertInputTests ids nonces) (ledgerTests z l f p u ids))
+
+  refused-step : (told : Told) (r : Answer) (after : List ℕ) → ledgerInsertVerdict (boundsOf z) l key f p u nonce ids nonces ≡ some r → told .answer ≡ r → told .output ≡ [] → after ≡ before
+      → After x i (Call.insert key f p u nonce ids nonces) l told after
+  unfolding ledgerStep
+  refused-step told r after v a o b = record {
+    told-is = told-eq x told _ (a ∙ sym (rw v refl)) o;
+    sim = rw (b, v) (later x i before l (omega arith) s);
+  }
+
+  accepted-step : (told : Told) (after : List ℕ) → ledgerInsertVerdict (boundsOf z) l key f p u nonce ids nonces ≡ none
+      → told .answer ≡ done ((madeIn l (record { field = f; u = u }) + idCount ids) ∷ []) → told .output ≡ [] → Sim x (suc i) after (afterInsert (boundsOf z) l f u ids)
+      → After x i (Call.insert key f p u nonce ids nonces) l told after
+  unfolding ledgerStep appended
+  accepted-step told after v a o n = record {
+    told-is = told-eq x told _ (a ∙ sym (rw v refl)) o;
+    sim = rw v n;
+  }
+
+  tests-good : verdict (ledgerTests z l f p u ids) ≡ none → (p ≡ z .p) × (madeIn l (record { field = f; u = u }) + idCount ids ≤ limit)
+  tests-good e =
+      let a = passed (not (eqb p (z .p))) _ _ e in
+      let b = passed (ltb 4294967295 (madeIn l (record { field = f; u = u }) + idCount ids)) _ _ (a .1) in
+      (eqb-true p (z .p) (not-false (eqb p (z .p)) (a .0)), ltb-false 4294967295 (madeIn l (record { field = f; u = u }) + idCount ids) (b .0))
+
+  pub insert-step : (told : Told) (after : List ℕ) → InsertCall suite before key f p u nonce ids nonces (told .answer) after → told .output ≡ [] → After x i (Call.insert key f p u nonce ids nonces) l told after
+  insert-step told after c o = go (verdict (insertTokenTests key f p u nonce)) refl
+    where
+      made : TokenMade K key f p u nonce → Insert suite before ids nonces (insertToken suite K f p u nonce) (told .answer) after
+          → ledgerInsertVerdict (boundsOf z) l key f p u nonce ids nonces ≡ orElse (verdict (insertInputTests ids nonces)) (verdict (ledgerTests z l f p u ids))
+          → After x i (Call.insert key f p u nonce ids nonces) l told after
+      made m n v = by (orElse (verdict (insertInputTests ids nonces)) (verdict (ledgerTests z l f p u ids))) refl
+        where
+          by : (q : Option Answer) → orElse (verdict (insertInputTests ids nonces)) (verdict (ledgerTests z l f p u ids)) ≡ q → After x i (Call.insert key f p u nonce ids nonces) l told after
+          by none e =
+              let iv = insert-verdict x i before l hi s f p u nonce ids nonces (m .valid) (m .shared) (m .nonce-length) named ∙ e in
+              let b = both-none (verdict (insertInputTests ids nonces)) (verdict (ledgerTests z l f p u ids)) e in
+              let g = input-good ids nonces (b .0) in
+              let t = tests-good (b .1) in
+              let a : told .answer ≡ done ((madeIn l (record { field = f; u = u }) + idCount ids) ∷ []) =
+              n .answered ∙ rw iv (ap (λ (k : ℕ). done (k ∷ [])) (new-is x i before l hi s f p u nonce ids nonces (m .valid) (m .shared) (m .nonce-length) named (t .0))) in
+              accepted-step told after (v ∙ e) a o (insert-sim x i before l hi s f p u nonce ids nonces (m .valid) (m .shared) (m .nonce-length) named (t .0) g (t .1) after (n .wrote iv))
+          by (some r) e =
+              let iv = insert-verdict x i before l hi s f p u nonce ids nonces (m .valid) (m .shared) (m .nonce-length) named ∙ e in
+              refused-step told r after (v ∙ e) (n .answered ∙ rw iv refl) o (n .kept r iv)
+
+      go : (q : Option Answer) → verdict (insertTokenTests key f p u nonce) ≡ q → After x i (Call.insert key f p u nonce ids nonces) l told after
+      go none e =
+          let m = token-made K key f p u nonce keyed e in
+          made m (rw (m .key-is) at (c .made e)) (ledger-verdict ∙ rw e refl)
+      go (some r) e =
+          let w = c .unmade r e in
+          refused-step told r after (ledger-verdict ∙ rw e refl) (w .0) o (w .1)

@@ -1,0 +1,17 @@
+pub mod Numbers
+pub mod Labels
+pub mod Setting
+pub mod Shape
+pub mod Counters
+pub mod Treat
+pub mod Compacting
+pub mod Entries
+pub mod LedgerLaws
+pub mod Simulation
+pub mod Verdicts
+pub mod Queries
+pub mod Tokens
+pub mod Inserting
+pub mod Compactions
+pub mod Claim
+pub mod Examples

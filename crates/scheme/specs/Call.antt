@@ -1,0 +1,18 @@
+-- A call of a list, by its raw arguments, and what it tells (document 01, "The ledger", last paragraph).
+use Prim.Native.Nat.{ℕ}
+use mathlib.Core.List.{List}
+use Rattle.answer.specs.Answer.{Answer}
+use Rattle.scheme.specs.Labels.{Field}
+
+-- the making of the call's token, where it takes one, then the operation with it [01:LG16]
+pub data Call : Type 0 where
+  insert : (key : List ℕ) (f : Field) (p u : ℕ) (nonce ids nonces : List ℕ) → Call
+  erase : (id : List ℕ) → Call
+  find : (key : List ℕ) (f : Field) (output : List ℕ) → Call
+  count : (key : List ℕ) (f : Field) → Call
+  compact : (key nonces : List ℕ) → Call
+
+-- the answer, or the refusal's number with what it carries, and a find's whole output slice [01:LG14]
+pub record Told : Type 0 where
+  pub answer : Answer
+  pub output : List ℕ

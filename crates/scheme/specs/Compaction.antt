@@ -1,0 +1,71 @@
+-- Document 01, "Operations": compaction. A relation for the row placing alone.
+use Prim.Native.Nat.{ℕ, zero, suc, _+_, _/_}
+use mathlib.Core.Path.{_≡_}
+use mathlib.Core.Bool.{Bool}
+use mathlib.Core.Option.{Option, none, some}
+use mathlib.Core.List.{List, [], _∷_, _++_, map}
+use lib.Dec.{ltb}
+use lib.ListN.{length, take, drop}
+use Rattle.table.specs.Lists.{same, distinct}
+use Rattle.table.specs.Table.{Table, used, placeOf, freeAt, freeWhere, Placed}
+use Rattle.answer.specs.Answer.{Answer, done, refused}
+use Rattle.scheme.specs.Suite.{Suite}
+use Rattle.scheme.specs.Store.{Store, sizesOf, cut, joined, headerBad, marksBad, counterTag, anchorRow, clIn}
+use Rattle.scheme.specs.Reading.{Reading, damage, counter, reading}
+use Rattle.scheme.specs.Refusals.{Test, _⇒_, verdict, compactionInputTests, tokenTests}
+
+module _ (suite : Suite) where
+  -- the places of the rows held as counters start + 1 to start + k [01:OP11]
+  abbrev pub heldPlaces : List ℕ → Table → ℕ → ℕ → List ℕ
+  heldPlaces cl t start zero = []
+  heldPlaces cl t start (suc k) = placeOf (counterTag suite cl (suc start)) t ∷ heldPlaces cl t (suc start) k
+
+  -- one CL with k > 0: those rows are freed, anchor B + 1 is written with position and count [01:OP11]
+  pub record Anchored (cl nonce : List ℕ) (t : Table) (B start k n : ℕ) (after : Table) : Type 0 where
+    pub placed : Placed (freeAt 61 (heldPlaces cl t start k) t) (anchorRow suite cl (B + 1) nonce (start + k) n) after
+
+  -- the CL in the used S rows, in order [01:ST12]
+  unfoldable pub logOf : List ℕ → Table → List (List ℕ)
+  logOf ks t = map (clIn suite ks) (used t)
+
+  -- all S rows of a CL are freed [01:OP12]
+  unfoldable pub freeLog : List ℕ → List ℕ → Table → Table
+  freeLog ks cl t = freeWhere 45 (λ b. same (clIn suite ks b) cl) t
+
+-- CL after CL, from tables C and S with the nonces left and the numbers so far, to the answer and the tables after it:
+-- damage stops it and carries the numbers so far [01:RS13]; with k = 0 nothing is written and no nonce is used [01:OP11]
+pub data Treats (suite : Suite) (c : ℕ) (ks : List ℕ) : List (List ℕ) → Table → Table → List ℕ → ℕ → ℕ → Answer → Table → Table → Type 0 where
+  finished : {tC tS : Table} {nonces : List ℕ} {anchors counters : ℕ} → Treats suite c ks [] tC tS nonces anchors counters (done (anchors ∷ counters ∷ [])) tC tS
+  stopped : {cl : List ℕ} {cls : List (List ℕ)} {tC tS : Table} {nonces : List ℕ} {anchors counters : ℕ}
+      → reading suite c cl tC ≡ damage
+      → Treats suite c ks (cl ∷ cls) tC tS nonces anchors counters (refused 13 (anchors ∷ counters ∷ [])) tC tS
+  skipped : {cl : List ℕ} {cls : List (List ℕ)} {tC tS : Table} {nonces : List ℕ} {anchors counters : ℕ} {answer : Answer} {tC′ tS′ : Table} {B start n : ℕ}
+      → reading suite c cl tC ≡ counter B start zero n
+      → Treats suite c ks cls tC (freeLog suite ks cl tS) nonces anchors counters answer tC′ tS′
+      → Treats suite c ks (cl ∷ cls) tC tS nonces anchors counters answer tC′ tS′
+  anchored : {cl : List ℕ} {cls : List (List ℕ)} {tC tS : Table} {nonces : List ℕ} {anchors counters : ℕ} {answer : Answer} {tC′ tS′ : Table} {B start k n : ℕ} {tC₁ : Table}
+      → reading suite c cl tC ≡ counter B start (suc k) n
+      → Anchored suite cl (take 12 nonces) tC B start (suc k) n tC₁
+      → Treats suite c ks cls tC₁ (freeLog suite ks cl tS) (drop 12 nonces) (anchors + 1) (counters + suc k) answer tC′ tS′
+      → Treats suite c ks (cl ∷ cls) tC tS nonces anchors counters answer tC′ tS′
+
+module _ (suite : Suite) (before nonces token : List ℕ) where
+  -- 4, 6, 10, 11, 19 [01:RI5 RI7 RS2 RS3 RS5]
+  unfoldable pub compactVerdict : Option Answer
+  compactVerdict = verdict (compactionInputTests nonces ++ (tokenTests 32 token ++
+      ((headerBad before ⇒ 10)
+      ∷ (marksBad (cut before) ⇒ 11)
+      ∷ (ltb (length nonces / 12) (length (used (cut before .tS))) ⇒ 19)
+      ∷ [])))
+
+  -- distinct CL of S in order of first row; answer: anchors written, counters freed [01:OP10 OP13]
+  pub record Compacted (answer : Answer) (after : List ℕ) : Type 0 where
+    pub tC′ : Table
+    pub tS′ : Table
+    pub treats : Treats suite (sizesOf before .c) token (distinct (logOf suite token (cut before .tS))) (cut before .tC) (cut before .tS) nonces 0 0 answer tC′ tS′
+    pub written : after ≡ joined (record { header = cut before .header; tM = cut before .tM; tV = cut before .tV; tC = tC′; tS = tS′ })
+
+  -- a refusal changes no byte, except 13, which Treats tells [01:RS13]
+  pub record Compact (answer : Answer) (after : List ℕ) : Type 0 where
+    pub kept : (r : Answer) → compactVerdict ≡ some r → (answer ≡ r) × (after ≡ before)
+    pub wrote : compactVerdict ≡ none → Compacted answer after

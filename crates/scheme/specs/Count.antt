@@ -1,0 +1,27 @@
+-- Document 01, "Operations": count.
+use Prim.Native.Nat.{ℕ}
+use mathlib.Core.Option.{Option}
+use mathlib.Core.List.{List, [], _∷_, _++_, map}
+use Rattle.table.specs.Lists.{anyOf, sum, upTo}
+use Rattle.answer.specs.Answer.{Answer, done}
+use Rattle.scheme.specs.Suite.{Suite}
+use Rattle.scheme.specs.Store.{sizesOf, cut, headerBad, marksBad}
+use Rattle.scheme.specs.Reading.{damaged, countOf}
+use Rattle.scheme.specs.Refusals.{Test, _⇒_, verdict, answerOr, Result, tokenTests}
+use Rattle.scheme.specs.Find.{shareReading}
+
+module _ (suite : Suite) (before token : List ℕ) where
+  -- 6, 10, 11, 13 with every share read first [01:RI7 RS2 RS3 RS6]
+  unfoldable pub countVerdict : Option Answer
+  countVerdict = verdict (tokenTests 32 token ++
+      ((headerBad before ⇒ 10)
+      ∷ (marksBad (cut before) ⇒ 11)
+      ∷ (anyOf (λ u. damaged (shareReading suite before token u)) (upTo (sizesOf before .p)) ⇒ 13)
+      ∷ []))
+
+  -- the sum over shares, erased entries included [01:OP9]
+  unfoldable pub sumOfCounts : ℕ
+  sumOfCounts = sum (map (λ u. countOf (shareReading suite before token u)) (upTo (sizesOf before .p)))
+
+  unfoldable pub countCall : Result
+  countCall = record { answer = answerOr countVerdict (done (sumOfCounts ∷ [])); store = before; output = [] }

@@ -1,0 +1,88 @@
+-- Document 01, "Keys and tokens".
+use Prim.Native.Nat.{ℕ}
+use mathlib.Core.List.{List, [], _∷_, _++_}
+use lib.ListN.{getD, take, drop}
+use Rattle.scheme.specs.Suite.{Suite, number8}
+use Rattle.scheme.specs.Labels.{Field, label}
+
+module _ (suite : Suite) where
+  open Suite suite using (F, E)
+
+  -- KM, KC, KS from the master key K [01:KT2]
+  unfoldable pub KM : List ℕ → List ℕ
+  KM K = F K (number8 1)
+
+  unfoldable pub KC : List ℕ → List ℕ
+  KC K = F K (number8 2)
+
+  unfoldable pub KS : List ℕ → List ℕ
+  KS K = F K (number8 3)
+
+  -- the parts of a find token, with label x, before the share [01:KT8]
+  unfoldable pub MTof : List ℕ → Field → List ℕ
+  MTof K f = F (F (KM K) (number8 1)) (label f)
+
+  unfoldable pub MEof : List ℕ → Field → List ℕ
+  MEof K f = F (F (KM K) (number8 2)) (label f)
+
+  unfoldable pub CLof : List ℕ → Field → List ℕ
+  CLof K f = F (KC K) (label f)
+
+  -- one of those for share u [01:KT3 KT5 KT6]
+  unfoldable pub share : List ℕ → ℕ → List ℕ
+  share key u = F key (number8 u)
+
+  unfoldable pub MT : List ℕ → Field → ℕ → List ℕ
+  MT K f u = share (MTof K f) u
+
+  unfoldable pub ME : List ℕ → Field → ℕ → List ℕ
+  ME K f u = share (MEof K f) u
+
+  unfoldable pub CL : List ℕ → Field → ℕ → List ℕ
+  CL K f u = share (CLof K f) u
+
+  -- from CL [01:KT6]
+  unfoldable pub CT : List ℕ → List ℕ
+  CT cl = F cl (number8 1)
+
+  unfoldable pub CE : List ℕ → List ℕ
+  CE cl = F cl (number8 2)
+
+  -- the tokens [01:KT7 KT8 KT9 KT10]
+  unfoldable pub insertToken : List ℕ → Field → ℕ → ℕ → List ℕ → List ℕ
+  insertToken K f p u nonce = p ∷ MT K f u ++ (ME K f u ++ (CL K f u ++ (nonce ++ E (KS K) nonce (CL K f u))))
+
+  unfoldable pub findToken : List ℕ → Field → List ℕ
+  findToken K f = MTof K f ++ (MEof K f ++ CLof K f)
+
+  unfoldable pub countToken : List ℕ → Field → List ℕ
+  countToken K f = CLof K f
+
+  unfoldable pub compactionToken : List ℕ → List ℕ
+  compactionToken K = KS K
+
+-- the parts of an insert token; its last 44 bytes are an S row's [01:KT7 OP1]
+unfoldable pub tokenP : List ℕ → ℕ
+tokenP token = getD token 0 0
+
+unfoldable pub tokenMT : List ℕ → List ℕ
+tokenMT token = take 32 (drop 1 token)
+
+unfoldable pub tokenME : List ℕ → List ℕ
+tokenME token = take 32 (drop 33 token)
+
+unfoldable pub tokenCL : List ℕ → List ℕ
+tokenCL token = take 32 (drop 65 token)
+
+unfoldable pub tokenLog : List ℕ → List ℕ
+tokenLog token = drop 97 token
+
+-- the parts of a find token [01:KT8]
+unfoldable pub findMT : List ℕ → List ℕ
+findMT token = take 32 token
+
+unfoldable pub findME : List ℕ → List ℕ
+findME token = take 32 (drop 32 token)
+
+unfoldable pub findCL : List ℕ → List ℕ
+findCL token = drop 64 token
