@@ -49,7 +49,7 @@ def id_of(letter):
     return letter.encode() * 16
 
 
-def insert(field, u, letters, p=1, nonces=None):
+def insert(field, u, letters, p=1):
     ids = b"".join(id_of(x) for x in letters)
     return Insert(KEY, *field, p, u, NONCE, bytes(12 * (len(letters) + 1)), ids)
 
@@ -148,7 +148,8 @@ def headers():
             store[t.start + t.width * 3] = mark
             all_refuse(model, store, 11)
             token = model.insert_token(KEY, *HUE, 0, 0, NONCE)
-            expect("11 before 12", model.insert(store, token, bytes(24), id_of("A")), Refused(11, ()))
+            answer = model.insert(store, token, bytes(24), id_of("A"))
+            expect("11 before 12", answer, Refused(11, ()))
 
 
 def input_order():

@@ -40,7 +40,8 @@ class Ledger:
         refused = first(self.insert_conditions(call, pair, j))
         if refused:
             return refused
-        self.lists[pair] = self.lists.get(pair, []) + [call.ids[16 * i:16 * i + 16] for i in range(j)]
+        ids = [call.ids[16 * i:16 * i + 16] for i in range(j)]
+        self.lists[pair] = self.lists.get(pair, []) + ids
         self.made[pair] = self.made.get(pair, 0) + j
         self.inserts += 1
         self.touched.add(pair)
