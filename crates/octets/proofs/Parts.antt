@@ -6,7 +6,7 @@ use native.Mathlib.Omega.{arith}
 use native.Mathlib.Numerals.{add-one}
 use lib.ListN.{length, length-append, length-take, length-drop, length-map, drop-of-length-le, take, drop, set, getD, take-append-drop}
 use lib.Seq.{take-suc, take-suc-set, take-all, take-at, drop-at, drop-cons, drop-drop, getD-at, set-at, length-take-le}
-use Rattle.octets.specs.Part.{back}
+use Rattle.octets.specs.Part.{back, written}
 
 pub copy-byte : (i : ℕ) (to from : List ℕ) → i < length to → i < length from → take i to ≡ take i from
     → take (i + 1) (set to i (getD from i 0)) ≡ take (i + 1) from
@@ -84,3 +84,15 @@ module _ (f : ℕ → ℕ) (i : ℕ) (xs : List ℕ) where
         ∙ set-at (map f (take i xs)) (getD xs i 0) (drop (suc i) xs) (f (getD xs i 0)) i front
         ∙ sym (append-assoc (map f (take i xs)) (f (getD xs i 0) ∷ []) (drop (suc i) xs))
         ∙ rw (add-one i, take-suc xs i 0 h, map-append f (take i xs) (getD xs i 0 ∷ []))
+
+-- ---- pieces written one after the other
+
+pub written-next : (front junk ys : List ℕ) (a : ℕ) → length front ≡ a → written (front ++ junk) a ys ≡ (front ++ ys) ++ drop (length ys) junk
+written-next front junk ys a f =
+    back-next front junk ys a (a + length ys) f ∙ ap (λ (k : ℕ). (front ++ ys) ++ drop k junk) (gap a (length ys))
+  where
+    gap : (a n : ℕ) → a + n - a ≡ n
+    gap a n = omega arith
+
+pub length-written : (xs ys : List ℕ) (a : ℕ) → a + length ys ≤ length xs → length (written xs a ys) ≡ length xs
+length-written xs ys a h = length-back xs a (a + length ys) ys (omega arith) h (omega arith)
