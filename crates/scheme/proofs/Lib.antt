@@ -15,3 +15,4 @@ pub mod Inserting
 pub mod Compactions
 pub mod Claim
 pub mod Examples
+pub mod Outcomes
