@@ -16,3 +16,4 @@ pub mod Compactions
 pub mod Claim
 pub mod Examples
 pub mod Outcomes
+pub mod Corollaries
