@@ -24,8 +24,8 @@ use Rattle.scheme.specs.Store.{Store, cut, joined, sizesOf, headerBad, m
 use Rattle.scheme.specs.Reading
 use Rattle.scheme.specs.Reading.{Reading, damage, reading, damaged, countOf, positionOf, limit, walk, isDamage, anchorsHeld, startOf, countersHeld, counterNumbers}
 use Rattle.scheme.specs.Refusals.{Test, _⇒_, verdict, Result, idCount, idsIn, insertTokenTests, insertInputTests, tokenTests, keyTests}
-use Rattle.scheme.specs.Insert.{entryRows, reverseRows, insertReading, newCount, insertStateTests, insertVerdict, Inserted, Insert}
-use Rattle.scheme.specs.Compaction.{heldPlaces, Anchored, freeLog, Treats, finished, stopped, skipped, anchored, compactVerdict, Compacted, Compact}
+use Rattle.scheme.specs.Insert.{entryRows, reverseRows, newEntries, newReverses, newCounter, newLog, insertedStore, insertReading, newCount, insertStateTests, insertVerdict, Inserted, Insert}
+use Rattle.scheme.specs.Compaction.{heldPlaces, freedCounters, nextAnchor, logged, compactedStore, Anchored, freeLog, Treats, finished, stopped, skipped, anchored, compactVerdict, Compacted, Compact}
 use Rattle.scheme.specs.Call
 use Rattle.scheme.specs.Call.{Call, Told}
 use Rattle.scheme.specs.Run.{Step, InsertCall, CompactCall, Gives, Run, ended, step}
@@ -114,7 +114,7 @@ module _ (suite : Suite) (before ids nonces token : List ℕ) where
       }
 
   pub insert-outcome : Insert suite before ids nonces token (insertLowest suite before ids nonces token .answer) (insertLowest suite before ids nonces token .store)
-  unfolding insertLowest insertedLowest
+  unfolding insertLowest insertedLowest insertedStore newEntries newReverses newCounter newLog
   insert-outcome = record {
     answered = refl;
     kept = λ r e. rw e refl;
@@ -180,8 +180,8 @@ read-parts suite c cl t B start k n e = go (isDamage suite c cl t) e
 
 -- after a reading with k > 0 the freed rows leave room for the anchor
 anchor-room : (suite : Suite) (c : ℕ) (cl : List ℕ) (t : Table) (B start k n : ℕ) → reading suite c cl t ≡ Reading.counter B start (suc k) n
-    → 1 ≤ freeRows (freeAt 61 (heldPlaces suite cl t start (suc k)) t)
-unfolding countersHeld
+    → 1 ≤ freeRows (freedCounters suite cl t start (suc k))
+unfolding countersHeld freedCounters
 anchor-room suite c cl t B start k n e =
     let p = read-parts suite c cl t B start (suc k) n e in
     let w : walk (λ i. holds (counterTag suite cl i) t) c start ≡ suc k = rw (p .start-is) at (p .run-is) in
@@ -200,7 +200,7 @@ treats-by : (suite : Suite) (c : ℕ) (ks cl : List ℕ) (cls : List (List ℕ))
 treats-by suite c ks cl cls tC tS nonces a w damage e rest more = stopped e
 treats-by suite c ks cl cls tC tS nonces a w (Reading.counter B start zero n) e rest more = skipped e (more tC (freeLog suite ks cl tS) nonces a w)
 treats-by suite c ks cl cls tC tS nonces a w (Reading.counter B start (suc k) n) e rest more =
-    anchored e (record { placed = placed-lowest (freeAt 61 (heldPlaces suite cl tC start (suc k)) tC) (anchorRow suite cl (B + 1) (take 12 nonces) (start + suc k) n) (anchor-room suite c cl tC B start k n e) })
+    anchored e (record { placed = placed-lowest (freedCounters suite cl tC start (suc k)) (nextAnchor suite cl (take 12 nonces) B start (suc k) n) (anchor-room suite c cl tC B start k n e) })
     (more _ (freeLog suite ks cl tS) (drop 12 nonces) (a + 1) (w + suc k))
 
 treats : (suite : Suite) (c : ℕ) (ks : List ℕ) (cls : List (List ℕ)) (tC tS : Table) (nonces : List ℕ) (a w : ℕ)
@@ -210,7 +210,7 @@ treats suite c ks (cl ∷ cls) tC tS nonces a w =
     treats-by suite c ks cl cls tC tS nonces a w (reading suite c cl tC) refl (λ tC tS nonces a w. treatLowest suite c ks cls tC tS nonces a w) (λ tC tS nonces a w. treats suite c ks cls tC tS nonces a w)
 
 pub compact-outcome : (suite : Suite) (before nonces token : List ℕ) → Compact suite before nonces token (compactLowest suite before nonces token .answer) (compactLowest suite before nonces token .store)
-unfolding compactLowest treatedLowest
+unfolding compactLowest treatedLowest compactedStore logged
 compact-outcome suite before nonces token = record {
   kept = λ r e. (rw e refl, rw e refl);
   wrote = λ e.
