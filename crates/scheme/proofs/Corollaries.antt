@@ -4,7 +4,7 @@ use mathlib.Core.Path.{_≡_, refl, sym, ap, _∙_}
 use mathlib.Core.Bool.{Bool, true, false, cond, not, _||_, true≢false}
 use mathlib.Core.Logic.{_⊎_, inl, inr, ⊎-elim}
 use mathlib.Core.Option.{Option, none, some}
-use mathlib.Core.List.{List, [], _∷_, _++_, map, List·Memᴰ, List·Memᴰ·head, List·Memᴰ·tail, List·Memᴰ·cases-cons, Memᴰ·append-left, Memᴰ·append-right}
+use mathlib.Core.List.{List, [], _∷_, _++_, map, List·Memᴰ, List·Memᴰ·head, List·Memᴰ·tail, List·Memᴰ·cases-cons, List·Memᴰ·append-cases, List·Memᴰ·not-nil, Memᴰ·append-left, Memᴰ·append-right}
 use native.Mathlib.Nat.{add-zero}
 use native.Mathlib.Numerals.{add-one}
 use native.Mathlib.Omega.{arith}
@@ -22,7 +22,7 @@ use Rattle.scheme.specs.Call
 use Rattle.scheme.specs.Call.{Call, Told}
 use Rattle.scheme.specs.Ledger.{Pair, samePair, Entry, Ledger, Bounds, empty, entryOf, withEntry, removed, ledgerInsertVerdict, appended, afterInsert, afterErase, afterCompaction, ledgerIds, ledgerSum, ledgerFindVerdict, ledgerCompactVerdict, nextOr, ledgerStep, ledgerTells}
 use Rattle.scheme.specs.Claim.{Claim, boundsOf}
-use Rattle.scheme.specs.Corollaries.{Ran, toldAt, accepted, Finds, FindsId, Keeps, NoIdLost, Query, finding, counting, callOf, CompactionHidden, Without, EraseExact, Made, ClientsAlike}
+use Rattle.scheme.specs.Corollaries.{Ran, toldAt, accepted, Finds, FindsId, Keeps, NoIdLost, Query, finding, counting, callOf, CompactionHidden, Without, EraseExact, BringsNot, FindsNoId, ErasedGone, Made, ClientsAlike}
 use Rattle.scheme.proofs.Setting.{samePair-true, samePair-refl}
 use Rattle.scheme.proofs.LedgerLaws.{entry-own, entry-other, entry-removed}
 use Rattle.scheme.proofs.Verdicts.{orElse, both-none, verdict-append, passed, map-upTo}
@@ -304,4 +304,101 @@ no-id-lost suite K z first second third key key′ f p u nonce ids nonces output
       found = ledgerIds w l₂ f;
       finds = finds-as _ _ output (ledgerIds w l₂ f) (ledgerIds w l₂ f) g refl (find-tells w l₂ key′ f output (sym (ap accepted g) ∙ b));
       has = found-has w l₂ f u id (n .share) h₂;
+    }
+
+-- ---- (c), later finds
+
+not-selected : (p : List ℕ → Bool) (id : List ℕ) → p id ≡ false → (l : List (List ℕ)) → List·Memᴰ id (select p l) → ⊥
+not-selected p id e [] m = List·Memᴰ·not-nil m
+not-selected p id e (y ∷ ys) m = go (p y) refl m (not-selected p id e ys)
+  where
+    go : (b : Bool) → p y ≡ b → List·Memᴰ id (cond b (y ∷ select p ys) (select p ys)) → (List·Memᴰ id (select p ys) → ⊥) → ⊥
+    go true h m k = ⊎-elim (λ q. true≢false (sym h ∙ ap p (sym q) ∙ e)) k (List·Memᴰ·cases-cons m)
+    go false h m k = k m
+
+abbrev Lacks : Ledger → List ℕ → Type 0
+Lacks l id = (pr : Pair) → Has l pr id → ⊥
+
+lacks-erased : (z : Bounds) (l : Ledger) (id : List ℕ) → Lacks (afterErase z l id) id
+unfolding afterErase removed
+lacks-erased z l id pr m =
+    not-selected (λ y. not (same y id)) id (ap not (Rattle.table.proofs.Counting.same-refl id)) (entryOf pr (l .entries) .ids)
+    (rw (entry-removed id pr (l .entries)) at m)
+
+lacks-insert : (z : Bounds) (l : Ledger) (id : List ℕ) (f : Field) (u : ℕ) (ids : List ℕ) → (List·Memᴰ id (idsIn ids) → ⊥) → Lacks l id → Lacks (afterInsert z l f u ids) id
+unfolding afterInsert appended
+lacks-insert z l id f u ids k h pr m = go (samePair pr (record { field = f; u = u })) refl
+  where
+    go : (b : Bool) → samePair pr (record { field = f; u = u }) ≡ b → ⊥
+    go true e =
+        let q = samePair-true pr (record { field = f; u = u }) e in
+        let n : List·Memᴰ id (entryOf (record { field = f; u = u }) (l .entries) .ids ++ idsIn ids) = rw (q, entry-own (appended z l f u ids) (l .entries)) at m in
+        ⊎-elim (h (record { field = f; u = u })) k (List·Memᴰ·append-cases (entryOf (record { field = f; u = u }) (l .entries) .ids) n)
+    go false e =
+        let ne : pr ≡ record { field = f; u = u } → ⊥ = λ w. true≢false (sym (samePair-refl (record { field = f; u = u })) ∙ (rw w at e)) in
+        h pr (rw (entry-other (appended z l f u ids) (l .entries) pr ne) at m)
+
+select-mem : (p : List ℕ → Bool) (id : List ℕ) (l : List (List ℕ)) → List·Memᴰ id (select p l) → List·Memᴰ id l
+select-mem p id [] m = m
+select-mem p id (y ∷ ys) m = go (p y) m (select-mem p id ys)
+  where
+    go : (b : Bool) → List·Memᴰ id (cond b (y ∷ select p ys) (select p ys)) → (List·Memᴰ id (select p ys) → List·Memᴰ id ys) → List·Memᴰ id (y ∷ ys)
+    go true m k = ⊎-elim (λ q. List·Memᴰ·head q) (λ n. List·Memᴰ·tail (k n)) (List·Memᴰ·cases-cons m)
+    go false m k = List·Memᴰ·tail (k m)
+
+lacks-step : (z : Bounds) (l : Ledger) (id : List ℕ) (call : Call) → BringsNot id call → Lacks l id → Lacks (ledgerStep z l call .next) id
+unfolding ledgerStep
+lacks-step z l id (Call.insert key f p u nonce ids nonces) k h = go (ledgerInsertVerdict z l key f p u nonce ids nonces)
+  where
+    go : (o : Option Answer) → Lacks (nextOr z l o (afterInsert z l f u ids)) id
+    go none = lacks-insert z l id f u ids k h
+    go (some r) = h
+lacks-step z l id (Call.erase other) k h = go (verdict (eraseInputTests other))
+  where
+    go : (o : Option Answer) → Lacks (nextOr z l o (afterErase z l other)) id
+    go none pr m = h pr (unfold afterErase removed in
+        (select-mem (λ y. not (same y other)) id (entryOf pr (l .entries) .ids) (rw (entry-removed other pr (l .entries)) at m)))
+    go (some r) pr m = h pr m
+lacks-step z l id (Call.find key f output) k h = h
+lacks-step z l id (Call.count key f) k h = h
+lacks-step z l id (Call.compact key nonces) k h = go (ledgerCompactVerdict z l key nonces)
+  where
+    go : (o : Option Answer) → Lacks (nextOr z l o (afterCompaction z l)) id
+    go none = unfold afterCompaction in h
+    go (some r) = h
+
+lacks-calls : (z : Bounds) (l : Ledger) (id : List ℕ) (calls : List Call) → All (BringsNot id) calls → Lacks l id → Lacks (ledgerAfter z l calls) id
+lacks-calls z l id [] k h = h
+lacks-calls z l id (call ∷ calls) k h = lacks-calls z (ledgerStep z l call .next) id calls (k .1) (lacks-step z l id call (k .0) h)
+
+none-upTo-mem : (g : ℕ → List (List ℕ)) (id : List ℕ) → ((u : ℕ) → List·Memᴰ id (g u) → ⊥) → (n : ℕ) → List·Memᴰ id (flat (map g (upTo n))) → ⊥
+none-upTo-mem g id h zero m = ⊎-elim (h 0) List·Memᴰ·not-nil (List·Memᴰ·append-cases (g 0) m)
+none-upTo-mem g id h (suc n) m =
+    ⊎-elim (none-upTo-mem g id h n) (h (suc n)) (List·Memᴰ·append-cases (flat (map g (upTo n))) (rw (flat-upTo g n) at m))
+
+found-lacks : (z : Bounds) (l : Ledger) (f : Field) (id : List ℕ) → Lacks l id → List·Memᴰ id (ledgerIds z l f) → ⊥
+unfolding ledgerIds
+found-lacks z l f id h m = none-upTo-mem (λ u. entryOf (record { field = f; u = u }) (l .entries) .ids) id (λ u. h (record { field = f; u = u })) (z .p) m
+
+pub erased-gone : (suite : Suite) → ErasedGone suite
+unfolding ErasedGone
+erased-gone suite K z first second third id key f output told r a k b =
+    let w = boundsOf z in
+    let l = ledgerAfter w empty first in
+    let rest = second ++ (Call.find key f output ∷ third) in
+    let q = ran suite K z (first ++ (Call.erase id ∷ rest)) told r in
+    let d : toldAt told (length first) ≡ ledgerStep w l (Call.erase id) .told =
+    ap (λ (t : List Told). toldAt t (length first)) q ∙ told-at w empty first (Call.erase id) rest in
+    let n : ledgerStep w l (Call.erase id) .next ≡ afterErase w l id = erase-next w l id (sym (ap accepted d) ∙ a) in
+    let l₁ = ledgerStep w l (Call.erase id) .next in
+    let h₁ : Lacks l₁ id = rw n (lacks-erased w l id) in
+    let l₂ = ledgerAfter w l₁ second in
+    let g : toldAt told (length first + suc (length second)) ≡ ledgerStep w l₂ (Call.find key f output) .told =
+    ap (λ (t : List Told). toldAt t (length first + suc (length second))) q
+    ∙ told-later w empty first (Call.erase id) rest (length second)
+    ∙ told-at w l₁ second (Call.find key f output) third in
+    record {
+      found = ledgerIds w l₂ f;
+      finds = finds-as _ _ output (ledgerIds w l₂ f) (ledgerIds w l₂ f) g refl (find-tells w l₂ key f output (sym (ap accepted g) ∙ b));
+      lacks = found-lacks w l₂ f id (lacks-calls w l₁ id second k h₁);
     }

@@ -98,6 +98,29 @@ EraseExact suite =
     → accepted (toldAt told′ (length first + 1)) ≡ true
     → Without id (toldAt told (length first)) (toldAt told′ (length first + 1)) output output′
 
+-- the call does not insert the id
+abbrev pub BringsNot : List ℕ → Call → Type 0
+BringsNot id (Call.insert key f p u nonce ids nonces) = List·Memᴰ id (idsIn ids) → ⊥
+BringsNot id (Call.erase other) = Unit {0}
+BringsNot id (Call.find key f output) = Unit {0}
+BringsNot id (Call.count key f) = Unit {0}
+BringsNot id (Call.compact key nonces) = Unit {0}
+
+pub record FindsNoId (t : Told) (lent id : List ℕ) : Type 0 where
+  pub found : List (List ℕ)
+  pub finds : Finds t lent found
+  pub lacks : List·Memᴰ id found → ⊥
+
+-- (c) and no later find has it, of whatever field, until an insert brings it again
+unfoldable pub ErasedGone : Suite → Type 0
+ErasedGone suite =
+    (K : List ℕ) (z : Sizes) (first second third : List Call) (id key : List ℕ) (f : Field) (output : List ℕ) (told : List Told)
+    → Ran suite K z (first ++ (Call.erase id ∷ (second ++ (Call.find key f output ∷ third)))) told
+    → accepted (toldAt told (length first)) ≡ true
+    → All (BringsNot id) second
+    → accepted (toldAt told (length first + suc (length second))) ≡ true
+    → FindsNoId (toldAt told (length first + suc (length second))) output id
+
 -- a call made by a client
 pub record Made : Type 0 where
   pub client : ℕ
