@@ -238,7 +238,7 @@ outcome suite (Call.insert key f p u nonce ids nonces) before = (
   go (verdict (insertTokenTests key f p u nonce)),
 )
   where
-    go : (o : Option Answer) → Rattle.scheme.specs.Run.madeOr o (insertLowest suite before ids nonces (insertToken suite key f p u nonce)) (record { answer = done []; store = before; output = [] }) .output ≡ []
+    go : (o : Option Answer) → Rattle.scheme.specs.Run.madeOr o (insertLowest suite before ids nonces (insertToken suite key f p u nonce)) before [] .output ≡ []
     go none = unfold insertLowest in refl
     go (some r) = refl
 outcome suite (Call.erase id) before = record { answer = refl; output = refl; store = refl }
@@ -252,7 +252,7 @@ outcome suite (Call.compact key nonces) before = (
   go (verdict (keyTests key)),
 )
   where
-    go : (o : Option Answer) → Rattle.scheme.specs.Run.madeOr o (compactLowest suite before nonces (compactionToken suite key)) (record { answer = done []; store = before; output = [] }) .output ≡ []
+    go : (o : Option Answer) → Rattle.scheme.specs.Run.madeOr o (compactLowest suite before nonces (compactionToken suite key)) before [] .output ≡ []
     go none = unfold compactLowest in refl
     go (some r) = refl
 

@@ -79,14 +79,12 @@ module _ (suite : Suite) (before : List ℕ) where
   -- a call of a list
   unfoldable pub callLowest : Call → Result
   callLowest (Call.insert key f p u nonce ids nonces) =
-      madeOr (verdict (insertTokenTests key f p u nonce)) (insertLowest suite before ids nonces (insertToken suite key f p u nonce))
-      (record { answer = done []; store = before; output = [] })
+      madeOr (verdict (insertTokenTests key f p u nonce)) (insertLowest suite before ids nonces (insertToken suite key f p u nonce)) before []
   callLowest (Call.erase id) = Erase.erase before id
   callLowest (Call.find key f output) = findCall suite before key f output
   callLowest (Call.count key f) = countTokenCall suite before key f
   callLowest (Call.compact key nonces) =
-      madeOr (verdict (keyTests key)) (compactLowest nonces (compactionToken suite key))
-      (record { answer = done []; store = before; output = [] })
+      madeOr (verdict (keyTests key)) (compactLowest nonces (compactionToken suite key)) before []
 
 -- what a list of calls tells, and the store after it
 abbrev pub tellsLowest : Suite → List Call → List ℕ → List Told

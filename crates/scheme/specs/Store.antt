@@ -49,7 +49,7 @@ pub record Store : Type 0 where
   pub tC : Table
   pub tS : Table
 
--- each table is the part of the store that holds it [01:ST3 ST4]
+-- each table is the part of the one slice that holds it [01:ST1 ST3 ST4]
 unfoldable pub cut : List ℕ → Store
 cut b = record {
   header = take 8 b;
