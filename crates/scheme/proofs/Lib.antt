@@ -17,3 +17,4 @@ pub mod Claim
 pub mod Examples
 pub mod Outcomes
 pub mod Corollaries
+pub mod Premises
