@@ -18,7 +18,7 @@ use Rattle.table.proofs.Rows.{free-where-used}
 use Rattle.scheme.specs.Store.{clIn, countedRow, anchorRow}
 use Rattle.scheme.specs.Reading
 use Rattle.scheme.specs.Reading.{Reading, damage, reading}
-use Rattle.scheme.specs.Compaction.{heldPlaces, Anchored, logOf, freeLog, Treats, finished, stopped, skipped, anchored}
+use Rattle.scheme.specs.Compaction.{heldPlaces, freedCounters, nextAnchor, Anchored, logOf, freeLog, Treats, finished, stopped, skipped, anchored}
 use Rattle.scheme.specs.Ledger.{Pair}
 use Rattle.scheme.specs.Premise.{anchor}
 use Rattle.scheme.proofs.Setting.{Setting, OK, clOf, ctag, tag-length, counted-length, counted-mark}
@@ -161,6 +161,7 @@ module _ (x : Setting) where
       C₁ = rw log-is (counters-treat x tC L A i made C hi (f .pair) (f .ok) (f .run) (take 12 nonces) nonce-length tC₁ an₅)
 
       okC₁ : TableOK 61 (z .c) tC₁
+      unfolding freedCounters nextAnchor
       okC₁ =
           placed-ok 61 (z .c) (freeAt 61 (heldPlaces suite (clOf x (f .pair)) tC (C .pairs (f .pair) (f .ok) .start) (runOf x L (f .pair))) tC)
           _ tC₁ (an₅ .placed) (row-ok (f .pair) (take 12 nonces) (C .pairs (f .pair) (f .ok) .B + 1) (C .pairs (f .pair) (f .ok) .start + runOf x L (f .pair)) (made (f .pair)) nonce-length)

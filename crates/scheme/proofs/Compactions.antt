@@ -17,7 +17,7 @@ use Rattle.scheme.specs.Keys.{KS, compactionToken}
 use Rattle.scheme.specs.Suite.{Suite, number8}
 use Rattle.scheme.specs.Store.{Store, Sizes, cut, joined, sizesOf, headerBad, marksBad, clIn}
 use Rattle.scheme.specs.Refusals.{Test, _⇒_, verdict, answerOr, keyTests, compactionInputTests, tokenTests, lengthNot}
-use Rattle.scheme.specs.Compaction.{logOf, compactVerdict, Compacted, Compact, Treats}
+use Rattle.scheme.specs.Compaction.{logOf, logged, compactedStore, compactVerdict, Compacted, Compact, Treats}
 use Rattle.scheme.specs.Call
 use Rattle.scheme.specs.Call.{Call, Told}
 use Rattle.scheme.specs.Ledger.{Pair, samePair, Ledger, ledgerCompactVerdict, afterCompaction, ledgerStep}
@@ -74,6 +74,7 @@ module _ (x : Setting) (i : ℕ) (before : List ℕ) (l : Ledger) (hi : suc i �
         omega arith
 
     loop : Treats suite (z .c) (KS suite K) (distinct L) (s .st .tC) (s .st .tS) nonces 0 0 answer (d .tC′) (d .tS′)
+    unfolding logged
     loop = rw (sizes-are x i before l hi₀ s, cut-is x i before l hi₀ s) at (d .treats)
 
     result : Compacts x (KS suite K) i hi₀ (madeIn l) (l .A) 0 0 (length (distinct L)) (length L) answer (d .tC′) (d .tS′)
@@ -89,7 +90,7 @@ module _ (x : Setting) (i : ℕ) (before : List ℕ) (l : Ledger) (hi : suc i �
     A-is = ap (λ (n : ℕ). l .A + n) (sym (s .T-length))
 
     compact-sim : Sim x (suc i) after (afterCompaction (boundsOf z) l)
-    unfolding afterCompaction
+    unfolding afterCompaction compactedStore
     compact-sim = record {
       st = record { header = s .st .header; tM = s .st .tM; tV = s .st .tV; tC = d .tC′; tS = d .tS′ };
       bytes = d .written ∙ rw (cut-is x i before l hi₀ s) refl;

@@ -23,7 +23,7 @@ use Rattle.scheme.specs.Store.{Store, Sizes, cut, joined, sizesOf, heade
 use Rattle.scheme.specs.Reading
 use Rattle.scheme.specs.Reading.{Reading, reading, damaged, countOf, positionOf, limit}
 use Rattle.scheme.specs.Refusals.{Test, _⇒_, verdict, answerOr, idCount, idsIn, insertTokenTests, insertInputTests, tokenTests, lengthNot}
-use Rattle.scheme.specs.Insert.{entryRows, reverseRows, insertReading, newCount, insertStateTests, insertVerdict, Inserted, Insert}
+use Rattle.scheme.specs.Insert.{entryRows, reverseRows, newEntries, newReverses, newCounter, newLog, insertedStore, insertReading, newCount, insertStateTests, insertVerdict, Inserted, Insert}
 use Rattle.scheme.specs.Compaction.{logOf}
 use Rattle.scheme.specs.Call
 use Rattle.scheme.specs.Call.{Call, Told}
@@ -269,15 +269,19 @@ module _ (x : Setting) (i : ℕ) (before : List ℕ) (l : Ledger) (hi : suc i �
     position-read = ap positionOf (read p-is)
 
     pM : PlacedAll (s .st .tM) (entryRows suite (mtOf x pr) (meOf x pr) (madeIn l pr) (idsIn ids) nonces) (ins .tM′)
+    unfolding newEntries
     pM = rw (cut-is x i before l hi₀ s, Tokens.token-MT suite K f p u nonce, Tokens.token-ME suite K f p u nonce, count-read) at (ins .entries)
 
     pV : PlacedAll (s .st .tV) (reverseRows suite (mtOf x pr) (madeIn l pr) (idsIn ids)) (ins .tV′)
+    unfolding newReverses
     pV = rw (cut-is x i before l hi₀ s, Tokens.token-MT suite K f p u nonce, count-read) at (ins .reverses)
 
     pC : Placed (s .st .tC) (counterRow suite (clOf x pr) (P p-is .start + runOf x L pr + 1) (drop (12 * j) nonces) (madeIn l pr + j)) (ins .tC′)
+    unfolding newCounter
     pC = rw (cut-is x i before l hi₀ s, Tokens.token-CL suite K f p u nonce, position-read, new-is p-is) at (ins .counter)
 
     pS : Placed (s .st .tS) (logRow (Tokens.log suite K f p u nonce)) (ins .tS′)
+    unfolding newLog
     pS = rw (cut-is x i before l hi₀ s, Tokens.token-log suite K f p u nonce) at (ins .log)
 
     busyS : isFree (logRow (Tokens.log suite K f p u nonce)) ≡ false
@@ -358,7 +362,7 @@ module _ (x : Setting) (i : ℕ) (before : List ℕ) (l : Ledger) (hi : suc i �
         with-other pr (l .T) q ne ∙ s .T-member q oq ∙ sym (any-same (λ y. same y (clOf x q)) (logIn x (ins .tS′)) (clOf x pr ∷ L) logged ∙ rw d refl))
 
     insert-sim : Sim x (suc i) after l′
-    unfolding afterInsert st′
+    unfolding afterInsert st′ insertedStore
     insert-sim = record {
       st = st′;
       bytes = ins .written ∙ rw (cut-is x i before l hi₀ s) refl;

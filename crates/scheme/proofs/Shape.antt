@@ -14,7 +14,8 @@ use Rattle.table.specs.Table.{Row, Table, rows, markOf, used, freeRows, zeroRow
 use Rattle.table.specs.Table.PlacedAll.{none-placed, one-placed}
 use Rattle.table.proofs.Rows.{placed-none, placed-next, PlacedOne, flat-length, rows-flat, placed-all, placed-length, free-where-all, free-where-length, free-at-all, free-at-length, free-used, rows-zero, all-replicate}
 use Rattle.table.proofs.Counting.{all-map}
-use Rattle.scheme.specs.Store.{Sizes, sizesBad, lengthFor, headerOf, sizesOf, Store, cut, joined, headerBad, markBad, marksBad, fresh}
+use Rattle.answer.specs.Answer.{done}
+use Rattle.scheme.specs.Store.{Sizes, sizesBad, lengthFor, headerOf, sizesOf, Store, cut, joined, headerBad, markBad, marksBad, fresh, makeTests, make}
 
 pub record RowOK (w : ℕ) (r : Row) : Type 0 where
   pub width : length r ≡ w
@@ -179,3 +180,8 @@ placed-all-ok w n t [] t′ p a ok = rw (placed-none t t′ p) at ok
 placed-all-ok w n t (row ∷ rest) t′ p a ok =
     let q = placed-next t row rest t′ p in
     placed-all-ok w n (q .between) rest t′ (q .more) (a .1) (placed-ok w n t row (q .between) (q .one) (a .0) ok)
+
+-- making a store over a slice of its length gives the fresh store that the claim begins with
+pub make-fresh : (z : Sizes) (slice : List ℕ) → sizesBad z ≡ false → length slice ≡ lengthFor z → make z slice ≡ record { answer = done []; store = fresh z; output = [] }
+unfolding make makeTests
+make-fresh z slice good e = rw (good, eq-eqb (length slice) (lengthFor z) e) refl

@@ -18,7 +18,7 @@ use Rattle.table.proofs.Distinct.{without}
 use Rattle.table.proofs.Rows.{placed-same, free-at-none, Held, place-held, free-one-length, free-one-other, held-other}
 use Rattle.scheme.specs.Store.{countedRow, anchorRow}
 use Rattle.scheme.specs.Reading.{numbersAt, limit}
-use Rattle.scheme.specs.Compaction.{heldPlaces, Anchored}
+use Rattle.scheme.specs.Compaction.{heldPlaces, Anchored, freedCounters, nextAnchor}
 use Rattle.scheme.specs.Ledger.{Pair, samePair}
 use Rattle.scheme.specs.Premise.{Kind, counter, anchor}
 use Rattle.scheme.proofs.Setting.{Setting, OK, clOf, ctag, ctags, CTags, cl-differ, tag-length, counted-used, counted-tag, numbers-found, counter≢anchor, samePair-true, samePair-refl}
@@ -119,7 +119,7 @@ module _ (x : Setting) where
     row = countedRow suite (clOf x pr) (ctag x pr anchor (P .B + 1)) nonce (P .start + runOf x L pr) (made pr)
 
     placed : Placed t₁ row t′
-    unfolding anchorRow
+    unfolding anchorRow freedCounters nextAnchor
     placed = done .placed
 
     free : Freed x pr ok t (P .start) (runOf x L pr) t

@@ -7,7 +7,7 @@ use mathlib.Core.List.{List, [], _∷_, _++_, map}
 use lib.Dec.{ltb}
 use lib.ListN.{length, take, drop}
 use Rattle.table.specs.Lists.{same, distinct}
-use Rattle.table.specs.Table.{Table, used, placeOf, freeAt, freeWhere, Placed}
+use Rattle.table.specs.Table.{Row, Table, used, placeOf, freeAt, freeWhere, Placed}
 use Rattle.answer.specs.Answer.{Answer, done, refused}
 use Rattle.scheme.specs.Suite.{Suite}
 use Rattle.scheme.specs.Store.{Store, sizesOf, cut, joined, headerBad, marksBad, counterTag, anchorRow, clIn}
@@ -21,8 +21,14 @@ module _ (suite : Suite) where
   heldPlaces cl t start (suc k) = placeOf (counterTag suite cl (suc start)) t ∷ heldPlaces cl t (suc start) k
 
   -- one CL with k > 0: those rows are freed, anchor B + 1 is written with position and count [01:OP11]
+  unfoldable pub freedCounters : List ℕ → Table → ℕ → ℕ → Table
+  freedCounters cl t start k = freeAt 61 (heldPlaces cl t start k) t
+
+  unfoldable pub nextAnchor : List ℕ → List ℕ → ℕ → ℕ → ℕ → ℕ → Row
+  nextAnchor cl nonce B start k n = anchorRow suite cl (B + 1) nonce (start + k) n
+
   pub record Anchored (cl nonce : List ℕ) (t : Table) (B start k n : ℕ) (after : Table) : Type 0 where
-    pub placed : Placed (freeAt 61 (heldPlaces cl t start k) t) (anchorRow suite cl (B + 1) nonce (start + k) n) after
+    pub placed : Placed (freedCounters cl t start k) (nextAnchor cl nonce B start k n) after
 
   -- the CL in the used S rows, in order [01:ST12]
   unfoldable pub logOf : List ℕ → Table → List (List ℕ)
@@ -58,12 +64,19 @@ module _ (suite : Suite) (before nonces token : List ℕ) where
       ∷ (ltb (length nonces / 12) (length (used (cut before .tS))) ⇒ 19)
       ∷ [])))
 
-  -- distinct CL of S in order of first row; answer: anchors written, counters freed [01:OP10 OP13]
+  -- distinct CL of S in order of first row [01:OP10]
+  unfoldable pub logged : List (List ℕ)
+  logged = distinct (logOf suite token (cut before .tS))
+
+  unfoldable pub compactedStore : Table → Table → Store
+  compactedStore tC tS = record { header = cut before .header; tM = cut before .tM; tV = cut before .tV; tC = tC; tS = tS }
+
+  -- answer: anchors written, counters freed [01:OP13]
   pub record Compacted (answer : Answer) (after : List ℕ) : Type 0 where
     pub tC′ : Table
     pub tS′ : Table
-    pub treats : Treats suite (sizesOf before .c) token (distinct (logOf suite token (cut before .tS))) (cut before .tC) (cut before .tS) nonces 0 0 answer tC′ tS′
-    pub written : after ≡ joined (record { header = cut before .header; tM = cut before .tM; tV = cut before .tV; tC = tC′; tS = tS′ })
+    pub treats : Treats suite (sizesOf before .c) token logged (cut before .tC) (cut before .tS) nonces 0 0 answer tC′ tS′
+    pub written : after ≡ joined (compactedStore tC′ tS′)
 
   -- a refusal changes no byte, except 13, which Treats tells [01:RS13]
   pub record Compact (answer : Answer) (after : List ℕ) : Type 0 where

@@ -48,17 +48,34 @@ module _ (suite : Suite) (before ids nonces token : List ℕ) where
   unfoldable pub insertVerdict : Option Answer
   insertVerdict = verdict (insertInputTests ids nonces ++ (tokenTests 141 token ++ insertStateTests))
 
-  -- the rows written: entries in M and V, the counter at the next position, the token's last 44 bytes in S [01:OP1 OP2]
+  -- the rows to be written: entries in M and V, the counter at the next position, the token's last 44 bytes in S [01:OP1 OP2]
+  unfoldable pub newEntries : List Row
+  newEntries = entryRows suite (tokenMT token) (tokenME token) (countOf insertReading) (idsIn ids) nonces
+
+  unfoldable pub newReverses : List Row
+  newReverses = reverseRows suite (tokenMT token) (countOf insertReading) (idsIn ids)
+
+  unfoldable pub newCounter : Row
+  newCounter = counterRow suite (tokenCL token) (positionOf insertReading + 1) (drop (12 * idCount ids) nonces) newCount
+
+  unfoldable pub newLog : Row
+  newLog = logRow (tokenLog token)
+
+  -- the store with its four tables after the writing
+  unfoldable pub insertedStore : Table → Table → Table → Table → Store
+  insertedStore tM tV tC tS = record { header = cut before .header; tM = tM; tV = tV; tC = tC; tS = tS }
+
+  -- each row in a free row of its table
   pub record Inserted (after : List ℕ) : Type 0 where
     pub tM′ : Table
     pub tV′ : Table
     pub tC′ : Table
     pub tS′ : Table
-    pub entries : PlacedAll (cut before .tM) (entryRows suite (tokenMT token) (tokenME token) (countOf insertReading) (idsIn ids) nonces) tM′
-    pub reverses : PlacedAll (cut before .tV) (reverseRows suite (tokenMT token) (countOf insertReading) (idsIn ids)) tV′
-    pub counter : Placed (cut before .tC) (counterRow suite (tokenCL token) (positionOf insertReading + 1) (drop (12 * idCount ids) nonces) newCount) tC′
-    pub log : Placed (cut before .tS) (logRow (tokenLog token)) tS′
-    pub written : after ≡ joined (record { header = cut before .header; tM = tM′; tV = tV′; tC = tC′; tS = tS′ })
+    pub entries : PlacedAll (cut before .tM) newEntries tM′
+    pub reverses : PlacedAll (cut before .tV) newReverses tV′
+    pub counter : Placed (cut before .tC) newCounter tC′
+    pub log : Placed (cut before .tS) newLog tS′
+    pub written : after ≡ joined (insertedStore tM′ tV′ tC′ tS′)
 
   -- a refusal changes no byte [01:RS13]; otherwise the rows are written and the answer is the new count [01:OP3 OP14 OP15]
   pub record Insert (answer : Answer) (after : List ℕ) : Type 0 where
