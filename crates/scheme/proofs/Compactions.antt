@@ -16,7 +16,8 @@ use Rattle.table.specs.Table.{Table, used}
 use Rattle.scheme.specs.Keys.{KS, compactionToken}
 use Rattle.scheme.specs.Suite.{Suite, number8}
 use Rattle.scheme.specs.Store.{Store, Sizes, cut, joined, sizesOf, headerBad, marksBad, clIn}
-use Rattle.scheme.specs.Refusals.{Test, _⇒_, verdict, answerOr, keyTests, compactionInputTests, tokenTests, lengthNot}
+use Rattle.scheme.specs.Refusals.{keyTests, compactionInputTests, tokenTests, lengthNot}
+use Rattle.answer.specs.Verdict.{Test, _⇒_, verdict, answerOr}
 use Rattle.scheme.specs.Compaction.{logOf, logged, compactedStore, compactVerdict, Compacted, Compact, Treats}
 use Rattle.scheme.specs.Call
 use Rattle.scheme.specs.Call.{Call, Told}

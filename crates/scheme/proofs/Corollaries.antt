@@ -17,7 +17,8 @@ use Rattle.table.proofs.Counting.{same-true, ne-same, neither, select-append}
 use Rattle.scheme.specs.Suite.{Suite}
 use Rattle.scheme.specs.Labels.{Field, fieldLengthsBad}
 use Rattle.scheme.specs.Store.{Sizes}
-use Rattle.scheme.specs.Refusals.{Test, verdict, answerOr, unlessRefused, idCount, idsIn, lengthNot, insertTokenTests, insertInputTests, eraseInputTests, fieldTokenTests}
+use Rattle.scheme.specs.Refusals.{idCount, idsIn, lengthNot, insertTokenTests, insertInputTests, eraseInputTests, fieldTokenTests}
+use Rattle.answer.specs.Verdict.{Test, verdict, answerOr, unlessRefused}
 use Rattle.scheme.specs.Call
 use Rattle.scheme.specs.Call.{Call, Told}
 use Rattle.scheme.specs.Ledger.{Pair, samePair, Entry, Ledger, Bounds, empty, entryOf, withEntry, removed, ledgerInsertVerdict, appended, afterInsert, afterErase, afterCompaction, ledgerIds, ledgerSum, ledgerFindVerdict, ledgerCompactVerdict, nextOr, ledgerStep, ledgerTells}

@@ -22,7 +22,8 @@ use Rattle.scheme.specs.Keys.{MT, ME, CL, KS, insertToken, tokenP, token
 use Rattle.scheme.specs.Store.{Store, Sizes, cut, joined, sizesOf, headerBad, marksBad, entryTag, entryRow, reverseRow, counterRow, countedRow, logRow, clIn}
 use Rattle.scheme.specs.Reading
 use Rattle.scheme.specs.Reading.{Reading, reading, damaged, countOf, positionOf, limit}
-use Rattle.scheme.specs.Refusals.{Test, _⇒_, verdict, answerOr, idCount, idsIn, insertTokenTests, insertInputTests, tokenTests, lengthNot}
+use Rattle.scheme.specs.Refusals.{idCount, idsIn, insertTokenTests, insertInputTests, tokenTests, lengthNot}
+use Rattle.answer.specs.Verdict.{Test, _⇒_, verdict, answerOr}
 use Rattle.scheme.specs.Insert.{entryRows, reverseRows, newEntries, newReverses, newCounter, newLog, insertedStore, insertReading, newCount, insertStateTests, insertVerdict, Inserted, Insert}
 use Rattle.scheme.specs.Compaction.{logOf}
 use Rattle.scheme.specs.Call

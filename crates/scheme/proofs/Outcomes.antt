@@ -23,7 +23,8 @@ use Rattle.scheme.specs.Keys.{insertToken, compactionToken, tokenP, toke
 use Rattle.scheme.specs.Store.{Store, cut, joined, sizesOf, headerBad, marksBad, entryRow, reverseRow, counterTag, countedRow, counterRow, anchorRow, logRow}
 use Rattle.scheme.specs.Reading
 use Rattle.scheme.specs.Reading.{Reading, damage, reading, damaged, countOf, positionOf, limit, walk, isDamage, anchorsHeld, startOf, countersHeld, counterNumbers}
-use Rattle.scheme.specs.Refusals.{Test, _⇒_, verdict, Result, idCount, idsIn, insertTokenTests, insertInputTests, tokenTests, keyTests}
+use Rattle.scheme.specs.Refusals.{Result, idCount, idsIn, insertTokenTests, insertInputTests, tokenTests, keyTests}
+use Rattle.answer.specs.Verdict.{Test, _⇒_, verdict}
 use Rattle.scheme.specs.Insert.{entryRows, reverseRows, newEntries, newReverses, newCounter, newLog, insertedStore, insertReading, newCount, insertStateTests, insertVerdict, Inserted, Insert}
 use Rattle.scheme.specs.Compaction.{heldPlaces, freedCounters, nextAnchor, logged, compactedStore, Anchored, freeLog, Treats, finished, stopped, skipped, anchored, compactVerdict, Compacted, Compact}
 use Rattle.scheme.specs.Call

@@ -19,7 +19,8 @@ use Rattle.scheme.specs.Keys.{MT, ME, CL, MTof, MEof, CLof, KC, share, f
 use Rattle.scheme.specs.Store.{Sizes, Store, cut, joined, sizesOf, headerBad, marksBad, reverseId, reverseTag}
 use Rattle.scheme.specs.Reading
 use Rattle.scheme.specs.Reading.{Reading, reading, damaged, countOf}
-use Rattle.scheme.specs.Refusals.{Test, _⇒_, _⇒_carrying_, verdict, answerOr, unlessRefused, Result, eraseInputTests, fieldTokenTests, tokenTests, lengthNot}
+use Rattle.scheme.specs.Refusals.{Result, eraseInputTests, fieldTokenTests, tokenTests, lengthNot}
+use Rattle.answer.specs.Verdict.{Test, _⇒_, _⇒_carrying_, verdict, answerOr, unlessRefused}
 use Rattle.scheme.specs.Erase
 use Rattle.scheme.specs.Erase.{eraseVerdict, isReverse, erasedTags, isErased, erasedStore}
 use Rattle.scheme.specs.Find

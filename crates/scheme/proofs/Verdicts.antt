@@ -10,7 +10,8 @@ use lib.ListN.{length}
 use borrow.Author.Tests.{eqb-true, eq-eqb, not-false, ltb-true, ltb-false, lt-ltb, le-ltb}
 use Rattle.answer.specs.Answer.{Answer, refused}
 use Rattle.table.specs.Lists.{anyOf, upTo}
-use Rattle.scheme.specs.Refusals.{Test, _⇒_, _⇒_carrying_, verdict, lengthNot}
+use Rattle.scheme.specs.Refusals.{lengthNot}
+use Rattle.answer.specs.Verdict.{Test, _⇒_, _⇒_carrying_, verdict}
 
 abbrev pub orElse : Option Answer → Option Answer → Option Answer
 orElse none o = o

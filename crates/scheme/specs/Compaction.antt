@@ -12,7 +12,8 @@ use Rattle.answer.specs.Answer.{Answer, done, refused}
 use Rattle.scheme.specs.Suite.{Suite}
 use Rattle.scheme.specs.Store.{Store, sizesOf, cut, joined, headerBad, marksBad, counterTag, anchorRow, clIn}
 use Rattle.scheme.specs.Reading.{Reading, damage, counter, reading}
-use Rattle.scheme.specs.Refusals.{Test, _⇒_, verdict, compactionInputTests, tokenTests}
+use Rattle.scheme.specs.Refusals.{compactionInputTests, tokenTests}
+use Rattle.answer.specs.Verdict.{Test, _⇒_, verdict}
 
 module _ (suite : Suite) where
   -- the places of the rows held as counters start + 1 to start + k [01:OP11]

@@ -12,7 +12,8 @@ use Rattle.scheme.specs.Suite.{Suite}
 use Rattle.scheme.specs.Keys.{share, findMT, findME, findCL}
 use Rattle.scheme.specs.Store.{sizesOf, cut, headerBad, marksBad, entryTag, idIn}
 use Rattle.scheme.specs.Reading.{Reading, damaged, countOf, reading}
-use Rattle.scheme.specs.Refusals.{Test, _⇒_, _⇒_carrying_, verdict, answerOr, unlessRefused, Result, tokenTests}
+use Rattle.scheme.specs.Refusals.{Result, tokenTests}
+use Rattle.answer.specs.Verdict.{Test, _⇒_, _⇒_carrying_, verdict, answerOr, unlessRefused}
 
 module _ (suite : Suite) where
   -- a missing address is skipped, a held one gives its id [01:OP6]

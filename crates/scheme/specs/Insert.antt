@@ -12,7 +12,8 @@ use Rattle.scheme.specs.Suite.{Suite}
 use Rattle.scheme.specs.Keys.{tokenP, tokenMT, tokenME, tokenCL, tokenLog}
 use Rattle.scheme.specs.Store.{Store, sizesOf, cut, joined, headerBad, marksBad, entryRow, reverseRow, counterRow, logRow}
 use Rattle.scheme.specs.Reading.{Reading, limit, damaged, countOf, positionOf, reading}
-use Rattle.scheme.specs.Refusals.{Test, _⇒_, verdict, answerOr, idCount, idsIn, insertInputTests, tokenTests}
+use Rattle.scheme.specs.Refusals.{idCount, idsIn, insertInputTests, tokenTests}
+use Rattle.answer.specs.Verdict.{Test, _⇒_, verdict, answerOr}
 
 module _ (suite : Suite) where
   -- the rows of M and of V for ids at addresses g + 1 onward, one nonce per id [01:OP1 OP2]

@@ -9,7 +9,8 @@ use Rattle.scheme.specs.Keys.{insertToken, compactionToken}
 use Rattle.scheme.specs.Store.{Store, sizesOf, cut, joined}
 use Rattle.scheme.specs.Reading
 use Rattle.scheme.specs.Reading.{Reading, damage, reading}
-use Rattle.scheme.specs.Refusals.{verdict, answerOr, unlessRefused, Result, insertTokenTests, keyTests}
+use Rattle.scheme.specs.Refusals.{Result, insertTokenTests, keyTests}
+use Rattle.answer.specs.Verdict.{verdict, answerOr, unlessRefused}
 use Rattle.scheme.specs.Insert.{newCount, insertVerdict, newEntries, newReverses, newCounter, newLog, insertedStore}
 use Rattle.scheme.specs.Compaction.{freedCounters, nextAnchor, freeLog, compactVerdict, logged, compactedStore}
 use Rattle.scheme.specs.Erase

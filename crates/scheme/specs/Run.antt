@@ -8,7 +8,8 @@ use Rattle.answer.specs.Answer.{Answer}
 use Rattle.scheme.specs.Suite.{Suite}
 use Rattle.scheme.specs.Labels.{Field}
 use Rattle.scheme.specs.Keys.{insertToken, findToken, countToken, compactionToken}
-use Rattle.scheme.specs.Refusals.{verdict, Result, insertTokenTests, fieldTokenTests, keyTests}
+use Rattle.scheme.specs.Refusals.{Result, insertTokenTests, fieldTokenTests, keyTests}
+use Rattle.answer.specs.Verdict.{verdict}
 use Rattle.scheme.specs.Insert.{Insert}
 use Rattle.scheme.specs.Erase
 use Rattle.scheme.specs.Find

@@ -8,7 +8,8 @@ use Rattle.table.specs.Lists.{flat, anyOf}
 use Rattle.table.specs.Table.{Row, Table, rows, markOf}
 use Rattle.answer.specs.Answer.{done}
 use Rattle.scheme.specs.Suite.{Suite, number8}
-use Rattle.scheme.specs.Refusals.{Test, _⇒_, verdict, answerOr, unlessRefused, Result}
+use Rattle.scheme.specs.Refusals.{Result}
+use Rattle.answer.specs.Verdict.{Test, _⇒_, verdict, answerOr, unlessRefused}
 use Rattle.scheme.specs.Keys.{CT, CE}
 
 -- p, m, c, s of a header [01:ST2]
