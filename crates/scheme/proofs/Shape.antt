@@ -10,12 +10,12 @@ use lib.ListN.{length, getD, take, drop, replicate, length-append, length-replic
 use lib.Seq.{take-at, drop-at}
 use borrow.Author.Tests.{le-ltb, eq-eqb}
 use Rattle.table.specs.Lists.{flat, anyOf, All}
-use Rattle.table.specs.Table.{Row, Table, rows, markOf, used, freeRows, zeroRow, freeAt, freeWhere, Placed, PlacedAll}
+use Rattle.table.specs.Table.{Row, Table, rows, markOf, markBad, used, freeRows, zeroRow, freeAt, freeWhere, Placed, PlacedAll}
 use Rattle.table.specs.Table.PlacedAll.{none-placed, one-placed}
 use Rattle.table.proofs.Rows.{placed-none, placed-next, PlacedOne, flat-length, rows-flat, placed-all, placed-length, free-where-all, free-where-length, free-at-all, free-at-length, free-used, rows-zero, all-replicate}
 use Rattle.table.proofs.Counting.{all-map}
 use Rattle.answer.specs.Answer.{done}
-use Rattle.scheme.specs.Store.{Sizes, sizesBad, lengthFor, headerOf, sizesOf, Store, cut, joined, headerBad, markBad, marksBad, fresh, makeTests, make}
+use Rattle.scheme.specs.Store.{Sizes, sizesBad, lengthFor, headerOf, sizesOf, Store, cut, joined, headerBad, marksBad, fresh, makeTests, make}
 
 pub record RowOK (w : ℕ) (r : Row) : Type 0 where
   pub width : length r ≡ w

@@ -4,8 +4,8 @@ use mathlib.Core.Bool.{Bool, _||_, not}
 use mathlib.Core.List.{List, [], _∷_, _++_}
 use lib.Dec.{ltb, eqb}
 use lib.ListN.{length, getD, take, drop, replicate}
-use Rattle.table.specs.Lists.{flat, anyOf}
-use Rattle.table.specs.Table.{Row, Table, rows, markOf}
+use Rattle.table.specs.Lists.{flat}
+use Rattle.table.specs.Table.{Row, Table, rows, markBad}
 use Rattle.answer.specs.Answer.{done}
 use Rattle.scheme.specs.Suite.{Suite, number8}
 use Rattle.scheme.specs.Refusals.{Result}
@@ -69,9 +69,6 @@ unfoldable pub headerBad : List ℕ → Bool
 headerBad b = ltb (length b) 8 || (not (eqb (getD b 0 0) 1) || (sizesBad (sizesOf b) || not (eqb (length b) (lengthFor (sizesOf b)))))
 
 -- the condition of 11: a mark other than 0 and 1 [01:RS3]
-abbrev pub markBad : Table → Bool
-markBad t = anyOf (λ r. ltb 1 (markOf r)) t
-
 unfoldable pub marksBad : Store → Bool
 marksBad st = markBad (st .tM) || (markBad (st .tV) || (markBad (st .tC) || markBad (st .tS)))
 

@@ -1,3 +1,4 @@
 pub mod Counting
 pub mod Rows
 pub mod Distinct
+pub mod Walk

@@ -4,9 +4,9 @@ use mathlib.Core.Path.{_≡_}
 use mathlib.Core.Bool.{Bool, true, false, cond, not, _&&_}
 use mathlib.Core.Option.{Option}
 use mathlib.Core.List.{List, [], _∷_, map}
-use lib.Dec.{eqb}
+use lib.Dec.{eqb, ltb}
 use lib.ListN.{length, getD, take, drop, set, replicate}
-use Rattle.table.specs.Lists.{same, select, count, first, isSome, flat}
+use Rattle.table.specs.Lists.{same, select, count, first, anyOf, isSome, flat}
 
 abbrev pub Row : Type 0
 Row = List ℕ
@@ -25,6 +25,10 @@ markOf r = getD r 0 0
 
 abbrev pub isFree : Row → Bool
 isFree r = eqb (markOf r) 0
+
+-- a mark other than 0 and 1 stands [01:RS3]
+abbrev pub markBad : Table → Bool
+markBad t = anyOf (λ r. ltb 1 (markOf r)) t
 
 -- a row after its mark
 abbrev pub body : Row → List ℕ

@@ -1,2 +1,153 @@
-// One table of the store: rows of any width, marks, lookup, free rows, placing and freeing (document 01, "Store").
-// The definitions stand in specs/, their laws in specs/Laws.antt.
+// One table of the store: rows of any width over a lent part that holds n rows of w bytes (document
+// 01, "Store"). The definitions stand in specs/Table.antt, the laws in proofs/Rows.antt and Walk.antt.
+ghost use mathlib.Core.Path.{_≡_};
+ghost use mathlib.Core.Bool.{not, _&&_};
+ghost use Prim.Native.Nat.{_+_, _*_, _<_, _≤_};
+ghost use lib.Dec.{eqb, ltb};
+ghost use lib.ListN.{length, take, set};
+ghost use Rattle.table.specs.Lists.{bit, same as sameBytes, count};
+ghost use Rattle.table.specs.Table.{rows, isFree, body, used, freeRows, markBad, indexOf, placeOf, zeroRow, freeWhere};
+
+// What one pass over the marks tells.
+pub struct Marks {
+    // Whether a mark other than 0 and 1 stands.
+    pub bad: bool,
+    // How many rows are free.
+    pub free: usize,
+}
+
+// 1 for the mark of a free row.
+fn free_mark(x: u8) -> usize
+    ensures { λ r. ⌜ (r ≡ bit (eqb x 0)) × (r ≤ 1) ⌝ }
+{
+    if x == 0 { 1 } else { 0 }
+}
+
+// 1 for a mark other than 0 and 1.
+fn other_mark(x: u8) -> usize
+    ensures { λ r. ⌜ (r ≡ bit (ltb 1 x)) × (r ≤ 1) ⌝ }
+{
+    if 1 < x { 1 } else { 0 }
+}
+
+// The check of every mark, and the number of free rows, in one pass. [01:ST5 RS3]
+pub fn survey(t: &[u8], w: usize, n: usize) -> Marks
+    requires { ⌜ (1 ≤ w) × (length (now t) ≡ w * n) ⌝ }
+    ensures { λ r. ⌜ (r .bad ≡ markBad (rows w n (now (t .entry)))) × (r .free ≡ freeRows (rows w n (now (t .entry)))) ⌝ }
+{
+    let mut other = 0;
+    let mut free = 0;
+    let mut i = 0;
+    while i < n {
+        let at = w * i;
+        free += free_mark(t[at]);
+        other += other_mark(t[at]);
+        i += 1;
+    }
+    Marks {
+        bad: 0 < other,
+        free,
+    }
+}
+
+// Whether two texts of one length are equal. There is no early exit: that is what makes it fast.
+pub fn same(a: &[u8], b: &[u8]) -> bool
+    requires { ⌜ length (now a) ≡ length (now b) ⌝ }
+    ensures { λ r. ⌜ r ≡ sameBytes (now (a .entry)) (now (b .entry)) ⌝ }
+{
+    let mut agree = 0;
+    let mut i = 0;
+    while i < b.len() {
+        if a[i] == b[i] {
+            agree += 1;
+        }
+        i += 1;
+    }
+    agree == b.len()
+}
+
+// Whether a row is used and its body starts with a key.
+pub fn starts(row: &[u8], key: &[u8]) -> bool
+    requires { ⌜ length (now key) < length (now row) ⌝ }
+    ensures { λ r. ⌜ r ≡ (not (isFree (now (row .entry))) && sameBytes (take (length (now (key .entry))) (body (now (row .entry)))) (now (key .entry))) ⌝ }
+{
+    let e = key.len() + 1;
+    if row[0] == 0 {
+        false
+    } else {
+        same(&row[1..e], key)
+    }
+}
+
+// The used row of lowest index with a tag; n where there is none. [01:ST13]
+pub fn place(t: &[u8], w: usize, n: usize, tag: &[u8; 32]) -> usize
+    requires { ⌜ (33 ≤ w) × (length (now t) ≡ w * n) ⌝ }
+    ensures { λ r. ⌜ r ≡ placeOf (now (tag .entry)) (rows w n (now (t .entry))) ⌝ }
+{
+    let mut i = 0;
+    while i < n {
+        let at = w * i;
+        let e = at + w;
+        if starts(&t[at..e], tag) {
+            return i;
+        }
+        i += 1;
+    }
+    n
+}
+
+// The free row of lowest index; n where there is none.
+pub fn free_place(t: &[u8], w: usize, n: usize) -> usize
+    requires { ⌜ (1 ≤ w) × (length (now t) ≡ w * n) ⌝ }
+    ensures { λ r. ⌜ r ≡ indexOf isFree (rows w n (now (t .entry))) ⌝ }
+{
+    let mut i = 0;
+    while i < n {
+        let at = w * i;
+        if t[at] == 0 {
+            return i;
+        }
+        i += 1;
+    }
+    n
+}
+
+// Writes a row; every other row keeps its bytes. [01:ST15]
+pub fn put_row(t: &mut [u8], w: usize, n: usize, i: usize, row: &[u8])
+    requires { ⌜ (i < n) × ((length (now row) ≡ w) × (length (now t) ≡ w * n)) ⌝ }
+    ensures { λ _. ⌜ rows w n (now (t .exit)) ≡ set (rows w n (now (t .entry))) i (now (row .entry)) ⌝ }
+{
+    let at = w * i;
+    let e = at + w;
+    octets::copy(&mut t[at..e], row);
+}
+
+// Frees a row: zeroes all of it. [01:ST14]
+pub fn clear_row(t: &mut [u8], w: usize, n: usize, i: usize)
+    requires { ⌜ (i < n) × (length (now t) ≡ w * n) ⌝ }
+    ensures { λ _. ⌜ rows w n (now (t .exit)) ≡ set (rows w n (now (t .entry))) i (zeroRow w) ⌝ }
+{
+    let at = w * i;
+    let e = at + w;
+    octets::clear(&mut t[at..e]);
+}
+
+// Frees the used rows whose body starts with a key, and tells how many.
+pub fn clear_where(t: &mut [u8], w: usize, n: usize, key: &[u8]) -> usize
+    requires { ⌜ (length (now key) < w) × (length (now t) ≡ w * n) ⌝ }
+    ensures { λ r. ⌜ r ≡ count (λ b. sameBytes (take (length (now (key .entry))) b) (now (key .entry))) (used (rows w n (now (t .entry)))) ⌝ }
+    ensures { λ _. ⌜ rows w n (now (t .exit)) ≡ freeWhere w (λ b. sameBytes (take (length (now (key .entry))) b) (now (key .entry))) (rows w n (now (t .entry))) ⌝ }
+{
+    let mut cleared = 0;
+    let mut i = 0;
+    while i < n {
+        let at = w * i;
+        let e = at + w;
+        if starts(&t[at..e], key) {
+            clear_row(t, w, n, i);
+            cleared += 1;
+        }
+        i += 1;
+    }
+    cleared
+}

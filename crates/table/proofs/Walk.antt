@@ -1,0 +1,325 @@
+-- Laws for the code: the row at an index as a part of the bytes, one row further in a walk over the rows, and a row that was
+-- lent and has come back.
+use Prim.Native.Nat.{ℕ, zero, suc, _+_, _*_, _-_, _≤_, _<_}
+use mathlib.Core.Path.{_≡_, refl, sym, ap, _∙_}
+use mathlib.Core.Bool.{Bool, true, false, cond, not, _&&_, true≢false}
+use mathlib.Core.Option.{Option, none, some}
+use mathlib.Core.List.{List, [], _∷_, _++_, append-assoc}
+use native.Mathlib.Nat.{mul-zero, mul-suc, add-zero, mul-le-mul-left, add-sub-cancel-left, not-suc-le-zero, le-of-suc-le-suc}
+use native.Mathlib.Numerals.{add-one}
+use native.Mathlib.Omega.{arith}
+use lib.Dec.{eqb, ltb}
+use lib.ListN.{length, getD, take, drop, set, length-take, length-drop, drop-of-length-le, take-append-drop}
+use lib.Seq.{take-at, drop-at, take-add, take-take, drop-drop, drop-cons, getD-take, getD-drop, take-nil, length-take-le}
+use borrow.Author.Tests.{lt-ltb, le-ltb, ltb-true, ltb-false, eq-eqb, ne-eqb}
+use Rattle.octets.specs.Part.{back}
+use Rattle.octets.proofs.Parts.{length-part}
+use Rattle.table.specs.Lists.{bit, same, count, first, isSome, flat}
+use Rattle.table.specs.Table.{Row, Table, rows, markOf, markBad, isFree, body, used, freeRows, hasTag, lookup, holds, indexOf, placeOf, zeroRow, freeWhere, Placed}
+use Rattle.table.proofs.Counting.{any-count, any-none}
+use Rattle.table.proofs.Rows.{rows-length, index-holds, place-held}
+
+-- ---- the row at an index
+
+-- a row ends within its table
+pub row-end : (w n i : ℕ) → i < n → w * i + w ≤ w * n
+row-end w n i h = omega (arith, mul-le-mul-left w h, mul-suc w i)
+
+pub row-at : (w n i : ℕ) (t : List ℕ) → i < n → getD (rows w n t) i [] ≡ take w (drop (w * i) t)
+row-at w zero i t h = absurd (not-suc-le-zero h)
+row-at w (suc n) zero t h = rw (mul-zero w)
+row-at w (suc n) (suc i) t h =
+    let e : w + w * i ≡ w * suc i = omega (arith, mul-suc w i) in
+    row-at w n i (drop w t) (le-of-suc-le-suc h) ∙ ap (take w) (drop-drop (w * i) w t ∙ ap (λ (k : ℕ). drop k t) e)
+
+-- the part from a row's start to its end is the row
+pub row-part : (w n i : ℕ) (t : List ℕ) → i < n → take (w * i + w - w * i) (drop (w * i) t) ≡ getD (rows w n t) i []
+row-part w n i t h = ap (λ (k : ℕ). take k (drop (w * i) t)) (add-sub-cancel-left (w * i) w) ∙ sym (row-at w n i t h)
+
+pub row-length : (w n i : ℕ) (t : List ℕ) → i < n → length t ≡ w * n → length (take (w * i + w - w * i) (drop (w * i) t)) ≡ w
+row-length w n i t h e =
+    length-part t (w * i) (w * i + w) (omega (arith, row-end w n i h)) ∙ add-sub-cancel-left (w * i) w
+
+-- k bytes of a row, from its byte a on; its mark is byte 0
+pub field-at : (w n i a k : ℕ) (t : List ℕ) → i < n → a + k ≤ w → take k (drop a (getD (rows w n t) i [])) ≡ take k (drop (w * i + a) t)
+field-at w n i a k t h f =
+    ap (λ (r : Row). take k (drop a r)) (row-at w n i t h) ∙ ap (take k) (inner a w (drop (w * i) t)) ∙ shorter
+  where
+    inner : (a w : ℕ) (l : List ℕ) → drop a (take w l) ≡ take (w - a) (drop a l)
+    inner zero w l = ap (λ (m : ℕ). take m l) (let e : w ≡ w - 0 = omega arith in e)
+    inner (suc a) zero l = ap (λ (m : ℕ). take m (drop (suc a) l)) (let e : 0 ≡ 0 - suc a = omega arith in e)
+    inner (suc a) (suc w) [] = sym (take-nil (suc w - suc a))
+    inner (suc a) (suc w) (x ∷ xs) = inner a w xs ∙ ap (λ (m : ℕ). take m (drop a xs)) (let e : w - a ≡ suc w - suc a = omega arith in e)
+
+    shorter : take k (take (w - a) (drop a (drop (w * i) t))) ≡ take k (drop (w * i + a) t)
+    shorter = take-take k (w - a) (drop a (drop (w * i) t)) (omega arith) ∙ ap (take k) (drop-drop a (w * i) t)
+
+pub mark-at : (w n i : ℕ) (t : List ℕ) → 1 ≤ w → i < n → markOf (getD (rows w n t) i []) ≡ getD t (w * i) 0
+mark-at w n i t p h =
+    ap markOf (row-at w n i t h) ∙ getD-take w (drop (w * i) t) 0 0 p ∙ getD-drop (w * i) t 0 0
+    ∙ ap (λ (k : ℕ). getD t k 0) (add-zero (w * i))
+
+-- the rows, one after the other, are the bytes
+pub flat-rows : (w n : ℕ) (t : List ℕ) → length t ≡ w * n → flat (rows w n t) ≡ t
+flat-rows w zero t h = sym (empty t (h ∙ mul-zero w))
+  where
+    empty : (l : List ℕ) → length l ≡ 0 → l ≡ []
+    empty [] e = refl
+    empty (x ∷ xs) e = absurd (omega arith)
+flat-rows w (suc n) t h =
+    ap (λ (l : List ℕ). take w t ++ l) (flat-rows w n (drop w t) (omega (arith, length-drop w t, mul-suc w n))) ∙ take-append-drop w t
+
+-- ---- one row further
+
+-- counting by the mark
+pub count-turn : (p : ℕ → Bool) (w n i : ℕ) (t : List ℕ) → 1 ≤ w → i < n
+    → count (λ r. p (markOf r)) (drop i (rows w n t)) ≡ bit (p (getD t (w * i) 0)) + count (λ r. p (markOf r)) (drop (i + 1) (rows w n t))
+count-turn p w n i t q h =
+    rw (add-one i, drop-cons (rows w n t) i [] (rw (rows-length w n t) h))
+    (ap (λ (x : ℕ). bit (p x) + count (λ r. p (markOf r)) (drop (suc i) (rows w n t))) (mark-at w n i t q h))
+
+pub count-end : (p : Row → Bool) (w n i x z : ℕ) (t : List ℕ) → n ≤ i → x + count p (drop i (rows w n t)) ≡ z → x ≡ z
+count-end p w n i x z t h e =
+    let l : length (rows w n t) ≤ i = rw (rows-length w n t) h in
+    sym (add-zero x) ∙ ap (λ (r : Table). x + count p r) (sym (drop-of-length-le (rows w n t) l)) ∙ e
+
+-- some mark is bad where one or more were counted
+pub bad-counted : (t : Table) (k : ℕ) → k ≡ count (λ r. ltb 1 (markOf r)) t → ltb 0 k ≡ markBad t
+bad-counted t k e = go (markBad t) refl
+  where
+    go : (b : Bool) → markBad t ≡ b → ltb 0 k ≡ b
+    go true m = lt-ltb 0 k (omega (arith, any-count (λ r. ltb 1 (markOf r)) t m))
+    go false m = le-ltb 0 k (omega (arith, any-none (λ r. ltb 1 (markOf r)) t m))
+
+-- looking for the first row that passes
+module _ (q : Row → Bool) (w n i z : ℕ) (t : List ℕ) (e : i + indexOf q (drop i (rows w n t)) ≡ z) where
+  next : i < n → indexOf q (drop i (rows w n t)) ≡ cond (q (getD (rows w n t) i [])) zero (suc (indexOf q (drop (i + 1) (rows w n t))))
+  next h = rw (add-one i, drop-cons (rows w n t) i [] (rw (rows-length w n t) h))
+
+  pub index-here : i < n → q (getD (rows w n t) i []) ≡ true → i ≡ z
+  index-here h b = let k = rw b at (next h) in omega arith
+
+  pub index-skip : i < n → q (getD (rows w n t) i []) ≡ false → i + 1 + indexOf q (drop (i + 1) (rows w n t)) ≡ z
+  index-skip h b = let k = rw b at (next h) in omega arith
+
+  pub index-end : i ≤ n → n ≤ i → n ≡ z
+  index-end l h =
+      let r : length (rows w n t) ≤ i = rw (rows-length w n t) h in
+      let k : indexOf q (drop i (rows w n t)) ≡ 0 = ap (indexOf q) (drop-of-length-le (rows w n t) r) in
+      omega arith
+
+-- ---- what an index tells
+
+-- where a row is free, one is found, and it can take a row
+pub free-placed : (t : Table) (row : Row) → 1 ≤ freeRows t → Placed t row (set t (indexOf isFree t) row)
+free-placed t row h =
+    let k = inside t h in
+    record { at = indexOf isFree t; inside = k; free = index-holds isFree t k; put = refl }
+  where
+    inside : (t : Table) → 1 ≤ freeRows t → indexOf isFree t < length t
+    inside [] h = absurd (not-suc-le-zero h)
+    inside (r ∷ rs) h = go (isFree r) h (inside rs)
+      where
+        go : (b : Bool) → 1 ≤ bit b + freeRows rs → (1 ≤ freeRows rs → indexOf isFree rs < length rs) → cond b zero (suc (indexOf isFree rs)) < suc (length rs)
+        go true h k = omega arith
+        go false h k = let l = k (omega arith) in omega arith
+
+-- the row at a tag's place is what a lookup finds [01:ST13]
+pub place-found : (tag : List ℕ) (t : Table) → placeOf tag t < length t → lookup tag t ≡ some (body (getD t (placeOf tag t) []))
+unfolding placeOf lookup
+place-found tag t h = found t h
+  where
+    at : Table → ℕ
+    at t = indexOf (λ r. not (isFree r) && hasTag tag (body r)) t
+
+    found : (t : Table) → indexOf (λ r. not (isFree r) && hasTag tag (body r)) t < length t → first (hasTag tag) (used t) ≡ some (body (getD t (indexOf (λ r. not (isFree r) && hasTag tag (body r)) t) []))
+    found [] h = absurd (not-suc-le-zero h)
+    found (r ∷ rs) h = go (isFree r) h (found rs)
+      where
+        go : (b : Bool) → cond (not b && hasTag tag (body r)) zero (suc (at rs)) < suc (length rs)
+            → (at rs < length rs → first (hasTag tag) (used rs) ≡ some (body (getD rs (at rs) [])))
+            → first (hasTag tag) (cond b (used rs) (body r ∷ used rs)) ≡ some (body (getD (r ∷ rs) (cond (not b && hasTag tag (body r)) zero (suc (at rs))) []))
+        go true h k = k (le-of-suc-le-suc h)
+        go false h k = has (hasTag tag (body r)) h
+          where
+            has : (d : Bool) → cond d zero (suc (at rs)) < suc (length rs)
+                → cond d (some (body r)) (first (hasTag tag) (used rs)) ≡ some (body (getD (r ∷ rs) (cond d zero (suc (at rs))) []))
+            has true h = refl
+            has false h = k (le-of-suc-le-suc h)
+
+pub place-holds : (tag : List ℕ) (t : Table) → holds tag t ≡ ltb (placeOf tag t) (length t)
+place-holds tag t = go (ltb (placeOf tag t) (length t)) refl
+  where
+    go : (b : Bool) → ltb (placeOf tag t) (length t) ≡ b → holds tag t ≡ b
+    go true e = unfold holds in ap isSome (place-found tag t (ltb-true (placeOf tag t) (length t) e))
+    go false e = missing (holds tag t) refl
+      where
+        missing : (b : Bool) → holds tag t ≡ b → b ≡ false
+        missing true h = absurd (omega (arith, place-held tag t h .inside, ltb-false (placeOf tag t) (length t) e))
+        missing false h = refl
+
+pub place-none : (tag : List ℕ) (t : Table) → length t ≤ placeOf tag t → lookup tag t ≡ none
+place-none tag t h = go (lookup tag t) (unfold holds in (place-holds tag t ∙ le-ltb (placeOf tag t) (length t) h))
+  where
+    go : (o : Option (List ℕ)) → isSome o ≡ false → o ≡ none
+    go none e = refl
+    go (some x) e = absurd (true≢false e)
+
+-- ---- a row that was lent and has come back
+
+back-later : (w a e : ℕ) (t ys : List ℕ) → back t (w + a) (w + e) ys ≡ take w t ++ back (drop w t) a e ys
+back-later w a e t ys =
+    let d : w + e - (w + a) ≡ e - a = omega arith in
+    rw (take-add w a t, d, ← drop-drop a w t) (append-assoc (take w t) (take a (drop w t)) (ys ++ drop (e - a) (drop a (drop w t))))
+
+pub rows-back : (w n i : ℕ) (t ys : List ℕ) → i < n → length ys ≡ w → w * n ≤ length t → rows w n (back t (w * i) (w * i + w) ys) ≡ set (rows w n t) i ys
+rows-back w zero i t ys h l f = absurd (not-suc-le-zero h)
+rows-back w (suc n) zero t ys h l f =
+    let d : 0 + w - 0 ≡ w = omega arith in
+    rw (mul-zero w, d, take-at ys (drop w t) w l, drop-at ys (drop w t) w l) refl
+rows-back w (suc n) (suc i) t ys h l f =
+    let a : w * suc i ≡ w + w * i = omega (arith, mul-suc w i) in
+    let e : w * suc i + w ≡ w + (w * i + w) = omega arith in
+    let m = mul-suc w n in
+    let k : length (take w t) ≡ w = length-take-le w t (omega arith) in
+    rw (e, a, back-later w (w * i) (w * i + w) t ys, take-at (take w t) (back (drop w t) (w * i) (w * i + w) ys) w k, drop-at (take w t) (back (drop w t) (w * i) (w * i + w) ys) w k)
+    (ap (λ (r : Table). take w t ∷ r) (rows-back w n i (drop w t) ys (le-of-suc-le-suc h) l (omega (arith, length-drop w t))))
+
+-- ---- freeing rows one after the other
+
+-- the first i rows gone through
+abbrev freedTo : ℕ → (List ℕ → Bool) → ℕ → Table → Table
+freedTo w q zero t = t
+freedTo w q (suc i) [] = []
+freedTo w q (suc i) (r ∷ rs) = cond (not (isFree r) && q (body r)) (zeroRow w) r ∷ freedTo w q i rs
+
+-- the table t₀ as it is after its first i rows, and how many of them were freed
+pub record Freeing (w : ℕ) (q : List ℕ → Bool) (t₀ : Table) (i : ℕ) (t : Table) (k : ℕ) : Type 0 where
+  pub now : t ≡ freedTo w q i t₀
+  pub freed : k + count q (used (drop i t₀)) ≡ count q (used t₀)
+  pub few : k ≤ i
+
+module _ (w : ℕ) (q : List ℕ → Bool) where
+  freed-at : (i : ℕ) (t : Table) → getD (freedTo w q i t) i [] ≡ getD t i []
+  freed-at zero t = refl
+  freed-at (suc i) [] = refl
+  freed-at (suc i) (r ∷ rs) = freed-at i rs
+
+  freed-hit : (i : ℕ) (t : Table) → i < length t → (not (isFree (getD t i [])) && q (body (getD t i []))) ≡ true → set (freedTo w q i t) i (zeroRow w) ≡ freedTo w q (suc i) t
+  freed-hit i [] h e = absurd (not-suc-le-zero h)
+  freed-hit zero (r ∷ rs) h e = rw e
+  freed-hit (suc i) (r ∷ rs) h e = ap (λ (l : Table). cond (not (isFree r) && q (body r)) (zeroRow w) r ∷ l) (freed-hit i rs (le-of-suc-le-suc h) e)
+
+  freed-miss : (i : ℕ) (t : Table) → (not (isFree (getD t i [])) && q (body (getD t i []))) ≡ false → freedTo w q i t ≡ freedTo w q (suc i) t
+  freed-miss zero [] e = refl
+  freed-miss zero (r ∷ rs) e = rw e
+  freed-miss (suc i) [] e = refl
+  freed-miss (suc i) (r ∷ rs) e = ap (λ (l : Table). cond (not (isFree r) && q (body r)) (zeroRow w) r ∷ l) (freed-miss i rs e)
+
+  freed-all : (i : ℕ) (t : Table) → length t ≤ i → freedTo w q i t ≡ freeWhere w q t
+  freed-all zero [] h = refl
+  freed-all zero (r ∷ rs) h = absurd (not-suc-le-zero h)
+  freed-all (suc i) [] h = refl
+  freed-all (suc i) (r ∷ rs) h = ap (λ (l : Table). cond (not (isFree r) && q (body r)) (zeroRow w) r ∷ l) (freed-all i rs (le-of-suc-le-suc h))
+
+  used-next : (i : ℕ) (t : Table) → i < length t → count q (used (drop i t)) ≡ bit (not (isFree (getD t i [])) && q (body (getD t i []))) + count q (used (drop (i + 1) t))
+  used-next i t h = rw (add-one i, drop-cons t i [] h) (go (isFree (getD t i [])))
+    where
+      go : (b : Bool) → count q (cond b (used (drop (suc i) t)) (body (getD t i []) ∷ used (drop (suc i) t))) ≡ bit (not b && q (body (getD t i []))) + count q (used (drop (suc i) t))
+      go true = omega arith
+      go false = refl
+
+  pub freeing-none : (t₀ : Table) → Freeing w q t₀ 0 t₀ 0
+  freeing-none t₀ = record { now = refl; freed = omega arith; few = omega arith }
+
+  module _ (t₀ t : Table) (i k : ℕ) (f : Freeing w q t₀ i t k) where
+    -- the next row is still as it was
+    pub freeing-at : getD t i [] ≡ getD t₀ i []
+    freeing-at = ap (λ (l : Table). getD l i []) (f .now) ∙ freed-at i t₀
+
+    module _ (h : i < length t₀) (b : Bool) (e : b ≡ (not (isFree (getD t i [])) && q (body (getD t i [])))) where
+      test : b ≡ (not (isFree (getD t₀ i [])) && q (body (getD t₀ i [])))
+      test = e ∙ ap (λ (r : Row). not (isFree r) && q (body r)) freeing-at
+
+      pub freeing-hit : (t′ : Table) (k′ : ℕ) → b ≡ true → t′ ≡ set t i (zeroRow w) → k′ ≡ k + 1 → Freeing w q t₀ (i + 1) t′ k′
+      freeing-hit t′ k′ y s m =
+          let hit = sym test ∙ y in
+          let n = used-next i t₀ h in
+          let one = ap bit hit in
+          let c = f .freed in
+          let l = f .few in
+          record {
+            now = s ∙ ap (λ (l : Table). set l i (zeroRow w)) (f .now) ∙ freed-hit i t₀ h hit ∙ ap (λ (j : ℕ). freedTo w q j t₀) (sym (add-one i));
+            freed = omega arith;
+            few = omega arith;
+          }
+
+      pub freeing-miss : (t′ : Table) (k′ : ℕ) → b ≡ false → t′ ≡ t → k′ ≡ k → Freeing w q t₀ (i + 1) t′ k′
+      freeing-miss t′ k′ y s m =
+          let miss = sym test ∙ y in
+          let n = used-next i t₀ h in
+          let none = ap bit miss in
+          let c = f .freed in
+          let l = f .few in
+          record {
+            now = s ∙ f .now ∙ freed-miss i t₀ miss ∙ ap (λ (j : ℕ). freedTo w q j t₀) (sym (add-one i));
+            freed = omega arith;
+            few = omega arith;
+          }
+
+    pub freeing-all : length t₀ ≤ i → (k ≡ count q (used t₀)) × (t ≡ freeWhere w q t₀)
+    freeing-all h =
+        let c = f .freed in
+        let z : count q (used (drop i t₀)) ≡ 0 = ap (λ (l : Table). count q (used l)) (drop-of-length-le t₀ h) in
+        (omega arith, f .now ∙ freed-all i t₀ h)
+
+-- ---- bytes that agree
+
+abbrev pub agreed : List ℕ → List ℕ → ℕ
+agreed [] ys = 0
+agreed (x ∷ xs) [] = 0
+agreed (x ∷ xs) (y ∷ ys) = bit (eqb x y) + agreed xs ys
+
+pub agreed-next : (i : ℕ) (a b : List ℕ) → i < length a → i < length b
+    → agreed (drop i a) (drop i b) ≡ bit (eqb (getD a i 0) (getD b i 0)) + agreed (drop (i + 1) a) (drop (i + 1) b)
+agreed-next i a b h k = rw (add-one i, drop-cons a i 0 h, drop-cons b i 0 k)
+
+pub agreed-end : (i x z : ℕ) (a b : List ℕ) → length a ≤ i → x + agreed (drop i a) (drop i b) ≡ z → x ≡ z
+agreed-end i x z a b h e = sym (add-zero x) ∙ ap (λ (l : List ℕ). x + agreed l (drop i b)) (sym (drop-of-length-le a h)) ∙ e
+
+-- lists of one length are equal where as many bytes agree
+pub same-agreed : (a b : List ℕ) (k : ℕ) → length a ≡ length b → k ≡ agreed a b → eqb k (length b) ≡ same a b
+same-agreed a b k l e = go (same a b) refl
+  where
+    most : (a b : List ℕ) → agreed a b ≤ length b
+    most [] b = omega arith
+    most (x ∷ xs) [] = omega arith
+    most (x ∷ xs) (y ∷ ys) = at (eqb x y) (most xs ys)
+      where
+        at : (c : Bool) → agreed xs ys ≤ length ys → bit c + agreed xs ys ≤ suc (length ys)
+        at true h = omega arith
+        at false h = omega arith
+
+    all : (a b : List ℕ) → length a ≡ length b → same a b ≡ true → agreed a b ≡ length b
+    all [] [] l e = refl
+    all [] (y ∷ ys) l e = absurd (omega arith)
+    all (x ∷ xs) [] l e = absurd (omega arith)
+    all (x ∷ xs) (y ∷ ys) l e = at (eqb x y) e (all xs ys (omega arith))
+      where
+        at : (c : Bool) → (c && same xs ys) ≡ true → (same xs ys ≡ true → agreed xs ys ≡ length ys) → bit c + agreed xs ys ≡ suc (length ys)
+        at true e h = let k = h e in omega arith
+        at false e h = absurd (true≢false (sym e))
+
+    some : (a b : List ℕ) → length a ≡ length b → same a b ≡ false → agreed a b < length b
+    some [] [] l e = absurd (true≢false e)
+    some [] (y ∷ ys) l e = absurd (omega arith)
+    some (x ∷ xs) [] l e = absurd (omega arith)
+    some (x ∷ xs) (y ∷ ys) l e = at (eqb x y) e (most xs ys) (some xs ys (omega arith))
+      where
+        at : (c : Bool) → (c && same xs ys) ≡ false → agreed xs ys ≤ length ys → (same xs ys ≡ false → agreed xs ys < length ys) → bit c + agreed xs ys < suc (length ys)
+        at true e m h = let k = h e in omega arith
+        at false e m h = omega arith
+
+    go : (c : Bool) → same a b ≡ c → eqb k (length b) ≡ c
+    go true s = eq-eqb k (length b) (e ∙ all a b l s)
+    go false s = ne-eqb k (length b) (λ x. let h = some a b l s in absurd (omega arith))
