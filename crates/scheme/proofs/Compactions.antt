@@ -2,7 +2,7 @@
 use Prim.Native.Nat.{ℕ, zero, suc, _+_, _*_, _/_, _%_, _≤_, _<_}
 use mathlib.Core.Path.{_≡_, refl, sym, ap, _∙_}
 use mathlib.Core.Bool.{Bool, true, false, not, true≢false}
-use mathlib.Core.Logic.{_⊎_, inl, inr}
+use mathlib.Core.Logic.{_⊎_}
 use mathlib.Core.Option.{Option, none, some}
 use mathlib.Core.List.{List, [], _∷_, _++_, map}
 use native.Mathlib.Nat.{zero-add}
@@ -28,7 +28,7 @@ use Rattle.scheme.proofs.Shape.{Shaped, TableOK}
 use Rattle.scheme.proofs.Counters.{Counters}
 use Rattle.scheme.proofs.Compacting.{Compacts, compacts}
 use Rattle.scheme.proofs.Simulation.{madeIn, listIn, logIn, Sim, later, counters-later, counters-as}
-use Rattle.scheme.proofs.Verdicts.{orElse, both-none, verdict-append, passed, length-passed, length-refused}
+use Rattle.scheme.proofs.Verdicts.{orElse, both-none, verdict-append, passed, key-is, length-refused}
 use Rattle.scheme.proofs.Queries.{After, told-eq, cut-is, sizes-are, header-is, marks-are}
 
 module _ (x : Setting) (i : ℕ) (before : List ℕ) (l : Ledger) (hi : suc i ≤ length (x .calls)) (s : Sim x i before l) (nonces : List ℕ) where
@@ -120,11 +120,7 @@ module _ (x : Setting) (i : ℕ) (before : List ℕ) (l : Ledger) (hi : suc i �
 
   key-made : verdict (keyTests key) ≡ none → key ≡ K
   unfolding keyTests
-  key-made e = go keyed (length-passed 32 key (passed (lengthNot 32 key) _ _ e .0))
-    where
-      go : (key ≡ K) ⊎ (length key ≡ 32 → ⊥) → length key ≡ 32 → key ≡ K
-      go (inl p) l = p
-      go (inr n) l = absurd (n l)
+  key-made e = key-is K key keyed (passed (lengthNot 32 key) _ _ e .0)
 
   refused-step : (told : Told) (r : Answer) (after : List ℕ) → ledgerCompactVerdict (boundsOf z) l key nonces ≡ some r → told .answer ≡ r → told .output ≡ [] → after ≡ before
       → After x i (Call.compact key nonces) l told after

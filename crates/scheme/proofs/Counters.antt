@@ -23,7 +23,7 @@ use Rattle.scheme.specs.Reading.{Numbers, Reading, damage, walk, numbers
 use Rattle.scheme.specs.Compaction.{heldPlaces, Anchored}
 use Rattle.scheme.specs.Ledger.{Pair, samePair}
 use Rattle.scheme.specs.Premise.{Kind, counter, anchor}
-use Rattle.scheme.proofs.Setting.{Setting, OK, clOf, ctag, ctags, CTags, cl-differ, tag-length, counted-used, counted-tag, numbers-found, counter≢anchor, samePair-true, samePair-ne, samePair-refl}
+use Rattle.scheme.proofs.Setting.{Setting, OK, clOf, ctag, ctags, CTags, cl-differ, tag-length, counted-used, counted-tag, numbers-found, counter≢anchor, by-pair}
 
 -- ---- the walk
 
@@ -287,7 +287,7 @@ module _ (x : Setting) where
 
     pub counters-insert : Counters t′ L′ A (suc i) made′
     counters-insert = record {
-      pairs = λ q oq. go q oq (samePair q pr) refl;
+      pairs = by-pair pr (λ q. OK x q → PairCounter t′ L′ A (suc i) q (made′ q)) (λ oq. rw made-own own) other;
       log = pr ∷ C .log;
       log-OK = (ok, C .log-OK);
       log-same = record { counts = λ p. logged .counts p ∙ ap (λ (m : ℕ). bit (p (clOf x pr)) + m) (C .log-same .counts p) };
@@ -298,10 +298,8 @@ module _ (x : Setting) where
           omega arith;
     }
       where
-        go : (q : Pair) → OK x q → (b : Bool) → samePair q pr ≡ b → PairCounter t′ L′ A (suc i) q (made′ q)
-        go q oq true e = rw (samePair-true q pr e, made-own) own
-        go q oq false e =
-            let ne : q ≡ pr → ⊥ = λ w. true≢false (sym (samePair-refl pr) ∙ (rw w at e)) in
+        other : (q : Pair) → (q ≡ pr → ⊥) → OK x q → PairCounter t′ L′ A (suc i) q (made′ q)
+        other q ne oq =
             rw (made-other q ne)
             (unchanged t t′ L L′ A A i (suc i) q (made q) (placed-pair t pr counter pos row t′ ok placed₀ busy row-tag pos-low pos-high q oq ne)
-            (run-cons L L′ pr q ok oq logged ne) (omega arith) (omega arith) (omega arith) (C .pairs q oq))
+                (run-cons L L′ pr q ok oq logged ne) (omega arith) (omega arith) (omega arith) (C .pairs q oq))

@@ -1,8 +1,8 @@
 -- Insert tells what the ledger tells, and the store after it is the ledger's after it.
 use Prim.Native.Nat.{ℕ, zero, suc, _+_, _*_, _/_, _%_, _≤_, _<_}
 use mathlib.Core.Path.{_≡_, refl, sym, ap, _∙_}
-use mathlib.Core.Bool.{Bool, true, false, cond, not, _||_, true≢false}
-use mathlib.Core.Logic.{_⊎_, inl, inr}
+use mathlib.Core.Bool.{Bool, true, false, not, _||_, or-self}
+use mathlib.Core.Logic.{_⊎_}
 use mathlib.Core.Option.{Option, none, some}
 use mathlib.Core.List.{List, [], _∷_, _++_, map, List·Memᴰ}
 use native.Mathlib.Omega.{arith}
@@ -31,13 +31,13 @@ use Rattle.scheme.specs.Ledger.{Pair, samePair, Entry, Ledger, entryOf, 
 use Rattle.scheme.specs.Premise.{Kind, counter}
 use Rattle.scheme.specs.Run.{InsertCall}
 use Rattle.scheme.specs.Claim.{boundsOf}
-use Rattle.scheme.proofs.Setting.{Setting, OK, clOf, ctag, tag-length, counted-length, counted-mark, cl-differ, samePair-refl, samePair-true}
+use Rattle.scheme.proofs.Setting.{Setting, OK, clOf, ctag, tag-length, counted-length, counted-mark, cl-differ, by-pair}
 use Rattle.scheme.proofs.Shape.{Shaped, RowOK, TableOK, placed-ok, placed-all-ok, free-is}
 use Rattle.scheme.proofs.Counters.{runOf, PairCounter, Counters, counters-insert}
 use Rattle.scheme.proofs.Entries.{Item, Entries, mtOf, meOf, itemM, itemV, entries-insert-all}
 use Rattle.scheme.proofs.LedgerLaws.{entry-own, entry-other, listed-more, with-length, with-own, with-other}
 use Rattle.scheme.proofs.Simulation.{madeIn, listIn, logIn, Sim, later}
-use Rattle.scheme.proofs.Verdicts.{orElse, both-none, verdict-append, or-none, passed, length-passed, length-refused, shift}
+use Rattle.scheme.proofs.Verdicts.{orElse, both-none, verdict-append, or-none, passed, key-is, length-passed, length-refused, shift}
 use Rattle.scheme.proofs.Queries.{After, told-eq, cut-is, sizes-are, header-is, marks-are, read-is}
 use Rattle.scheme.proofs.Tokens
 
@@ -56,11 +56,7 @@ token-made K key f p u nonce k e =
     let c = passed (ltb 15 p || ltb p u) _ _ (b .1) in
     let d = passed (lengthNot 12 nonce) _ _ (c .1) in
     let n = neither (ltb 15 p) (ltb p u) (c .0) in
-    record { key-is = go k (length-passed 32 key (a .0)); valid = b .0; shared = ltb-false p u (n .1); nonce-length = length-passed 12 nonce (d .0) }
-  where
-    go : (key ≡ K) ⊎ (length key ≡ 32 → ⊥) → length key ≡ 32 → key ≡ K
-    go (inl p) l = p
-    go (inr n) l = absurd (n l)
+    record { key-is = key-is K key k (a .0); valid = b .0; shared = ltb-false p u (n .1); nonce-length = length-passed 12 nonce (d .0) }
 
 -- where nothing refuses the ids and nonces
 pub record InputGood (ids nonces : List ℕ) : Type 0 where
@@ -112,10 +108,6 @@ reverse-row-ok suite mt a id hi = record {
 reverse-rows-ok : (suite : Suite) (mt : List ℕ) (g : ℕ) (l : List (List ℕ)) → All (λ r. length r ≡ 16) l → All (RowOK 49) (reverseRows suite mt g l)
 reverse-rows-ok suite mt g [] a = tt
 reverse-rows-ok suite mt g (id ∷ l) a = (reverse-row-ok suite mt (suc g) id (a .0), reverse-rows-ok suite mt (suc g) l (a .1))
-
-or-same : (b : Bool) → (b || b) ≡ b
-or-same true = refl
-or-same false = refl
 
 -- the ledger's conditions 12 to 17
 abbrev ledgerTests : Sizes → Ledger → Field → ℕ → ℕ → List ℕ → List Test
@@ -176,7 +168,7 @@ module _ (x : Setting) (i : ℕ) (before : List ℕ) (l : Ledger) (hi : suc i �
       let c = used-M in
       let d = used-V in
       rw (cut-is x i before l hi₀ s, shift (freeRows (s .st .tM)) (H l) (z .m) j (omega arith), shift (freeRows (s .st .tV)) (H l) (z .m) j (omega arith))
-      (or-same (ltb (z .m) (H l + j)))
+      (or-self (ltb (z .m) (H l + j)))
 
   room-counter : ltb (freeRows (cut before .tC)) 1 ≡ ltb (z .c) (l .A + l .W + 1)
   room-counter =
@@ -347,15 +339,8 @@ module _ (x : Setting) (i : ℕ) (before : List ℕ) (l : Ledger) (hi : suc i �
       S-ok = placed-ok 45 (z .s) (s .st .tS) _ (ins .tS′) pS log-row-ok (s .shaped .S-ok);
     }
 
-    split : (T : Pair → Type 0) → T pr → ((q : Pair) → (q ≡ pr → ⊥) → T q) → (q : Pair) → T q
-    split T y n q = go (samePair q pr) refl
-      where
-        go : (b : Bool) → samePair q pr ≡ b → T q
-        go true e = rw (samePair-true q pr e) y
-        go false e = n q (λ w. true≢false (sym (samePair-refl pr) ∙ (rw w at e)))
-
     members : (q : Pair) → OK x q → anyOf (samePair q) (withPair pr (l .T)) ≡ anyOf (λ y. same y (clOf x q)) (logIn x (ins .tS′))
-    members = split (λ q. OK x q → anyOf (samePair q) (withPair pr (l .T)) ≡ anyOf (λ y. same y (clOf x q)) (logIn x (ins .tS′)))
+    members = by-pair pr (λ q. OK x q → anyOf (samePair q) (withPair pr (l .T)) ≡ anyOf (λ y. same y (clOf x q)) (logIn x (ins .tS′)))
         (λ oq. with-own pr (l .T) ∙ sym (any-same (λ y. same y (clOf x pr)) (logIn x (ins .tS′)) (clOf x pr ∷ L) logged ∙ rw (same-refl (clOf x pr)) refl))
         (λ q ne oq.
         let d : same (clOf x pr) (clOf x q) ≡ false = ne-same (clOf x pr) (clOf x q) (λ e. ne (sym (cl-differ x pr q (ok p-is) oq e))) in
@@ -369,7 +354,7 @@ module _ (x : Setting) (i : ℕ) (before : List ℕ) (l : Ledger) (hi : suc i �
       shaped = shaped′;
       counters = counters-after;
       entries = entries-after;
-      small = split (λ q. OK x q → madeIn l′ q ≤ 64 * suc i)
+      small = by-pair pr (λ q. OK x q → madeIn l′ q ≤ 64 * suc i)
           (λ oq. let m = s .small pr oq in let g = good .most in let e = made-own in omega arith)
           (λ q ne oq. let m = s .small q oq in let e = made-other q ne in omega arith);
       W-is = let a = same-length (logIn x (ins .tS′)) (clOf x pr ∷ L) logged in let w = s .W-is in omega arith;

@@ -2,7 +2,7 @@
 use Prim.Native.Nat.{ℕ, zero, suc, _+_, _*_, _≤_, _<_}
 use mathlib.Core.Path.{_≡_, refl, sym, ap, _∙_, fun-ext}
 use mathlib.Core.Bool.{Bool, true, false, not, _||_}
-use mathlib.Core.Logic.{_⊎_, inl, inr}
+use mathlib.Core.Logic.{_⊎_}
 use mathlib.Core.Option.{Option, none, some}
 use mathlib.Core.List.{List, [], _∷_, _++_, map, List·Memᴰ}
 use native.Mathlib.Omega.{arith}
@@ -36,7 +36,7 @@ use Rattle.scheme.proofs.Counters.{runOf, PairCounter, Counters, readin
 use Rattle.scheme.proofs.Entries.{Entries, entries-as, ids-to, entries-erase, erase-count, erasedIn, mtOf, meOf}
 use Rattle.scheme.proofs.LedgerLaws.{entry-removed, listed-removed}
 use Rattle.scheme.proofs.Simulation.{madeIn, listIn, logIn, Sim, later, counters-later, counters-as}
-use Rattle.scheme.proofs.Verdicts.{orElse, verdict-append, or-none, passed, length-passed, length-refused, map-upTo, none-upTo}
+use Rattle.scheme.proofs.Verdicts.{orElse, verdict-append, or-none, passed, key-is, length-refused, map-upTo, none-upTo}
 
 module _ (x : Setting) where
   open Setting x using (suite, K, z, calls)
@@ -170,11 +170,7 @@ module _ (x : Setting) where
     field-made key f k e =
         let a = passed (lengthNot 32 key) _ _ e in
         let b = passed (fieldLengthsBad f) _ _ (a .1) in
-        record { key-is = go k (length-passed 32 key (a .0)); valid = b .0 }
-      where
-        go : (key ≡ K) ⊎ (length key ≡ 32 → ⊥) → length key ≡ 32 → key ≡ K
-        go (inl p) l = p
-        go (inr n) l = absurd (n l)
+        record { key-is = key-is K key k (a .0); valid = b .0 }
 
     abbrev pairAt : Field → ℕ → Pair
     pairAt f u = record { field = f; u = u }

@@ -62,6 +62,14 @@ samePair-sym a b = go (samePair a b) refl
     go true e = let h = samePair-true a b e in sym (rw h (samePair-refl b))
     go false e = sym (samePair-ne b a (λ h. true≢false (sym (rw (← h) (samePair-refl b)) ∙ e)))
 
+-- what holds of a pair and of every other holds of all
+pub by-pair : (pr : Pair) (P : Pair → Type 0) → P pr → ((q : Pair) → (q ≡ pr → ⊥) → P q) → (q : Pair) → P q
+by-pair pr P own other q = go (samePair q pr) refl
+  where
+    go : (b : Bool) → samePair q pr ≡ b → P q
+    go true e = rw (samePair-true q pr e) own
+    go false e = other q (λ w. true≢false (sym (samePair-refl pr) ∙ (rw w at e)))
+
 -- ---- rows of C
 
 module _ (suite : Suite) where
