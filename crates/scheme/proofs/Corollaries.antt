@@ -5,27 +5,25 @@ use mathlib.Core.Bool.{Bool, true, false, cond, not, _||_, true≢false}
 use mathlib.Core.Logic.{_⊎_, inl, inr, ⊎-elim}
 use mathlib.Core.Option.{Option, none, some}
 use mathlib.Core.List.{List, [], _∷_, _++_, map, List·Memᴰ, List·Memᴰ·head, List·Memᴰ·tail, List·Memᴰ·cases-cons, List·Memᴰ·append-cases, List·Memᴰ·not-nil, Memᴰ·append-left, Memᴰ·append-right}
-use native.Mathlib.Nat.{add-zero}
-use native.Mathlib.Numerals.{add-one}
 use native.Mathlib.Omega.{arith}
 use lib.Dec.{eqb, ltb}
-use lib.ListN.{length, getD, drop}
+use lib.ListN.{length}
 use borrow.Author.Tests.{eqb-true, not-false, ltb-false}
 use Rattle.answer.specs.Answer.{Answer, done, refused}
 use Rattle.table.specs.Lists.{same, select, flat, upTo, All}
-use Rattle.table.proofs.Counting.{same-true, ne-same, neither, select-append}
+use Rattle.table.proofs.Counting.{ne-same, neither, select-append}
 use Rattle.scheme.specs.Suite.{Suite}
 use Rattle.scheme.specs.Labels.{Field, fieldLengthsBad}
 use Rattle.scheme.specs.Store.{Sizes}
-use Rattle.scheme.specs.Refusals.{Test, verdict, answerOr, unlessRefused, idCount, idsIn, lengthNot, insertTokenTests, insertInputTests, eraseInputTests, fieldTokenTests}
+use Rattle.scheme.specs.Refusals.{Test, verdict, answerOr, idCount, idsIn, lengthNot, insertTokenTests, insertInputTests, eraseInputTests, fieldTokenTests}
 use Rattle.scheme.specs.Call
 use Rattle.scheme.specs.Call.{Call, Told}
-use Rattle.scheme.specs.Ledger.{Pair, samePair, Entry, Ledger, Bounds, empty, entryOf, withEntry, removed, ledgerInsertVerdict, appended, afterInsert, afterErase, afterCompaction, ledgerIds, ledgerSum, ledgerFindVerdict, ledgerCompactVerdict, nextOr, ledgerStep, ledgerTells}
+use Rattle.scheme.specs.Ledger.{Pair, Entry, Ledger, Bounds, empty, entryOf, removed, ledgerInsertVerdict, appended, afterInsert, afterErase, afterCompaction, ledgerIds, ledgerSum, ledgerFindVerdict, ledgerCompactVerdict, nextOr, ledgerStep, ledgerTells}
 use Rattle.scheme.specs.Claim.{Claim, boundsOf}
-use Rattle.scheme.specs.Corollaries.{Ran, toldAt, accepted, Finds, FindsId, Keeps, NoIdLost, Query, finding, counting, callOf, CompactionHidden, Without, EraseExact, BringsNot, FindsNoId, ErasedGone, Made, ClientsAlike}
+use Rattle.scheme.specs.Corollaries.{Ran, toldAt, accepted, Finds, Keeps, NoIdLost, Query, finding, counting, callOf, CompactionHidden, EraseExact, BringsNot, ErasedGone, Made, ClientsAlike}
 use Rattle.scheme.proofs.Setting.{by-pair}
 use Rattle.scheme.proofs.LedgerLaws.{entry-own, entry-other, entry-removed}
-use Rattle.scheme.proofs.Verdicts.{orElse, both-none, verdict-append, passed, map-upTo}
+use Rattle.scheme.proofs.Verdicts.{both-none, verdict-append, passed, map-upTo}
 use Rattle.scheme.proofs.Claim.{claim}
 
 -- ---- the ledger along a list
@@ -322,8 +320,8 @@ lacks-insert : (z : Bounds) (l : Ledger) (id : List ℕ) (f : Field) (u : ℕ) (
 unfolding afterInsert appended
 lacks-insert z l id f u ids k h = by-pair (record { field = f; u = u }) (λ pr. Has (afterInsert z l f u ids) pr id → ⊥)
     (λ m.
-        let n : List·Memᴰ id (entryOf (record { field = f; u = u }) (l .entries) .ids ++ idsIn ids) = rw (entry-own (appended z l f u ids) (l .entries)) at m in
-        ⊎-elim (h (record { field = f; u = u })) k (List·Memᴰ·append-cases (entryOf (record { field = f; u = u }) (l .entries) .ids) n))
+    let n : List·Memᴰ id (entryOf (record { field = f; u = u }) (l .entries) .ids ++ idsIn ids) = rw (entry-own (appended z l f u ids) (l .entries)) at m in
+    ⊎-elim (h (record { field = f; u = u })) k (List·Memᴰ·append-cases (entryOf (record { field = f; u = u }) (l .entries) .ids) n))
     (λ pr ne m. h pr (rw (entry-other (appended z l f u ids) (l .entries) pr ne) at m))
 
 select-mem : (p : List ℕ → Bool) (id : List ℕ) (l : List (List ℕ)) → List·Memᴰ id (select p l) → List·Memᴰ id l

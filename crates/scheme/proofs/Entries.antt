@@ -2,20 +2,20 @@
 -- address once; gathering a pair's ids over addresses 1 to its number made gives the ledger's list.
 use Prim.Native.Nat.{ℕ, zero, suc, _+_, _*_, _≤_, _<_}
 use mathlib.Core.Path.{_≡_, refl, sym, ap, _∙_}
-use mathlib.Core.Bool.{Bool, true, false, cond, not, _&&_, _||_, true≢false, and-false}
+use mathlib.Core.Bool.{Bool, true, false, cond, not, _&&_, true≢false, and-false}
 use mathlib.Core.Option.{Option, none, some}
 use mathlib.Core.List.{List, [], _∷_, _++_, map, append-assoc, append-nil}
 use native.Mathlib.Nat.{add-zero}
 use native.Mathlib.Omega.{arith}
-use lib.Dec.{eqb, ltb}
-use lib.ListN.{length, getD, take, drop, length-append, length-drop}
+use lib.Dec.{eqb}
+use lib.ListN.{length, take, drop, length-drop}
 use lib.Seq.{take-at, drop-at, length-take-le}
-use borrow.Author.Tests.{eqb-true, eqb-false, eq-eqb}
+use borrow.Author.Tests.{eqb-true, eq-eqb}
 use Rattle.table.specs.Lists.{bit, same, select, count, first, anyOf, All, Same}
-use Rattle.table.specs.Table.{Row, Table, used, body, isFree, hasTag, lookup, freeWhere, Placed, PlacedAll}
-use Rattle.table.proofs.Counting.{both, same-true, same-refl, same-eq, ne-same, count-map, count-agree, count-ext, count-select, count-stricter, select-map, select-append, select-agree, first-agree, first-map, onSome, onlyIf, first-select, first-none, first-same, first-passes, all-select, all-map, all-both, all-counted, any-count, count-any, none-any, Same-refl, Same-trans, Same-cons, Same-select, Same-map, same-length}
-use Rattle.table.proofs.Rows.{placed-same, free-where-used, placed-none, placed-next, PlacedOne}
-use Rattle.scheme.specs.Suite.{Suite, number8}
+use Rattle.table.specs.Table.{Table, used, body, isFree, hasTag, lookup, freeWhere, Placed, PlacedAll}
+use Rattle.table.proofs.Counting.{both, same-true, same-refl, same-eq, ne-same, count-map, count-agree, count-select, count-stricter, select-map, select-append, select-agree, first-agree, first-map, onSome, onlyIf, first-select, first-same, first-passes, all-select, all-map, all-both, all-counted, count-any, none-any, Same-refl, Same-trans, Same-cons, Same-select}
+use Rattle.table.proofs.Rows.{placed-same, free-where-used, placed-none, placed-next}
+use Rattle.scheme.specs.Suite.{number8}
 use Rattle.scheme.specs.Keys.{MT, ME}
 use Rattle.scheme.specs.Store.{entryTag, entryRow, reverseRow, idIn, reverseId, reverseTag}
 use Rattle.scheme.specs.Insert.{entryRows, reverseRows}
@@ -213,16 +213,16 @@ module _ (x : Setting) where
     gathers′ : (q : Pair) → OK x q → gather q (made′ q) (g ∷ X .G) ≡ ids′ q
     gathers′ = by-pair pr (λ q. OK x q → gather q (made′ q) (g ∷ X .G) ≡ ids′ q)
         (λ oq.
-            let f : first (at pr (suc (made pr))) (g ∷ X .G) ≡ some g = rw (at-eq pr (suc (made pr)) g refl refl) refl in
-            ap (λ (n : ℕ). gather pr n (g ∷ X .G)) made-own
-            ∙ ap (λ (r : List (List ℕ)). r ++ idItem (first (at pr (suc (made pr))) (g ∷ X .G))) (gather-skip pr (made pr) g (X .G) (λ a l. higher a (λ e. omega arith)) ∙ X .gathers pr ok)
-            ∙ ap (λ (o : Option Item). ids pr ++ idItem o) f
-            ∙ sym ids-own)
+        let f : first (at pr (suc (made pr))) (g ∷ X .G) ≡ some g = rw (at-eq pr (suc (made pr)) g refl refl) refl in
+        ap (λ (n : ℕ). gather pr n (g ∷ X .G)) made-own
+        ∙ ap (λ (r : List (List ℕ)). r ++ idItem (first (at pr (suc (made pr))) (g ∷ X .G))) (gather-skip pr (made pr) g (X .G) (λ a l. higher a (λ e. omega arith)) ∙ X .gathers pr ok)
+        ∙ ap (λ (o : Option Item). ids pr ++ idItem o) f
+        ∙ sym ids-own)
         (λ q ne oq.
-            ap (λ (n : ℕ). gather q n (g ∷ X .G)) (made-other q ne)
-            ∙ gather-skip q (made q) g (X .G) (λ a l. apart q a ne)
-            ∙ X .gathers q oq
-            ∙ sym (ids-other q ne))
+        ap (λ (n : ℕ). gather q n (g ∷ X .G)) (made-other q ne)
+        ∙ gather-skip q (made q) g (X .G) (λ a l. apart q a ne)
+        ∙ X .gathers q oq
+        ∙ sym (ids-other q ne))
 
     pub entries-insert : Entries tM′ tV′ all′ ids′ made′
     entries-insert = record {

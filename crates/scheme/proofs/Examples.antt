@@ -1,8 +1,8 @@
 -- The worked examples hold: the checker computes both sides. The store runs over a small suite: F a sum of multiples, E the reversal.
-use Prim.Native.Nat.{ℕ, _+_, _*_}
-use mathlib.Core.Path.{_≡_, refl, sym, ap, _∙_}
-use mathlib.Core.List.{List, [], _∷_, _++_, reverse, reverse-reverse}
-use lib.ListN.{length, length-reverse}
+use Prim.Native.Nat.{_+_, _*_}
+use mathlib.Core.Path.{refl}
+use mathlib.Core.List.{reverse, reverse-reverse}
+use lib.ListN.{length-reverse}
 use Rattle.table.specs.Lists.{All}
 use Rattle.table.specs.Table.{lookup, holds, placeOf}
 use Rattle.scheme.specs.Suite.{Suite, bytesOf, number8, valueAfter, valueOf}
@@ -19,7 +19,7 @@ use Rattle.scheme.specs.Compaction.{freedCounters, nextAnchor, logOf, fr
 use Rattle.scheme.specs.Ledger.{samePair, empty, H, removed, withPair, ledgerInsertVerdict, appended, afterInsert, afterErase, ledgerIds, ledgerSum, ledgerFindVerdict, ledgerCompactVerdict, afterCompaction, ledgerStep}
 use Rattle.scheme.specs.Run.{findCall, countTokenCall}
 use Rattle.scheme.specs.Lowest.{insertedLowest, insertLowest, treatedLowest, compactLowest, callLowest}
-use Rattle.scheme.specs.Examples.{Example, Holds, examples}
+use Rattle.scheme.specs.Examples.{Holds, examples}
 use Rattle.scheme.proofs.Numbers.{bytes-length}
 
 -- a suite that computes: different keys and messages of the examples give different sums

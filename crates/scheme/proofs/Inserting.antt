@@ -1,5 +1,5 @@
 -- Insert tells what the ledger tells, and the store after it is the ledger's after it.
-use Prim.Native.Nat.{ℕ, zero, suc, _+_, _*_, _/_, _%_, _≤_, _<_}
+use Prim.Native.Nat.{ℕ, suc, _+_, _*_, _%_, _≤_}
 use mathlib.Core.Path.{_≡_, refl, sym, ap, _∙_}
 use mathlib.Core.Bool.{Bool, true, false, not, _||_, or-self}
 use mathlib.Core.Logic.{_⊎_}
@@ -10,34 +10,34 @@ use lib.Dec.{eqb, ltb}
 use lib.ListN.{length, take, drop, length-drop, length-append}
 use lib.Seq.{length-take-le}
 use borrow.Author.Tests.{eqb-true, not-false, ltb-false}
-use Rattle.answer.specs.Answer.{Answer, done, refused}
-use Rattle.table.specs.Lists.{bit, same, select, count, anyOf, flat, All, Same, distinct}
-use Rattle.table.specs.Table.{Table, Row, rows, used, body, isFree, markOf, freeRows, Placed, PlacedAll}
-use Rattle.table.proofs.Counting.{neither, same-sym, same-refl, same-length, ne-same, Same-trans, Same-cons, Same-map, Same-refl, Same-sym, count-le}
-use Rattle.table.proofs.Rows.{placed-same, rows-length, rows-wide, placed-none, placed-next, PlacedOne}
+use Rattle.answer.specs.Answer.{Answer, done}
+use Rattle.table.specs.Lists.{bit, same, anyOf, flat, All, Same}
+use Rattle.table.specs.Table.{used, body, isFree, freeRows, Placed, PlacedAll}
+use Rattle.table.proofs.Counting.{neither, same-refl, same-length, ne-same, Same-map}
+use Rattle.table.proofs.Rows.{placed-same, rows-length, rows-wide}
 use Rattle.table.proofs.Distinct.{any-same, distinct-same, distinct-more}
 use Rattle.scheme.specs.Suite.{Suite, number8}
 use Rattle.scheme.specs.Labels.{Field, fieldLengthsBad}
-use Rattle.scheme.specs.Keys.{MT, ME, CL, KS, insertToken, tokenP, tokenMT, tokenME, tokenCL, tokenLog}
-use Rattle.scheme.specs.Store.{Store, Sizes, cut, joined, sizesOf, headerBad, marksBad, entryTag, entryRow, reverseRow, counterRow, countedRow, logRow, clIn}
+use Rattle.scheme.specs.Keys.{KS, insertToken}
+use Rattle.scheme.specs.Store.{Store, Sizes, cut, entryTag, entryRow, reverseRow, counterRow, logRow, clIn}
 use Rattle.scheme.specs.Reading
-use Rattle.scheme.specs.Reading.{Reading, reading, damaged, countOf, positionOf, limit}
-use Rattle.scheme.specs.Refusals.{Test, _⇒_, verdict, answerOr, idCount, idsIn, insertTokenTests, insertInputTests, tokenTests, lengthNot}
+use Rattle.scheme.specs.Reading.{Reading, damaged, countOf, positionOf, limit}
+use Rattle.scheme.specs.Refusals.{Test, _⇒_, verdict, idCount, idsIn, insertTokenTests, insertInputTests, tokenTests, lengthNot}
 use Rattle.scheme.specs.Insert.{entryRows, reverseRows, newEntries, newReverses, newCounter, newLog, insertedStore, insertReading, newCount, insertStateTests, insertVerdict, Inserted, Insert}
 use Rattle.scheme.specs.Compaction.{logOf}
 use Rattle.scheme.specs.Call
 use Rattle.scheme.specs.Call.{Call, Told}
-use Rattle.scheme.specs.Ledger.{Pair, samePair, Entry, Ledger, entryOf, withEntry, listed, H, withPair, ledgerInsertVerdict, appended, afterInsert, ledgerStep, nextOr}
-use Rattle.scheme.specs.Premise.{Kind, counter}
+use Rattle.scheme.specs.Ledger.{Pair, samePair, Entry, Ledger, listed, H, withPair, ledgerInsertVerdict, appended, afterInsert, ledgerStep}
+use Rattle.scheme.specs.Premise.{counter}
 use Rattle.scheme.specs.Run.{InsertCall}
 use Rattle.scheme.specs.Claim.{boundsOf}
 use Rattle.scheme.proofs.Setting.{Setting, OK, clOf, ctag, tag-length, counted-length, counted-mark, cl-differ, by-pair}
-use Rattle.scheme.proofs.Shape.{Shaped, RowOK, TableOK, placed-ok, placed-all-ok, free-is}
+use Rattle.scheme.proofs.Shape.{Shaped, RowOK, placed-ok, placed-all-ok, free-is}
 use Rattle.scheme.proofs.Counters.{runOf, PairCounter, Counters, counters-insert}
 use Rattle.scheme.proofs.Entries.{Item, Entries, mtOf, meOf, itemM, itemV, entries-insert-all}
 use Rattle.scheme.proofs.LedgerLaws.{entry-own, entry-other, listed-more, with-length, with-own, with-other}
 use Rattle.scheme.proofs.Simulation.{madeIn, listIn, logIn, Sim, later}
-use Rattle.scheme.proofs.Verdicts.{orElse, both-none, verdict-append, or-none, passed, key-is, length-passed, length-refused, shift}
+use Rattle.scheme.proofs.Verdicts.{orElse, both-none, verdict-append, passed, key-is, length-passed, length-refused, shift}
 use Rattle.scheme.proofs.Queries.{After, told-eq, cut-is, sizes-are, header-is, marks-are, read-is}
 use Rattle.scheme.proofs.Tokens
 

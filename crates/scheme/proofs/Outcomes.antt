@@ -1,9 +1,8 @@
 -- No call is without an outcome, whatever the store's bytes: where the rules accept, a free row exists, and the one of lowest index
 -- serves. So the claim does not hold for want of runs.
-use Prim.Native.Nat.{ℕ, zero, suc, _+_, _*_, _≤_, _<_}
+use Prim.Native.Nat.{ℕ, zero, suc, _+_, _≤_, _<_}
 use mathlib.Core.Path.{_≡_, refl, sym, ap, _∙_}
-use mathlib.Core.Bool.{Bool, true, false, cond, not, _||_, true≢false}
-use mathlib.Core.Logic.{_≢_}
+use mathlib.Core.Bool.{Bool, true, false, cond, not, _||_}
 use mathlib.Core.Option.{Option, none, some}
 use mathlib.Core.List.{List, [], _∷_, _++_}
 use native.Mathlib.Omega.{arith}
@@ -11,26 +10,25 @@ use lib.Dec.{eqb, ltb}
 use lib.ListN.{length, getD, take, drop, set}
 use lib.Seq.{getD-set-same, getD-set-other}
 use borrow.Author.Tests.{ltb-false, eqb-true, eqb-false}
-use Rattle.answer.specs.Answer.{Answer, done, refused}
+use Rattle.answer.specs.Answer.{Answer}
 use Rattle.table.specs.Lists.{bit, count, All, distinct}
 use Rattle.table.specs.Table.{Row, Table, isFree, used, body, freeRows, indexOf, placeOf, holds, zeroRow, freeAt, Placed, PlacedAll}
 use Rattle.table.specs.Table.PlacedAll.{none-placed, one-placed}
 use Rattle.table.proofs.Counting.{neither, same-length}
-use Rattle.table.proofs.Rows.{zero-free, free-used, placed-same, placed-length, index-holds, Held, place-held, rows-length}
+use Rattle.table.proofs.Rows.{zero-free, free-used, placed-same, placed-length, index-holds, place-held, rows-length}
 use Rattle.scheme.specs.Suite.{Suite}
-use Rattle.scheme.specs.Labels.{Field}
-use Rattle.scheme.specs.Keys.{insertToken, compactionToken, tokenP, tokenMT, tokenME, tokenCL, tokenLog}
-use Rattle.scheme.specs.Store.{Store, cut, joined, sizesOf, headerBad, marksBad, entryRow, reverseRow, counterTag, countedRow, counterRow, anchorRow, logRow}
+use Rattle.scheme.specs.Keys.{insertToken, compactionToken, tokenP, tokenMT, tokenME}
+use Rattle.scheme.specs.Store.{cut, sizesOf, headerBad, marksBad, entryRow, reverseRow, counterTag}
 use Rattle.scheme.specs.Reading
-use Rattle.scheme.specs.Reading.{Reading, damage, reading, damaged, countOf, positionOf, limit, walk, isDamage, anchorsHeld, startOf, countersHeld, counterNumbers}
-use Rattle.scheme.specs.Refusals.{Test, _⇒_, verdict, Result, idCount, idsIn, insertTokenTests, insertInputTests, tokenTests, keyTests}
-use Rattle.scheme.specs.Insert.{entryRows, reverseRows, newEntries, newReverses, newCounter, newLog, insertedStore, insertReading, newCount, insertStateTests, insertVerdict, Inserted, Insert}
-use Rattle.scheme.specs.Compaction.{heldPlaces, freedCounters, nextAnchor, logged, compactedStore, Anchored, freeLog, Treats, finished, stopped, skipped, anchored, compactVerdict, Compacted, Compact}
+use Rattle.scheme.specs.Reading.{Reading, damage, reading, damaged, countOf, limit, walk, isDamage, anchorsHeld, startOf, countersHeld, counterNumbers}
+use Rattle.scheme.specs.Refusals.{verdict, Result, idCount, idsIn, insertTokenTests, insertInputTests, tokenTests, keyTests}
+use Rattle.scheme.specs.Insert.{entryRows, reverseRows, newEntries, newReverses, newCounter, newLog, insertedStore, insertReading, newCount, insertStateTests, insertVerdict, Insert}
+use Rattle.scheme.specs.Compaction.{heldPlaces, freedCounters, nextAnchor, logged, compactedStore, freeLog, Treats, finished, stopped, skipped, anchored, Compact}
 use Rattle.scheme.specs.Call
 use Rattle.scheme.specs.Call.{Call, Told}
-use Rattle.scheme.specs.Run.{Step, InsertCall, CompactCall, Gives, Run, ended, step}
+use Rattle.scheme.specs.Run.{Step, Run, ended, step}
 use Rattle.scheme.specs.Lowest.{place, placeAll, insertedLowest, insertLowest, Treated, byReading, treatLowest, treatedLowest, compactLowest, callLowest, tellsLowest, storeLowest}
-use Rattle.scheme.proofs.Verdicts.{orElse, both-none, verdict-append, passed}
+use Rattle.scheme.proofs.Verdicts.{both-none, verdict-append, passed}
 
 -- ---- a free row takes a new one
 

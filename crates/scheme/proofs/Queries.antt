@@ -1,39 +1,38 @@
 -- Erase, find and count tell what the ledger tells.
-use Prim.Native.Nat.{ℕ, zero, suc, _+_, _*_, _≤_, _<_}
+use Prim.Native.Nat.{ℕ, suc, _*_, _≤_}
 use mathlib.Core.Path.{_≡_, refl, sym, ap, _∙_, fun-ext}
-use mathlib.Core.Bool.{Bool, true, false, not, _||_}
+use mathlib.Core.Bool.{false, not}
 use mathlib.Core.Logic.{_⊎_}
 use mathlib.Core.Option.{Option, none, some}
 use mathlib.Core.List.{List, [], _∷_, _++_, map, List·Memᴰ}
 use native.Mathlib.Omega.{arith}
-use lib.Dec.{eqb, ltb}
+use lib.Dec.{ltb}
 use lib.ListN.{length, take, drop, length-append}
 use lib.Seq.{take-at, drop-at, drop-drop}
-use Rattle.answer.specs.Answer.{Answer, done, refused}
-use Rattle.table.specs.Lists.{same, select, count, anyOf, flat, sum, upTo, All}
-use Rattle.table.specs.Table.{Table, used, freeWhere}
+use Rattle.answer.specs.Answer.{Answer, done}
+use Rattle.table.specs.Lists.{same, select, count, anyOf, flat, sum, upTo}
+use Rattle.table.specs.Table.{used, freeWhere}
 use Rattle.table.proofs.Counting.{count-le, Same-refl}
-use Rattle.scheme.specs.Suite.{Suite}
 use Rattle.scheme.specs.Labels.{Field, fieldLengthsBad}
-use Rattle.scheme.specs.Keys.{MT, ME, CL, MTof, MEof, CLof, KC, share, findToken, countToken, findMT, findME, findCL}
-use Rattle.scheme.specs.Store.{Sizes, Store, cut, joined, sizesOf, headerBad, marksBad, reverseId, reverseTag}
+use Rattle.scheme.specs.Keys.{MT, ME, CL, MTof, MEof, CLof, findToken, countToken, findMT, findME, findCL}
+use Rattle.scheme.specs.Store.{Store, cut, joined, sizesOf, headerBad, marksBad, reverseId, reverseTag}
 use Rattle.scheme.specs.Reading
 use Rattle.scheme.specs.Reading.{Reading, reading, damaged, countOf}
 use Rattle.scheme.specs.Refusals.{Test, _⇒_, _⇒_carrying_, verdict, answerOr, unlessRefused, Result, eraseInputTests, fieldTokenTests, tokenTests, lengthNot}
 use Rattle.scheme.specs.Erase
 use Rattle.scheme.specs.Erase.{eraseVerdict, isReverse, erasedTags, isErased, erasedStore}
 use Rattle.scheme.specs.Find
-use Rattle.scheme.specs.Find.{idsTo, shareReading, idsOfShare, idsFound, findVerdict}
+use Rattle.scheme.specs.Find.{shareReading, idsOfShare, idsFound, findVerdict}
 use Rattle.scheme.specs.Count.{countVerdict, sumOfCounts, countCall}
 use Rattle.scheme.specs.Call
 use Rattle.scheme.specs.Call.{Call, Told}
-use Rattle.scheme.specs.Ledger.{Pair, Entry, Ledger, Bounds, entryOf, listed, removed, afterErase, ledgerIds, ledgerSum, ledgerFindVerdict, ledgerStep, Outcome}
+use Rattle.scheme.specs.Ledger.{Pair, Entry, Ledger, listed, removed, afterErase, ledgerIds, ledgerSum, ledgerFindVerdict, ledgerStep}
 use Rattle.scheme.specs.Run.{findCall, countTokenCall, Gives}
 use Rattle.scheme.specs.Claim.{boundsOf}
 use Rattle.scheme.proofs.Setting.{Setting, OK, clOf}
-use Rattle.scheme.proofs.Shape.{Shaped, TableOK, free-where-ok, used-le, sizes-is, cut-joined, header-good, marks-is}
-use Rattle.scheme.proofs.Counters.{runOf, PairCounter, Counters, reading-is}
-use Rattle.scheme.proofs.Entries.{Entries, entries-as, ids-to, entries-erase, erase-count, erasedIn, mtOf, meOf}
+use Rattle.scheme.proofs.Shape.{free-where-ok, used-le, sizes-is, cut-joined, header-good, marks-is}
+use Rattle.scheme.proofs.Counters.{runOf, reading-is}
+use Rattle.scheme.proofs.Entries.{entries-as, ids-to, entries-erase, erase-count, erasedIn}
 use Rattle.scheme.proofs.LedgerLaws.{entry-removed, listed-removed}
 use Rattle.scheme.proofs.Simulation.{madeIn, listIn, logIn, Sim, later, counters-later, counters-as}
 use Rattle.scheme.proofs.Verdicts.{orElse, verdict-append, or-none, passed, key-is, length-refused, map-upTo, none-upTo}

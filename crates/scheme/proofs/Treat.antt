@@ -1,28 +1,26 @@
 -- One CL of a compaction: the rows held as its counters are freed, its next anchor is written, its log rows are gone. A lemma of
 -- its own, over the rows of C and the log.
-use Prim.Native.Nat.{ℕ, zero, suc, _+_, _*_, _≤_, _<_}
+use Prim.Native.Nat.{ℕ, zero, suc, _+_, _≤_, _<_}
 use mathlib.Core.Path.{_≡_, refl, sym, ap, _∙_}
 use mathlib.Core.Bool.{Bool, true, false, not, _&&_, and-false, not-and-self}
 use mathlib.Core.Logic.{_≢_}
-use mathlib.Core.Option.{Option, none, some}
-use mathlib.Core.List.{List, [], _∷_, _++_, map}
-use native.Mathlib.Nat.{add-zero, add-suc, suc-add, zero-add}
+use mathlib.Core.Option.{none, some}
+use mathlib.Core.List.{List, [], _∷_, map}
 use native.Mathlib.Omega.{arith}
 use lib.Dec.{eqb}
-use lib.ListN.{length, getD, take, drop, set}
+use lib.ListN.{length, getD, take, set}
 use borrow.Author.Tests.{eqb-true, eqb-false}
-use Rattle.table.specs.Lists.{bit, same, select, count, All, Same}
+use Rattle.table.specs.Lists.{same, select, count}
 use Rattle.table.specs.Table.{Row, Table, used, body, isFree, hasTag, lookup, holds, placeOf, zeroRow, freeAt, Placed}
-use Rattle.table.proofs.Counting.{same-true, same-refl, same-eq, ne-same, same-ne, same-sym, count-select, count-split, count-ext, count-none, all-select, select-map, Same-select, same-length}
+use Rattle.table.proofs.Counting.{same-true, ne-same, same-sym, count-select, count-split, count-ext, count-none, all-select, select-map, Same-select, same-length}
 use Rattle.table.proofs.Distinct.{without}
 use Rattle.table.proofs.Rows.{placed-same, free-at-none, Held, place-held, free-one-length, free-one-other, held-other}
 use Rattle.scheme.specs.Store.{countedRow, anchorRow}
-use Rattle.scheme.specs.Reading.{numbersAt, limit}
 use Rattle.scheme.specs.Compaction.{heldPlaces, Anchored, freedCounters, nextAnchor}
-use Rattle.scheme.specs.Ledger.{Pair, samePair}
+use Rattle.scheme.specs.Ledger.{Pair}
 use Rattle.scheme.specs.Premise.{Kind, counter, anchor}
-use Rattle.scheme.proofs.Setting.{Setting, OK, clOf, ctag, ctags, CTags, cl-differ, tag-length, counted-used, counted-tag, numbers-found, counter≢anchor, by-pair}
-use Rattle.scheme.proofs.Counters.{runOf, PairCounter, Counters, Agree, unchanged, placed-pair, placed-number, placed-own, some-holds, same-holds}
+use Rattle.scheme.proofs.Setting.{Setting, OK, clOf, ctag, ctags, cl-differ, tag-length, counted-used, counted-tag, numbers-found, counter≢anchor, by-pair}
+use Rattle.scheme.proofs.Counters.{runOf, PairCounter, Counters, unchanged, placed-pair, placed-number, placed-own, some-holds, same-holds}
 
 module _ (x : Setting) (pr : Pair) (ok : OK x pr) (t : Table) where
   open Setting x using (suite, K, z, calls, premise)
@@ -205,6 +203,6 @@ module _ (x : Setting) where
             let c = C .pairs pr ok .position-calls in
             unchanged x t t′ L (without (clOf x pr) L) A (A + 1) i i q (made q)
             (λ h a l u.
-                placed-pair x t₁ pr anchor (P .B + 1) row t′ ok placed busy row-tag low high q oq ne h a l u
-                ∙ free .others (ctag x q h a) (λ b lb ub w. ne (sym (ctags x pr q counter h b a ok oq (omega arith) (omega arith) l u w .pair))))
+            placed-pair x t₁ pr anchor (P .B + 1) row t′ ok placed busy row-tag low high q oq ne h a l u
+            ∙ free .others (ctag x q h a) (λ b lb ub w. ne (sym (ctags x pr q counter h b a ok oq (omega arith) (omega arith) l u w .pair))))
             (run-without L pr q ok oq ne) (omega arith) (omega arith) (omega arith) (C .pairs q oq)

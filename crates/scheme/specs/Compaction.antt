@@ -1,7 +1,6 @@
 -- Document 01, "Operations": compaction. A relation for the row placing alone.
 use Prim.Native.Nat.{ℕ, zero, suc, _+_, _/_}
 use mathlib.Core.Path.{_≡_}
-use mathlib.Core.Bool.{Bool}
 use mathlib.Core.Option.{Option, none, some}
 use mathlib.Core.List.{List, [], _∷_, _++_, map}
 use lib.Dec.{ltb}
@@ -11,8 +10,8 @@ use Rattle.table.specs.Table.{Row, Table, used, placeOf, freeAt, freeWhere, Pla
 use Rattle.answer.specs.Answer.{Answer, done, refused}
 use Rattle.scheme.specs.Suite.{Suite}
 use Rattle.scheme.specs.Store.{Store, sizesOf, cut, joined, headerBad, marksBad, counterTag, anchorRow, clIn}
-use Rattle.scheme.specs.Reading.{Reading, damage, counter, reading}
-use Rattle.scheme.specs.Refusals.{Test, _⇒_, verdict, compactionInputTests, tokenTests}
+use Rattle.scheme.specs.Reading.{damage, counter, reading}
+use Rattle.scheme.specs.Refusals.{_⇒_, verdict, compactionInputTests, tokenTests}
 
 module _ (suite : Suite) where
   -- the places of the rows held as counters start + 1 to start + k [01:OP11]

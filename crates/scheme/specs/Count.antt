@@ -7,7 +7,7 @@ use Rattle.answer.specs.Answer.{Answer, done}
 use Rattle.scheme.specs.Suite.{Suite}
 use Rattle.scheme.specs.Store.{sizesOf, cut, headerBad, marksBad}
 use Rattle.scheme.specs.Reading.{damaged, countOf}
-use Rattle.scheme.specs.Refusals.{Test, _⇒_, verdict, answerOr, Result, tokenTests}
+use Rattle.scheme.specs.Refusals.{_⇒_, verdict, answerOr, Result, tokenTests}
 use Rattle.scheme.specs.Find.{shareReading}
 
 module _ (suite : Suite) (before token : List ℕ) where

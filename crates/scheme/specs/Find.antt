@@ -1,6 +1,5 @@
 -- Document 01, "Operations": find.
 use Prim.Native.Nat.{ℕ, zero, suc, _*_}
-use mathlib.Core.Bool.{Bool}
 use mathlib.Core.Option.{Option, none, some}
 use mathlib.Core.List.{List, [], _∷_, _++_, map}
 use lib.Dec.{ltb}
@@ -12,7 +11,7 @@ use Rattle.scheme.specs.Suite.{Suite}
 use Rattle.scheme.specs.Keys.{share, findMT, findME, findCL}
 use Rattle.scheme.specs.Store.{sizesOf, cut, headerBad, marksBad, entryTag, idIn}
 use Rattle.scheme.specs.Reading.{Reading, damaged, countOf, reading}
-use Rattle.scheme.specs.Refusals.{Test, _⇒_, _⇒_carrying_, verdict, answerOr, unlessRefused, Result, tokenTests}
+use Rattle.scheme.specs.Refusals.{_⇒_, _⇒_carrying_, verdict, answerOr, unlessRefused, Result, tokenTests}
 
 module _ (suite : Suite) where
   -- a missing address is skipped, a held one gives its id [01:OP6]

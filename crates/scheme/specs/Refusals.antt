@@ -3,11 +3,11 @@
 use Prim.Native.Nat.{ℕ, _+_, _*_, _/_, _%_}
 use mathlib.Core.Bool.{Bool, cond, not, _||_}
 use mathlib.Core.Option.{Option, none, some}
-use mathlib.Core.List.{List, [], _∷_, _++_}
+use mathlib.Core.List.{List, [], _∷_}
 use lib.Dec.{ltb, eqb}
 use lib.ListN.{length}
 use Rattle.table.specs.Table.{rows}
-use Rattle.answer.specs.Answer.{Answer, done, refused}
+use Rattle.answer.specs.Answer.{Answer, refused}
 use Rattle.scheme.specs.Labels.{Field, fieldLengthsBad}
 
 infix 10 _⇒_ _⇒_carrying_

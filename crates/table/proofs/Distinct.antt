@@ -1,5 +1,5 @@
 -- The distinct elements of a list: taking one out, and how many there are, whatever the order.
-use Prim.Native.Nat.{ℕ, zero, suc, _+_, _≤_, _<_}
+use Prim.Native.Nat.{ℕ, zero, suc, _+_, _≤_}
 use mathlib.Core.Path.{_≡_, refl, sym, ap, _∙_}
 use mathlib.Core.Bool.{Bool, true, false, cond, not, _&&_, _||_, true≢false, and-false, not-and-self}
 use mathlib.Core.List.{List, [], _∷_}
@@ -7,7 +7,7 @@ use native.Mathlib.Nat.{zero-add}
 use native.Mathlib.Omega.{arith}
 use lib.ListN.{length}
 use Rattle.table.specs.Lists.{bit, same, select, count, anyOf, Same, distinct}
-use Rattle.table.proofs.Counting.{same-true, same-refl, ne-same, count-select, count-split, count-ext, count-none, any-count, count-any, none-any, Same-select, same-length}
+use Rattle.table.proofs.Counting.{same-true, same-refl, ne-same, count-select, count-split, count-ext, count-none, any-count, count-any, Same-select, same-length}
 
 abbrev pub without : List ℕ → List (List ℕ) → List (List ℕ)
 without x l = select (λ y. not (same y x)) l

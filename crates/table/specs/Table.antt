@@ -1,12 +1,12 @@
 -- One table of the store, as the list of its rows, each with its mark (document 01, "Store"). The width w is a parameter.
 use Prim.Native.Nat.{ℕ, zero, suc, _<_}
 use mathlib.Core.Path.{_≡_}
-use mathlib.Core.Bool.{Bool, true, false, cond, not, _&&_}
+use mathlib.Core.Bool.{Bool, true, cond, not, _&&_}
 use mathlib.Core.Option.{Option}
-use mathlib.Core.List.{List, [], _∷_, map}
+use mathlib.Core.List.{List, [], _∷_}
 use lib.Dec.{eqb}
 use lib.ListN.{length, getD, take, drop, set, replicate}
-use Rattle.table.specs.Lists.{same, select, count, first, isSome, flat}
+use Rattle.table.specs.Lists.{same, count, first, isSome}
 
 abbrev pub Row : Type 0
 Row = List ℕ
