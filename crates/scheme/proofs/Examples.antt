@@ -14,10 +14,11 @@ use Rattle.scheme.specs.Refusals.{insertTokenTests, fieldTokenTests, key
 use Rattle.scheme.specs.Insert.{insertReading, newCount, insertStateTests, insertVerdict, newEntries, newReverses, newCounter, newLog, insertedStore}
 use Rattle.scheme.specs.Erase.{eraseVerdict, isReverse, erasedTags, isErased, erasedStore, erase}
 use Rattle.scheme.specs.Find.{shareReading, idsOfShare, idsFound, findVerdict, find}
-use Rattle.scheme.specs.Count.{countVerdict, sumOfCounts, countCall}
+use Rattle.scheme.specs.Count
+use Rattle.scheme.specs.Count.{countVerdict, sumOfCounts}
 use Rattle.scheme.specs.Compaction.{freedCounters, nextAnchor, logOf, freeLog, compactVerdict, logged, compactedStore}
 use Rattle.scheme.specs.Ledger.{samePair, empty, H, removed, withPair, ledgerInsertVerdict, appended, afterInsert, afterErase, ledgerIds, ledgerSum, ledgerFindVerdict, ledgerCompactVerdict, afterCompaction, ledgerStep}
-use Rattle.scheme.specs.Run.{findCall, countTokenCall}
+use Rattle.scheme.specs.Run.{findCall, countCall}
 use Rattle.scheme.specs.Lowest.{insertedLowest, insertLowest, treatedLowest, compactLowest, callLowest}
 use Rattle.scheme.specs.Examples.{Holds, examples}
 use Rattle.scheme.proofs.Numbers.{bytes-length}
@@ -33,5 +34,5 @@ small = record {
 }
 
 pub examples-hold : All Holds (examples small)
-unfolding lookup holds placeOf number8 valueOf sameField fieldLengthsBad sevens label KM KC KS MTof MEof CLof share MT ME CL CT CE insertToken findToken countToken compactionToken tokenP tokenMT tokenME tokenCL tokenLog findMT findME findCL sizesBad lengthFor headerOf sizesOf cut joined headerBad marksBad fresh entryTag entryRow reverseRow counterTag anchorTag countedRow counterRow anchorRow idIn plainIn clIn logRow reverseId reverseTag numbersAt anchorsHeld anchorNumbers startOf countersHeld counterNumbers isDamage reading insertTokenTests fieldTokenTests keyTests insertInputTests eraseInputTests compactionInputTests tokenTests insertReading newCount insertStateTests insertVerdict newEntries newReverses newCounter newLog insertedStore eraseVerdict isReverse erasedTags isErased erasedStore erase shareReading idsOfShare idsFound findVerdict find countVerdict sumOfCounts countCall logOf freeLog compactVerdict freedCounters nextAnchor logged compactedStore samePair empty H removed withPair ledgerInsertVerdict appended afterInsert afterErase ledgerIds ledgerSum ledgerFindVerdict ledgerCompactVerdict afterCompaction ledgerStep findCall countTokenCall insertedLowest insertLowest treatedLowest compactLowest callLowest
+unfolding lookup holds placeOf number8 valueOf sameField fieldLengthsBad sevens label KM KC KS MTof MEof CLof share MT ME CL CT CE insertToken findToken countToken compactionToken tokenP tokenMT tokenME tokenCL tokenLog findMT findME findCL sizesBad lengthFor headerOf sizesOf cut joined headerBad marksBad fresh entryTag entryRow reverseRow counterTag anchorTag countedRow counterRow anchorRow idIn plainIn clIn logRow reverseId reverseTag numbersAt anchorsHeld anchorNumbers startOf countersHeld counterNumbers isDamage reading insertTokenTests fieldTokenTests keyTests insertInputTests eraseInputTests compactionInputTests tokenTests insertReading newCount insertStateTests insertVerdict newEntries newReverses newCounter newLog insertedStore eraseVerdict isReverse erasedTags isErased erasedStore erase shareReading idsOfShare idsFound findVerdict find countVerdict sumOfCounts Count.count logOf freeLog compactVerdict freedCounters nextAnchor logged compactedStore samePair empty H removed withPair ledgerInsertVerdict appended afterInsert afterErase ledgerIds ledgerSum ledgerFindVerdict ledgerCompactVerdict afterCompaction ledgerStep findCall countCall insertedLowest insertLowest treatedLowest compactLowest callLowest
 examples-hold = (refl, (refl, (refl, (refl, (refl, (refl, (refl, (refl, tt))))))))

@@ -192,11 +192,11 @@ module _ (x : Setting) (i : ℕ) (before : List ℕ) (l : Ledger) (hi : suc i �
     abbrev P : PairCounter x (s .st .tC) L (l .A) i pr (madeIn l pr)
     P = s .counters .pairs pr ok
 
-    read : insertReading suite before ids nonces token ≡ Reading.counter (P .B) (P .start) (runOf x L pr) (madeIn l pr)
+    read : insertReading suite before token ≡ Reading.counter (P .B) (P .start) (runOf x L pr) (madeIn l pr)
     unfolding insertReading
     read = rw (Tokens.token-CL suite K f p u nonce) (read-is x i before l hi₀ s pr ok)
 
-    new-is : newCount suite before ids nonces token ≡ madeIn l pr + j
+    new-is : newCount suite before ids token ≡ madeIn l pr + j
     unfolding newCount
     new-is = rw read refl
 
@@ -207,7 +207,7 @@ module _ (x : Setting) (i : ℕ) (before : List ℕ) (l : Ledger) (hi : suc i �
       (go (eqb p (z .p)) refl)
     where
       go : (b : Bool) → eqb p (z .p) ≡ b
-          → verdict ((not b ⇒ 12) ∷ (damaged (insertReading suite before ids nonces token) ⇒ 13) ∷ (ltb limit (newCount suite before ids nonces token) ⇒ 14) ∷ (ltb (z .m) (H l + j) ⇒ 15) ∷ (ltb (z .c) (l .A + l .W + 1) ⇒ 16) ∷ (ltb (z .s) (l .W + 1) ⇒ 17) ∷ [])
+          → verdict ((not b ⇒ 12) ∷ (damaged (insertReading suite before token) ⇒ 13) ∷ (ltb limit (newCount suite before ids token) ⇒ 14) ∷ (ltb (z .m) (H l + j) ⇒ 15) ∷ (ltb (z .c) (l .A + l .W + 1) ⇒ 16) ∷ (ltb (z .s) (l .W + 1) ⇒ 17) ∷ [])
           ≡ verdict ((not b ⇒ 12) ∷ (ltb 4294967295 (madeIn l pr + j) ⇒ 14) ∷ (ltb (z .m) (H l + j) ⇒ 15) ∷ (ltb (z .c) (l .A + l .W + 1) ⇒ 16) ∷ (ltb (z .s) (l .W + 1) ⇒ 17) ∷ [])
       go true e =
           let q = eqb-true p (z .p) e in
@@ -254,10 +254,10 @@ module _ (x : Setting) (i : ℕ) (before : List ℕ) (l : Ledger) (hi : suc i �
           ∙ sym (Rattle.table.proofs.Counting.count-append t (idsIn ids) (listed (l .entries)));
     }
 
-    count-read : countOf (insertReading suite before ids nonces token) ≡ madeIn l pr
+    count-read : countOf (insertReading suite before token) ≡ madeIn l pr
     count-read = ap countOf (read p-is)
 
-    position-read : positionOf (insertReading suite before ids nonces token) ≡ P p-is .start + runOf x L pr
+    position-read : positionOf (insertReading suite before token) ≡ P p-is .start + runOf x L pr
     position-read = ap positionOf (read p-is)
 
     pM : PlacedAll (s .st .tM) (entryRows suite (mtOf x pr) (meOf x pr) (madeIn l pr) (idsIn ids) nonces) (ins .tM′)

@@ -98,8 +98,8 @@ module _ (suite : Suite) (before ids nonces token : List ℕ) where
       let c = passed (headerBad before) _ _ (b .1) in
       let d = passed (marksBad (cut before)) _ _ (c .1) in
       let f = passed (not (eqb (tokenP token) (sizesOf before .p))) _ _ (d .1) in
-      let g = passed (damaged (insertReading suite before ids nonces token)) _ _ (f .1) in
-      let h = passed (ltb limit (newCount suite before ids nonces token)) _ _ (g .1) in
+      let g = passed (damaged (insertReading suite before token)) _ _ (f .1) in
+      let h = passed (ltb limit (newCount suite before ids token)) _ _ (g .1) in
       let i = passed (ltb (freeRows (cut before .tM)) (idCount ids) || ltb (freeRows (cut before .tV)) (idCount ids)) _ _ (h .1) in
       let j = passed (ltb (freeRows (cut before .tC)) 1) _ _ (i .1) in
       let k = passed (ltb (freeRows (cut before .tS)) 1) _ _ (j .1) in
@@ -119,8 +119,8 @@ module _ (suite : Suite) (before ids nonces token : List ℕ) where
     wrote = λ e.
         let r = room e in
         let n = rows-length 16 (idCount ids) ids in
-        let a = entries-number suite (tokenMT token) (tokenME token) (countOf (insertReading suite before ids nonces token)) (idsIn ids) nonces in
-        let b = reverses-number suite (tokenMT token) (countOf (insertReading suite before ids nonces token)) (idsIn ids) in
+        let a = entries-number suite (tokenMT token) (tokenME token) (countOf (insertReading suite before token)) (idsIn ids) nonces in
+        let b = reverses-number suite (tokenMT token) (countOf (insertReading suite before token)) (idsIn ids) in
         let hM = r .inM in
         let hV = r .inV in
         record {
@@ -128,8 +128,8 @@ module _ (suite : Suite) (before ids nonces token : List ℕ) where
           tV′ = insertedLowest suite before ids nonces token .tV;
           tC′ = insertedLowest suite before ids nonces token .tC;
           tS′ = insertedLowest suite before ids nonces token .tS;
-          entries = placed-all-lowest (cut before .tM) _ (entries-busy suite (tokenMT token) (tokenME token) (countOf (insertReading suite before ids nonces token)) (idsIn ids) nonces) (omega arith);
-          reverses = placed-all-lowest (cut before .tV) _ (reverses-busy suite (tokenMT token) (countOf (insertReading suite before ids nonces token)) (idsIn ids)) (omega arith);
+          entries = placed-all-lowest (cut before .tM) _ (entries-busy suite (tokenMT token) (tokenME token) (countOf (insertReading suite before token)) (idsIn ids) nonces) (omega arith);
+          reverses = placed-all-lowest (cut before .tV) _ (reverses-busy suite (tokenMT token) (countOf (insertReading suite before token)) (idsIn ids)) (omega arith);
           counter = placed-lowest (cut before .tC) _ (r .inC);
           log = placed-lowest (cut before .tS) _ (r .inTS);
           written = rw e refl;

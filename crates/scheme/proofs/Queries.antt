@@ -23,11 +23,12 @@ use Rattle.scheme.specs.Erase
 use Rattle.scheme.specs.Erase.{eraseVerdict, isReverse, erasedTags, isErased, erasedStore}
 use Rattle.scheme.specs.Find
 use Rattle.scheme.specs.Find.{shareReading, idsOfShare, idsFound, findVerdict}
-use Rattle.scheme.specs.Count.{countVerdict, sumOfCounts, countCall}
+use Rattle.scheme.specs.Count
+use Rattle.scheme.specs.Count.{countVerdict, sumOfCounts}
 use Rattle.scheme.specs.Call
 use Rattle.scheme.specs.Call.{Call, Told}
 use Rattle.scheme.specs.Ledger.{Pair, Entry, Ledger, listed, removed, afterErase, ledgerIds, ledgerSum, ledgerFindVerdict, ledgerStep}
-use Rattle.scheme.specs.Run.{findCall, countTokenCall, Gives}
+use Rattle.scheme.specs.Run.{findCall, countCall, Gives}
 use Rattle.scheme.specs.Claim.{boundsOf}
 use Rattle.scheme.proofs.Setting.{Setting, OK, clOf}
 use Rattle.scheme.proofs.Shape.{free-where-ok, used-le, sizes-is, cut-joined, header-good, marks-is}
@@ -238,7 +239,7 @@ module _ (x : Setting) where
           let d = CL-length in
           length-append (MTof suite K f) (MEof suite K f ++ CLof suite K f) ∙ omega arith
 
-      ids-is : (output : List ℕ) (u : ℕ) → u ≤ z .p → idsOfShare suite before (findToken suite K f) output u ≡ listIn l (pairAt f u)
+      ids-is : (output : List ℕ) (u : ℕ) → u ≤ z .p → idsOfShare suite before (findToken suite K f) u ≡ listIn l (pairAt f u)
       unfolding idsOfShare
       ids-is output u h =
           let ok = ok-at u h in
@@ -248,9 +249,9 @@ module _ (x : Setting) where
           (ids-to x (s .st .tM) (s .st .tV) (listed (l .entries)) (listIn l) (madeIn l) (s .entries) (pairAt f u) ok (madeIn l (pairAt f u)) (omega arith)
           ∙ s .entries .gathers (pairAt f u) ok))
 
-      found-is : (output : List ℕ) → idsFound suite before (findToken suite K f) output ≡ ledgerIds (boundsOf z) l f
+      found-is : (output : List ℕ) → idsFound suite before (findToken suite K f) ≡ ledgerIds (boundsOf z) l f
       unfolding idsFound ledgerIds
-      found-is output = rw sizes-are (ap flat (map-upTo (z .p) (idsOfShare suite before (findToken suite K f) output) (λ u. listIn l (pairAt f u)) (ids-is output)))
+      found-is output = rw sizes-are (ap flat (map-upTo (z .p) (idsOfShare suite before (findToken suite K f)) (λ u. listIn l (pairAt f u)) (ids-is output)))
 
       find-verdict : (output : List ℕ) → findVerdict suite before (findToken suite K f) output
           ≡ verdict ((ltb (length output) (16 * length (ledgerIds (boundsOf z) l f)) ⇒ 18 carrying (length (ledgerIds (boundsOf z) l f) ∷ [])) ∷ [])
@@ -297,13 +298,13 @@ module _ (x : Setting) where
               }
 
       count-result : verdict (fieldTokenTests key f) ≡ none
-          → countTokenCall suite before key f ≡ record { answer = done (ledgerSum (boundsOf z) l f ∷ []); store = before; output = [] }
-      unfolding countTokenCall countCall countToken
+          → countCall suite before key f ≡ record { answer = done (ledgerSum (boundsOf z) l f ∷ []); store = before; output = [] }
+      unfolding countCall Count.count countToken
       count-result e =
           let m = field-made key f keyed e in
           rw (e, m .key-is, count-verdict f (m .valid) named, sum-is f (m .valid) named) refl
 
-      pub count-step : (told : Told) (after : List ℕ) → Gives (countTokenCall suite before key f) told after → After i (Call.count key f) l told after
+      pub count-step : (told : Told) (after : List ℕ) → Gives (countCall suite before key f) told after → After i (Call.count key f) l told after
       unfolding ledgerStep
       count-step told after g = go (verdict (fieldTokenTests key f)) refl
         where
@@ -315,7 +316,7 @@ module _ (x : Setting) where
                 sim = rw (g .store ∙ ap (λ (w : Result). w .store) r) (later x i before l hi s);
               }
           go (some r) e =
-              let c : countTokenCall suite before key f ≡ record { answer = r; store = before; output = [] } = unfold countTokenCall in rw e refl in
+              let c : countCall suite before key f ≡ record { answer = r; store = before; output = [] } = unfold countCall in rw e refl in
               record {
                 told-is = told-eq told _ (g .answer ∙ ap (λ (w : Result). w .answer) c ∙ sym (rw e refl)) (g .output ∙ ap (λ (w : Result). w .output) c);
                 sim = rw (g .store ∙ ap (λ (w : Result). w .store) c) (later x i before l hi s);

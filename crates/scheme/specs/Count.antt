@@ -23,5 +23,5 @@ module _ (suite : Suite) (before token : List ℕ) where
   unfoldable pub sumOfCounts : ℕ
   sumOfCounts = sum (map (λ u. countOf (shareReading suite before token u)) (upTo (sizesOf before .p)))
 
-  unfoldable pub countCall : Result
-  countCall = record { answer = answerOr countVerdict (done (sumOfCounts ∷ [])); store = before; output = [] }
+  unfoldable pub count : Result
+  count = record { answer = answerOr countVerdict (done (sumOfCounts ∷ [])); store = before; output = [] }
