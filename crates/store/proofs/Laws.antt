@@ -172,3 +172,14 @@ unfit b r ts e = go (headerBad b) (marksBad (cut b)) e
 -- a slice that passed is not refused by 10 or 11
 pub fit-verdict : (b : List ℕ) (z : Shape) (ts : List Test) → checkedOf b ≡ Fit z → verdict ((headerBad b ⇒ 10) ∷ (marksBad (cut b) ⇒ 11) ∷ ts) ≡ verdict ts
 fit-verdict b z ts e = let f = fit b z e in rw (f .header, f .marks) refl
+
+-- the range of its sizes, and its length
+pub record FitLength (b : List ℕ) (z : Shape) : Type 0 where
+  pub range : InRange (record { p = z .p; m = z .m; c = z .c; s = z .s })
+  pub whole : length b ≡ 8 + 110 * z .m + 61 * z .c + 45 * z .s
+
+pub fit-length : (b : List ℕ) (z : Shape) → checkedOf b ≡ Fit z → FitLength b z
+fit-length b z e =
+    let f = fit b z e in
+    let g = good-header b (f .header) in
+    subst (FitLength b) (sym (f .shape)) (record { range = g .range; whole = g .whole })

@@ -119,18 +119,18 @@ module _ (q : Row → Bool) (w n i z : ℕ) (t : List ℕ) (e : i + indexOf q (d
 -- ---- what an index tells
 
 -- where a row is free, one is found, and it can take a row
+pub free-inside : (t : Table) → 1 ≤ freeRows t → indexOf isFree t < length t
+free-inside [] h = absurd (not-suc-le-zero h)
+free-inside (r ∷ rs) h = go (isFree r) h (free-inside rs)
+  where
+    go : (b : Bool) → 1 ≤ bit b + freeRows rs → (1 ≤ freeRows rs → indexOf isFree rs < length rs) → cond b zero (suc (indexOf isFree rs)) < suc (length rs)
+    go true h k = omega arith
+    go false h k = let l = k (omega arith) in omega arith
+
 pub free-placed : (t : Table) (row : Row) → 1 ≤ freeRows t → Placed t row (set t (indexOf isFree t) row)
 free-placed t row h =
-    let k = inside t h in
+    let k = free-inside t h in
     record { at = indexOf isFree t; inside = k; free = index-holds isFree t k; put = refl }
-  where
-    inside : (t : Table) → 1 ≤ freeRows t → indexOf isFree t < length t
-    inside [] h = absurd (not-suc-le-zero h)
-    inside (r ∷ rs) h = go (isFree r) h (inside rs)
-      where
-        go : (b : Bool) → 1 ≤ bit b + freeRows rs → (1 ≤ freeRows rs → indexOf isFree rs < length rs) → cond b zero (suc (indexOf isFree rs)) < suc (length rs)
-        go true h k = omega arith
-        go false h k = let l = k (omega arith) in omega arith
 
 -- the row at a tag's place is what a lookup finds [01:ST13]
 pub place-found : (tag : List ℕ) (t : Table) → placeOf tag t < length t → lookup tag t ≡ some (body (getD t (placeOf tag t) []))
