@@ -117,6 +117,9 @@ module _ (z : Sizes) (b : List ℕ) where
 
 -- ---- the checks
 
+pub any-same : {a b c d a′ b′ c′ d′ : Bool} → a ≡ a′ → b ≡ b′ → c ≡ c′ → d ≡ d′ → (a || (b || (c || d))) ≡ (a′ || (b′ || (c′ || d′)))
+any-same p q r s = λ i. p i || (q i || (r i || s i))
+
 module _ (b : List ℕ) where
   pub checked-header : headerBad b ≡ true → Refused Header ≡ checkedOf b
   unfolding checkedOf
@@ -135,12 +138,12 @@ module _ (b : List ℕ) where
     checked-mark f = rw (e, sym marks ∙ f)
 
     pub checked-fit : v .bad ≡ false
-        → Fit (record { p = z .p; m = z .m; c = z .c; s = z .s; freeM = v .freeM; freeV = v .freeV; freeC = v .freeC; freeS = v .freeS }) ≡ checkedOf b
+        → Fit (record { p = z .p; m = z .m; c = z .c; s = z .s; free = v .free }) ≡ checkedOf b
     unfolding checkedOf cut
     checked-fit f =
         let g = found in
         rw (e, sym marks ∙ f)
-        (λ i. Fit (record { p = q i .p; m = q i .m; c = q i .c; s = q i .s; freeM = g .inM i; freeV = g .inV i; freeC = g .inC i; freeS = g .ofS i }))
+        (λ i. Fit (record { p = q i .p; m = q i .m; c = q i .c; s = q i .s; free = g .free i }))
 
 -- ---- what a caller learns
 

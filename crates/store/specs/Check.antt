@@ -19,19 +19,13 @@ shapeOf b = record {
   m = sizesOf b .m;
   c = sizesOf b .c;
   s = sizesOf b .s;
-  freeM = freeRows (cut b .tM);
-  freeV = freeRows (cut b .tV);
-  freeC = freeRows (cut b .tC);
-  freeS = freeRows (cut b .tS);
+  free = record { m = freeRows (cut b .tM); v = freeRows (cut b .tV); c = freeRows (cut b .tC); s = freeRows (cut b .tS) };
 }
 
 -- what one pass over the marks of a slice with these sizes tells
 pub record Surveys (b : List ℕ) (m c s : ℕ) (r : Surveyed) : Type 0 where
   pub bad : r .bad ≡ (markBad (rows 61 m (drop 8 b)) || (markBad (rows 49 m (drop (8 + 61 * m) b)) || (markBad (rows 61 c (drop (8 + 110 * m) b)) || markBad (rows 45 s (drop (8 + 110 * m + 61 * c) b)))))
-  pub inM : r .freeM ≡ freeRows (rows 61 m (drop 8 b))
-  pub inV : r .freeV ≡ freeRows (rows 49 m (drop (8 + 61 * m) b))
-  pub inC : r .freeC ≡ freeRows (rows 61 c (drop (8 + 110 * m) b))
-  pub ofS : r .freeS ≡ freeRows (rows 45 s (drop (8 + 110 * m + 61 * c) b))
+  pub free : r .free ≡ record { m = freeRows (rows 61 m (drop 8 b)); v = freeRows (rows 49 m (drop (8 + 61 * m) b)); c = freeRows (rows 61 c (drop (8 + 110 * m) b)); s = freeRows (rows 45 s (drop (8 + 110 * m + 61 * c) b)) }
 
 -- 10, then 11 [01:RS1 RS2 RS3]
 unfoldable pub checkedOf : List ℕ → Checked

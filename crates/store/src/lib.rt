@@ -11,25 +11,27 @@ ghost use Rattle.store.specs.Check.{Surveys, checkedOf};
 use answer::Completion;
 use answer::Refusal;
 
-// p, m, c, s of a store, and how many rows of M, V, C and S are free.
+// How many rows of M, V, C and S are free.
+pub struct Free {
+    pub m: usize,
+    pub v: usize,
+    pub c: usize,
+    pub s: usize,
+}
+
+// p, m, c, s of a store, and its free rows.
 pub struct Shape {
     pub p: u64,
     pub m: usize,
     pub c: usize,
     pub s: usize,
-    pub freeM: usize,
-    pub freeV: usize,
-    pub freeC: usize,
-    pub freeS: usize,
+    pub free: Free,
 }
 
-// Whether a mark other than 0 and 1 stands in a table, and the free rows of each.
+// Whether a mark other than 0 and 1 stands in a table, and the free rows.
 struct Surveyed {
     bad: bool,
-    freeM: usize,
-    freeV: usize,
-    freeC: usize,
-    freeS: usize,
+    free: Free,
 }
 
 // A store that passed the checks, or the refusal.
@@ -150,24 +152,26 @@ fn survey(store: &[u8], m: usize, c: usize, s: usize) -> Surveyed
     requires { ⌜ (m ≤ 4096) × ((c ≤ 4096) × (length (now store) ≡ 8 + 110 * m + 61 * c + 45 * s)) ⌝ }
     ensures { λ r. ⌜ Surveys (now (store .entry)) m c s r ⌝ }
 {
+    // Where V, C and S start, and the end.
     let v = 8 + 61 * m;
     let a = 8 + 110 * m;
     let b = 8 + 110 * m + 61 * c;
     let e = store.len();
-    let r = table::survey(&store[8..v], 61, m);
-    let x = table::survey(&store[v..a], 49, m);
-    let y = table::survey(&store[a..b], 61, c);
-    let z = table::survey(&store[b..e], 45, s);
-    Surveyed {
-        bad: any(r.bad, x.bad, y.bad, z.bad),
-        freeM: r.free,
-        freeV: x.free,
-        freeC: y.free,
-        freeS: z.free,
-    }
+    let in_m = table::survey(&store[8..v], 61, m);
+    let in_v = table::survey(&store[v..a], 49, m);
+    let in_c = table::survey(&store[a..b], 61, c);
+    let in_s = table::survey(&store[b..e], 45, s);
+    let bad = any(in_m.bad, in_v.bad, in_c.bad, in_s.bad);
+    let free = Free {
+        m: in_m.free,
+        v: in_v.free,
+        c: in_c.free,
+        s: in_s.free,
+    };
+    Surveyed { bad, free }
 }
 
-// The checks 10 and 11 of every operation, with what it needs to know of the store.
+// The checks 10 and 11 of every operation, with what it needs to know of the store. [01:RS2 RS3]
 pub fn sizes(store: &[u8]) -> Checked
     ensures { λ r. ⌜ r ≡ checkedOf (now (store .entry)) ⌝ }
 {
@@ -182,14 +186,6 @@ pub fn sizes(store: &[u8]) -> Checked
     if v.bad {
         return Checked::Refused(Refusal::Mark);
     }
-    Checked::Fit(Shape {
-        p,
-        m,
-        c,
-        s,
-        freeM: v.freeM,
-        freeV: v.freeV,
-        freeC: v.freeC,
-        freeS: v.freeS,
-    })
+    let free = v.free;
+    Checked::Fit(Shape { p, m, c, s, free })
 }

@@ -45,7 +45,7 @@ returns-2 : tie.Need-returns-2
 returns-2 c = checked-mark (c .before .before .before .before .before .before .before .before .before .before .args .store .now) _ (c .before .survey .result) (sym (c .before .before .before .before .before .before .before .before .bad-header .ensures) ∙ c .before .before .before .before .before .before .before .if1 .left) (read (c .before .before)) (c .before .survey .ensures) (c .if2 .taken)
 
 returns-3 : tie.Need-returns-3
-returns-3 c = checked-fit (c .before .before .before .before .before .before .before .before .before .before .args .store .now) _ (c .before .survey .result) (sym (c .before .before .before .before .before .before .before .before .bad-header .ensures) ∙ c .before .before .before .before .before .before .before .if1 .left) (read (c .before .before)) (c .before .survey .ensures) (c .if2 .left)
+returns-3 c = checked-fit (c .before .before .before .before .before .before .before .before .before .before .before .args .store .now) _ (c .before .before .survey .result) (sym (c .before .before .before .before .before .before .before .before .before .bad-header .ensures) ∙ c .before .before .before .before .before .before .before .before .if1 .left) (read (c .before .before .before)) (c .before .before .survey .ensures) (c .before .if2 .left)
 
 pub sizes-spec : {M : Type 1} → statement M
 sizes-spec =

@@ -5,6 +5,7 @@ use native.Mathlib.Omega.{arith}
 use lib.ListN.{length, drop}
 use Rattle.table.specs.Table.{markBad, freeRows}
 use Rattle.table.proofs.Walk.{rows-take}
+use Rattle.store.proofs.Laws.{any-same}
 use borrow.Author.Needs.{needs}
 use Rattle.store.proofs.survey.Statement.{statement}
 use Rattle.store.proofs.survey.Tie as tie
@@ -93,12 +94,13 @@ returns c =
     let rV = rows-take 49 (a .m) (8 + 110 * a .m - (8 + 61 * a .m)) (drop (8 + 61 * a .m) b) (omega arith) in
     let rC = rows-take 61 (a .c) (8 + 110 * a .m + 61 * a .c - (8 + 110 * a .m)) (drop (8 + 110 * a .m) b) (omega arith) in
     let rS = rows-take 45 (a .s) (length b - (8 + 110 * a .m + 61 * a .c)) (drop (8 + 110 * a .m + 61 * a .c) b) (omega (arith, s .pre)) in
+    let eM = c .before .before .before .before .before .before .before .survey .ensures in
+    let eV = c .before .before .before .before .before .survey2 .ensures in
+    let eC = c .before .before .before .survey3 .ensures in
+    let eS = c .before .survey4 .ensures in
     record {
-      bad = rw (c .any .ensures, c .before .before .before .before .before .before .before .survey .ensures .0 ∙ ap markBad rM, c .before .before .before .before .before .survey2 .ensures .0 ∙ ap markBad rV, c .before .before .before .survey3 .ensures .0 ∙ ap markBad rC, c .before .survey4 .ensures .0 ∙ ap markBad rS);
-      inM = c .before .before .before .before .before .before .before .survey .ensures .1 ∙ ap freeRows rM;
-      inV = c .before .before .before .before .before .survey2 .ensures .1 ∙ ap freeRows rV;
-      inC = c .before .before .before .survey3 .ensures .1 ∙ ap freeRows rC;
-      ofS = c .before .survey4 .ensures .1 ∙ ap freeRows rS;
+      bad = c .any .ensures ∙ any-same (eM .0 ∙ ap markBad rM) (eV .0 ∙ ap markBad rV) (eC .0 ∙ ap markBad rC) (eS .0 ∙ ap markBad rS);
+      free = λ i. record { m = (eM .1 ∙ ap freeRows rM) i; v = (eV .1 ∙ ap freeRows rV) i; c = (eC .1 ∙ ap freeRows rC) i; s = (eS .1 ∙ ap freeRows rS) i };
     }
 
 pub survey-spec : {M : Type 1} → statement M
