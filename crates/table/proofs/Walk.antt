@@ -1,7 +1,7 @@
 -- Laws for the code: the row at an index as a part of the bytes, one row further in a walk over the rows, and a row that was
 -- lent and has come back.
 use Prim.Native.Nat.{ℕ, zero, suc, _+_, _*_, _-_, _≤_, _<_}
-use mathlib.Core.Path.{_≡_, refl, sym, ap, _∙_}
+use mathlib.Core.Path.{_≡_, refl, sym, ap, ap₂, _∙_}
 use mathlib.Core.Bool.{Bool, true, false, cond, not, _&&_, true≢false}
 use mathlib.Core.Option.{Option, none, some}
 use mathlib.Core.List.{List, [], _∷_, _++_, append-assoc}
@@ -40,17 +40,17 @@ pub row-length : (w n i : ℕ) (t : List ℕ) → i < n → length t ≡ w * n �
 row-length w n i t h e =
     length-part t (w * i) (w * i + w) (omega (arith, row-end w n i h)) ∙ add-sub-cancel-left (w * i) w
 
+drop-take : (a w : ℕ) (l : List ℕ) → drop a (take w l) ≡ take (w - a) (drop a l)
+drop-take zero w l = ap (λ (m : ℕ). take m l) (let e : w ≡ w - 0 = omega arith in e)
+drop-take (suc a) zero l = ap (λ (m : ℕ). take m (drop (suc a) l)) (let e : 0 ≡ 0 - suc a = omega arith in e)
+drop-take (suc a) (suc w) [] = sym (take-nil (suc w - suc a))
+drop-take (suc a) (suc w) (x ∷ xs) = drop-take a w xs ∙ ap (λ (m : ℕ). take m (drop a xs)) (let e : w - a ≡ suc w - suc a = omega arith in e)
+
 -- k bytes of a row, from its byte a on; its mark is byte 0
 pub field-at : (w n i a k : ℕ) (t : List ℕ) → i < n → a + k ≤ w → take k (drop a (getD (rows w n t) i [])) ≡ take k (drop (w * i + a) t)
 field-at w n i a k t h f =
-    ap (λ (r : Row). take k (drop a r)) (row-at w n i t h) ∙ ap (take k) (inner a w (drop (w * i) t)) ∙ shorter
+    ap (λ (r : Row). take k (drop a r)) (row-at w n i t h) ∙ ap (take k) (drop-take a w (drop (w * i) t)) ∙ shorter
   where
-    inner : (a w : ℕ) (l : List ℕ) → drop a (take w l) ≡ take (w - a) (drop a l)
-    inner zero w l = ap (λ (m : ℕ). take m l) (let e : w ≡ w - 0 = omega arith in e)
-    inner (suc a) zero l = ap (λ (m : ℕ). take m (drop (suc a) l)) (let e : 0 ≡ 0 - suc a = omega arith in e)
-    inner (suc a) (suc w) [] = sym (take-nil (suc w - suc a))
-    inner (suc a) (suc w) (x ∷ xs) = inner a w xs ∙ ap (λ (m : ℕ). take m (drop a xs)) (let e : w - a ≡ suc w - suc a = omega arith in e)
-
     shorter : take k (take (w - a) (drop a (drop (w * i) t))) ≡ take k (drop (w * i + a) t)
     shorter = take-take k (w - a) (drop a (drop (w * i) t)) (omega arith) ∙ ap (take k) (drop-drop a (w * i) t)
 
@@ -68,6 +68,14 @@ flat-rows w zero t h = sym (empty t (h ∙ mul-zero w))
     empty (x ∷ xs) e = absurd (omega arith)
 flat-rows w (suc n) t h =
     ap (λ (l : List ℕ). take w t ++ l) (flat-rows w n (drop w t) (omega (arith, length-drop w t, mul-suc w n))) ∙ take-append-drop w t
+
+-- only the first rows' bytes count
+pub rows-take : (w n k : ℕ) (t : List ℕ) → w * n ≤ k → rows w n (take k t) ≡ rows w n t
+rows-take w zero k t h = refl
+rows-take w (suc n) k t h =
+    let m = mul-suc w n in
+    ap₂ (λ (r : Row) (rs : Table). r ∷ rs) (take-take w k t (omega arith))
+    (ap (rows w n) (drop-take w k t) ∙ rows-take w n (k - w) (drop w t) (omega arith))
 
 -- ---- one row further
 
@@ -111,18 +119,18 @@ module _ (q : Row → Bool) (w n i z : ℕ) (t : List ℕ) (e : i + indexOf q (d
 -- ---- what an index tells
 
 -- where a row is free, one is found, and it can take a row
+pub free-inside : (t : Table) → 1 ≤ freeRows t → indexOf isFree t < length t
+free-inside [] h = absurd (not-suc-le-zero h)
+free-inside (r ∷ rs) h = go (isFree r) h (free-inside rs)
+  where
+    go : (b : Bool) → 1 ≤ bit b + freeRows rs → (1 ≤ freeRows rs → indexOf isFree rs < length rs) → cond b zero (suc (indexOf isFree rs)) < suc (length rs)
+    go true h k = omega arith
+    go false h k = let l = k (omega arith) in omega arith
+
 pub free-placed : (t : Table) (row : Row) → 1 ≤ freeRows t → Placed t row (set t (indexOf isFree t) row)
 free-placed t row h =
-    let k = inside t h in
+    let k = free-inside t h in
     record { at = indexOf isFree t; inside = k; free = index-holds isFree t k; put = refl }
-  where
-    inside : (t : Table) → 1 ≤ freeRows t → indexOf isFree t < length t
-    inside [] h = absurd (not-suc-le-zero h)
-    inside (r ∷ rs) h = go (isFree r) h (inside rs)
-      where
-        go : (b : Bool) → 1 ≤ bit b + freeRows rs → (1 ≤ freeRows rs → indexOf isFree rs < length rs) → cond b zero (suc (indexOf isFree rs)) < suc (length rs)
-        go true h k = omega arith
-        go false h k = let l = k (omega arith) in omega arith
 
 -- the row at a tag's place is what a lookup finds [01:ST13]
 pub place-found : (tag : List ℕ) (t : Table) → placeOf tag t < length t → lookup tag t ≡ some (body (getD t (placeOf tag t) []))
