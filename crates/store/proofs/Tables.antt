@@ -2,21 +2,21 @@
 -- came back leaves it so, with that table replaced, whichever table it was.
 use Prim.Native.Nat.{ℕ, _+_, _*_, _-_, _≤_}
 use mathlib.Core.Path.{_≡_, refl, sym, ap, ap₂, subst, _∙_}
-use mathlib.Core.List.{List, [], _∷_, _++_, append-assoc, append-nil}
+use mathlib.Core.List.{List, [], _++_, append-assoc, append-nil}
 use native.Mathlib.Omega.{arith}
-use lib.ListN.{length, take, drop, length-append, length-take, length-drop, take-append-drop}
+use lib.ListN.{length, take, drop, length-append, length-drop, take-append-drop}
 use lib.Seq.{take-at, drop-at, drop-drop, length-take-le}
 use Rattle.octets.specs.Part.{back}
 use Rattle.octets.proofs.Parts.{back-next}
 use Rattle.table.specs.Lists.{flat, All}
-use Rattle.table.specs.Table.{Row, Table, rows}
+use Rattle.table.specs.Table.{Table, rows}
 use Rattle.table.proofs.Rows.{flat-length, rows-flat, rows-length, rows-wide}
 use Rattle.table.proofs.Walk.{flat-rows, rows-take}
-use Rattle.scheme.specs.Store.{Store, sizesOf, cut, joined, headerBad}
+use Rattle.scheme.specs.Store.{Store, sizesOf, cut, joined}
 use Rattle.store.specs.declared.Shape.{Shape}
 use Rattle.store.specs.declared.Checked.the-variants.{Fit}
 use Rattle.store.specs.Check.{checkedOf}
-use Rattle.store.proofs.Laws.{GoodHeader, good-header, FitStore, fit}
+use Rattle.store.proofs.Laws.{GoodHeader, good-header, fit}
 
 pub data Which : Type 0 where
   tableM : Which
