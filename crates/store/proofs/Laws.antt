@@ -1,25 +1,24 @@
 -- Laws of the header and of the checks: what a header in range says of the slice, and what callers learn of a check.
-use Prim.Native.Nat.{ℕ, zero, suc, _+_, _*_, _-_, _≤_, _<_}
+use Prim.Native.Nat.{ℕ, _+_, _*_, _-_, _≤_}
 use mathlib.Core.Path.{_≡_, refl, sym, ap, ap₂, subst, _∙_}
 use mathlib.Core.Bool.{Bool, true, false, cond, not, _||_}
-use mathlib.Core.Option.{Option, some}
+use mathlib.Core.Option.{some}
 use mathlib.Core.List.{List, [], _∷_, _++_, append-nil}
 use native.Mathlib.Omega.{arith}
 use lib.Dec.{ltb, eqb}
-use lib.ListN.{length, getD, take, drop, replicate, length-append, length-drop, length-replicate, drop-of-length-le}
+use lib.ListN.{length, getD, take, drop, replicate, length-drop, drop-of-length-le}
 use lib.Seq.{drop-at, length-take-le}
 use borrow.Author.Tests.{ltb-false, eqb-true, not-false, le-ltb, eq-eqb, ne-eqb}
 use Rattle.octets.specs.Part.{back}
 use Rattle.octets.proofs.Parts.{back-next}
 use Rattle.table.proofs.Counting.{neither}
-use Rattle.answer.specs.Answer.{Answer, done, refused, refusal}
+use Rattle.answer.specs.Answer.{done, refused, refusal}
 use Rattle.answer.specs.declared.Refusal.{Refusal}
 use Rattle.answer.specs.declared.Refusal.the-variants.{Header, Mark}
 use Rattle.answer.specs.Verdict.{Test, _⇒_, verdict}
 use Rattle.scheme.specs.Store.{Sizes, rowsBad, sizesBad, lengthFor, headerOf, sizesOf, cut, headerBad, marksBad, fresh, makeTests, make}
 use Rattle.store.specs.declared.Shape.{Shape}
 use Rattle.store.specs.declared.Surveyed.{Surveyed}
-use Rattle.store.specs.declared.Checked.{Checked}
 use Rattle.store.specs.declared.Checked.the-variants.{Fit, Refused}
 use Rattle.store.specs.Check.{Surveys, shapeOf, checkedOf}
 

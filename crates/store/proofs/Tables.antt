@@ -2,22 +2,23 @@
 -- came back leaves it so, with that table replaced, whichever table it was.
 use Prim.Native.Nat.{ℕ, _+_, _*_, _-_, _≤_}
 use mathlib.Core.Path.{_≡_, refl, sym, ap, ap₂, subst, _∙_}
-use mathlib.Core.List.{List, [], _∷_, _++_, append-assoc, append-nil}
+use mathlib.Core.List.{List, [], _++_, append-assoc, append-nil}
 use native.Mathlib.Omega.{arith}
-use lib.ListN.{length, take, drop, length-append, length-take, length-drop, take-append-drop}
+use lib.ListN.{length, take, drop, length-append, length-drop, take-append-drop}
 use lib.Seq.{take-at, drop-at, drop-drop, length-take-le}
 use Rattle.octets.specs.Part.{back}
 use Rattle.octets.proofs.Parts.{back-next}
 use Rattle.table.specs.Lists.{flat, All}
-use Rattle.table.specs.Table.{Row, Table, rows}
+use Rattle.table.specs.Table.{Table, rows}
 use Rattle.table.proofs.Rows.{flat-length, rows-flat, rows-length, rows-wide}
 use Rattle.table.proofs.Walk.{flat-rows, rows-take}
-use Rattle.scheme.specs.Store.{Store, sizesOf, cut, joined, headerBad}
+use Rattle.scheme.specs.Store.{Store, sizesOf, cut, joined}
 use Rattle.store.specs.declared.Shape.{Shape}
 use Rattle.store.specs.declared.Checked.the-variants.{Fit}
 use Rattle.store.specs.Check.{checkedOf}
-use Rattle.store.proofs.Laws.{GoodHeader, good-header, FitStore, fit}
+use Rattle.store.proofs.Laws.{GoodHeader, good-header, fit}
 
+-- a table of the store
 pub data Which : Type 0 where
   tableM : Which
   tableV : Which
@@ -66,6 +67,7 @@ pub record Wide (w n : ℕ) (t : Table) : Type 0 where
   pub number : length t ≡ n
   pub widths : All (λ r. length r ≡ w) t
 
+-- the bytes b are the store st, with these sizes
 pub record Laid (m c s : ℕ) (b : List ℕ) (st : Store) : Type 0 where
   pub bytes : b ≡ joined st
   pub head : length (st .header) ≡ 8
@@ -138,6 +140,9 @@ module _ (m c s : ℕ) (b : List ℕ) (st : Store) (l : Laid m c s b st) where
       ap (λ (x : List ℕ). take (endOf m c s k - startOf m c s k) (drop (startOf m c s k) x)) (same-store k ∙ a .filled (tableIn k st))
       ∙ ap (take (endOf m c s k - startOf m c s k)) (drop-at (a .pre) (flat (tableIn k st) ++ a .post) (startOf m c s k) (a .at))
       ∙ take-at (flat (tableIn k st)) (a .post) (endOf m c s k - startOf m c s k) n
+
+  pub laid-long : (k : Which) → length (take (endOf m c s k - startOf m c s k) (drop (startOf m c s k) b)) ≡ widthOf k * rowsOf m c s k
+  laid-long k = ap length (laid-part k) ∙ wide-flat (widthOf k) (rowsOf m c s k) (tableIn k st) (l .wide k)
 
   pub laid-rows : (k : Which) → rows (widthOf k) (rowsOf m c s k) (take (endOf m c s k - startOf m c s k) (drop (startOf m c s k) b)) ≡ tableIn k st
   laid-rows k = ap (rows (widthOf k) (rowsOf m c s k)) (laid-part k) ∙ wide-rows (widthOf k) (rowsOf m c s k) (tableIn k st) (l .wide k)
@@ -231,7 +236,7 @@ module _ (b : List ℕ) (g : GoodHeader b) where
         wide = cut-wide;
       }
 
--- what the checks tell of a slice that they let pass, and the tables in it
+-- a slice that the checks let pass is laid out as its sizes say
 pub laid-fit : (b : List ℕ) (z : Shape) → checkedOf b ≡ Fit z → Laid (z .m) (z .c) (z .s) b (cut b)
 laid-fit b z e =
     let f = fit b z e in

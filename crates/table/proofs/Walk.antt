@@ -9,7 +9,7 @@ use native.Mathlib.Nat.{mul-zero, mul-suc, add-zero, mul-le-mul-left, add-sub-ca
 use native.Mathlib.Numerals.{add-one}
 use native.Mathlib.Omega.{arith}
 use lib.Dec.{eqb, ltb}
-use lib.ListN.{length, getD, take, drop, set, length-take, length-drop, drop-of-length-le, take-append-drop}
+use lib.ListN.{length, getD, take, drop, set, length-drop, drop-of-length-le, take-append-drop}
 use lib.Seq.{take-at, drop-at, take-add, take-take, drop-drop, drop-cons, getD-take, getD-drop, take-nil, length-take-le}
 use borrow.Author.Tests.{lt-ltb, le-ltb, ltb-true, ltb-false, eq-eqb, ne-eqb}
 use Rattle.octets.specs.Part.{back}
@@ -46,13 +46,19 @@ drop-take (suc a) zero l = ap (λ (m : ℕ). take m (drop (suc a) l)) (let e : 0
 drop-take (suc a) (suc w) [] = sym (take-nil (suc w - suc a))
 drop-take (suc a) (suc w) (x ∷ xs) = drop-take a w xs ∙ ap (λ (m : ℕ). take m (drop a xs)) (let e : w - a ≡ suc w - suc a = omega arith in e)
 
--- k bytes of a row, from its byte a on; its mark is byte 0
+-- a row from its byte a on; k bytes of it; the same of a row without its mark
+pub tail-at : (w n i a : ℕ) (t : List ℕ) → i < n → drop a (getD (rows w n t) i []) ≡ take (w - a) (drop (w * i + a) t)
+tail-at w n i a t h =
+    ap (λ (r : Row). drop a r) (row-at w n i t h) ∙ drop-take a w (drop (w * i) t) ∙ ap (λ (l : List ℕ). take (w - a) l) (drop-drop a (w * i) t)
+
 pub field-at : (w n i a k : ℕ) (t : List ℕ) → i < n → a + k ≤ w → take k (drop a (getD (rows w n t) i [])) ≡ take k (drop (w * i + a) t)
-field-at w n i a k t h f =
-    ap (λ (r : Row). take k (drop a r)) (row-at w n i t h) ∙ ap (take k) (drop-take a w (drop (w * i) t)) ∙ shorter
-  where
-    shorter : take k (take (w - a) (drop a (drop (w * i) t))) ≡ take k (drop (w * i + a) t)
-    shorter = take-take k (w - a) (drop a (drop (w * i) t)) (omega arith) ∙ ap (take k) (drop-drop a (w * i) t)
+field-at w n i a k t h f = ap (λ (l : List ℕ). take k l) (tail-at w n i a t h) ∙ take-take k (w - a) (drop (w * i + a) t) (omega arith)
+
+pub body-tail : (w n i a : ℕ) (t : List ℕ) → i < n → drop a (body (getD (rows w n t) i [])) ≡ take (w - (1 + a)) (drop (w * i + (1 + a)) t)
+body-tail w n i a t h = drop-drop a 1 (getD (rows w n t) i []) ∙ tail-at w n i (1 + a) t h
+
+pub body-field : (w n i a k : ℕ) (t : List ℕ) → i < n → 1 + a + k ≤ w → take k (drop a (body (getD (rows w n t) i []))) ≡ take k (drop (w * i + (1 + a)) t)
+body-field w n i a k t h f = ap (λ (l : List ℕ). take k l) (drop-drop a 1 (getD (rows w n t) i [])) ∙ field-at w n i (1 + a) k t h f
 
 pub mark-at : (w n i : ℕ) (t : List ℕ) → 1 ≤ w → i < n → markOf (getD (rows w n t) i []) ≡ getD t (w * i) 0
 mark-at w n i t p h =

@@ -1,5 +1,4 @@
 -- By the length, then by what the header says.
-use native.Mathlib.Omega.{arith}
 use lib.ListN.{length}
 use borrow.Author.Tests.{lt-ltb}
 use Rattle.scheme.specs.Store.{headerBad}
