@@ -174,8 +174,8 @@ fn counters_held(t: &[u8], c: usize, ct: Keyed, start: Position) -> Counters
 {
     let mut k: u64 = 0;
     let mut at = c;
-    let mut left = c;
-    while 0 < left {
+    let mut rest = c;
+    while 0 < rest {
         let tag = counter_tag(ct, Position(start.0 + k + 1));
         let i = table::place(t, 61, c, &tag);
         if c <= i {
@@ -183,7 +183,7 @@ fn counters_held(t: &[u8], c: usize, ct: Keyed, start: Position) -> Counters
         }
         k += 1;
         at = i;
-        left -= 1;
+        rest -= 1;
     }
     Counters { k, at }
 }

@@ -43,13 +43,13 @@ loop-again : tie.Need-loop-again Inv-loop μ-loop
 loop-again c =
     let l = c .before .before .before .before .before .loop in
     let a = c .before .before .before .before .before .before .before .args in
-    walked-more (anchorTags (a .ct)) (rows 61 (a .c) (a .t .now)) (a .c) 0 (l .b) (l .left) (l .at) (l .inv) (c .before .place .result) (found (c .before)) (c .before .before .before .before .loop-test .taken) (omega (arith, rows-length 61 (a .c) (a .t .now)))
+    walked-more (anchorTags (a .ct)) (rows 61 (a .c) (a .t .now)) (a .c) 0 (l .b) (l .left) (l .at) (l .inv) (c .before .place .result) (found (c .before)) (omega arith) (omega (arith, rows-length 61 (a .c) (a .t .now)))
 
 returns-2 : tie.Need-returns-2 Inv-loop μ-loop
 returns-2 c =
     let l = c .before .loop in
     let a = c .before .before .before .args in
-    walked-end (anchorTags (a .ct)) (rows 61 (a .c) (a .t .now)) (a .c) 0 (l .b) (l .left) (l .at) (l .inv) (c .loop-test .left)
+    walked-end (anchorTags (a .ct)) (rows 61 (a .c) (a .t .now)) (a .c) 0 (l .b) (l .left) (l .at) (l .inv) (omega arith)
 
 pub anchors-held-spec : {M : Type 1} → statement M
 anchors-held-spec =

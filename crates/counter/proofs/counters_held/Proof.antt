@@ -13,10 +13,10 @@ use Rattle.counter.proofs.counters_held.Statement.{statement}
 use Rattle.counter.proofs.counters_held.Tie as tie
 
 abbrev Inv-loop : tie.InvT-loop
-Inv-loop t c ct start k₀ at₀ left₀ k at left = Walked (counterTags ct) (rows 61 c t) c (start .0) k left at
+Inv-loop t c ct start k₀ at₀ rest₀ k at rest = Walked (counterTags ct) (rows 61 c t) c (start .0) k rest at
 
 abbrev μ-loop : tie.MeasureT-loop
-μ-loop t c ct start k₀ at₀ left₀ k at left = left
+μ-loop t c ct start k₀ at₀ rest₀ k at rest = rest
 
 -- the place of the next one's row
 found : (c : tie.After-place Inv-loop μ-loop) →
@@ -36,19 +36,19 @@ returns : tie.Need-returns Inv-loop μ-loop
 returns c =
     let l = c .before .before .before .before .before .before .loop in
     let a = c .before .before .before .before .before .before .before .before .args in
-    walked-stop (counterTags (a .ct)) (rows 61 (a .c) (a .t .now)) (a .c) (a .start .0) (l .k) (l .left) (l .at) (l .inv) (c .before .place .result) (found (c .before)) (omega (arith, rows-length 61 (a .c) (a .t .now)))
+    walked-stop (counterTags (a .ct)) (rows 61 (a .c) (a .t .now)) (a .c) (a .start .0) (l .k) (l .rest) (l .at) (l .inv) (c .before .place .result) (found (c .before)) (omega (arith, rows-length 61 (a .c) (a .t .now)))
 
 loop-again : tie.Need-loop-again Inv-loop μ-loop
 loop-again c =
     let l = c .before .before .before .before .before .before .loop in
     let a = c .before .before .before .before .before .before .before .before .args in
-    walked-more (counterTags (a .ct)) (rows 61 (a .c) (a .t .now)) (a .c) (a .start .0) (l .k) (l .left) (l .at) (l .inv) (c .before .place .result) (found (c .before)) (c .before .before .before .before .before .loop-test .taken) (omega (arith, rows-length 61 (a .c) (a .t .now)))
+    walked-more (counterTags (a .ct)) (rows 61 (a .c) (a .t .now)) (a .c) (a .start .0) (l .k) (l .rest) (l .at) (l .inv) (c .before .place .result) (found (c .before)) (omega arith) (omega (arith, rows-length 61 (a .c) (a .t .now)))
 
 returns-2 : tie.Need-returns-2 Inv-loop μ-loop
 returns-2 c =
     let l = c .before .loop in
     let a = c .before .before .before .args in
-    walked-end (counterTags (a .ct)) (rows 61 (a .c) (a .t .now)) (a .c) (a .start .0) (l .k) (l .left) (l .at) (l .inv) (c .loop-test .left)
+    walked-end (counterTags (a .ct)) (rows 61 (a .c) (a .t .now)) (a .c) (a .start .0) (l .k) (l .rest) (l .at) (l .inv) (omega arith)
 
 pub counters-held-spec : {M : Type 1} → statement M
 counters-held-spec =
