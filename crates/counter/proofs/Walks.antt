@@ -28,6 +28,14 @@ module _ (held : ℕ → Bool) where
   walk-end zero n p = refl
   walk-end (suc m) n p = absurd (not-suc-le-zero p)
 
+  pub walk-le : (bound i : ℕ) → walk held bound i ≤ bound
+  walk-le zero i = omega arith
+  walk-le (suc bound) i = go (held (suc i)) (walk-le bound (suc i))
+    where
+      go : (b : Bool) → walk held bound (suc i) ≤ bound → cond b (suc (walk held bound (suc i))) zero ≤ suc bound
+      go true h = omega arith
+      go false h = omega arith
+
   pub walk-held : (bound i k : ℕ) → walk held bound i ≡ suc k → held (i + suc k) ≡ true
   walk-held zero i k e = absurd (omega arith)
   walk-held (suc bound) i k e = go (held (suc i)) refl e (walk-held bound (suc i))

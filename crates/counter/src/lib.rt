@@ -13,13 +13,13 @@ ghost use Rattle.counter.specs.Walks.{counterTags, anchorTags, heldIn, l
 ghost use Rattle.counter.specs.Outcome.{numbersIn, numbersOr, numbersOf, anchorBad, counterBad, readingOf};
 use hmac::Keyed;
 
-// An entry address of M. [01:ST17 FM10]
+// Entry address: the number in the tag of an M row. [01:ST17 FM10]
 pub struct Address(pub u64);
 
-// A counter position. [01:ST17 FM10]
+// Counter position: the number in the tag of a counter row, and Start in an anchor. [01:ST17 FM10]
 pub struct Position(pub u64);
 
-// An anchor number. [01:ST17 FM10]
+// Anchor number: the number in the tag of an anchor row, up to B. [01:ST17 FM10]
 pub struct AnchorNumber(pub u64);
 
 // The tag of a message under a prepared key.
@@ -80,6 +80,7 @@ pub struct Keys {
     pub ce: [u8; 32],
 }
 
+// CT = F(CL, 1), prepared, and CE = F(CL, 2); CL itself is prepared once.
 pub fn keys_of(cl: &[u8; 32]) -> Keys
     ensures { λ r. ⌜ KeysOf r (now (cl .entry)) ⌝ }
 {
@@ -220,14 +221,13 @@ pub enum Reading {
     Damage,
 }
 
-// Reads the counter of CL out of the part that holds table C. Anchor B is tested before the
-// counters are walked, since Start + k could pass 2^64; only anchor B and counter Start + k are
-// decrypted, each where it exists. [01:RC5 RC6 RC7]
-pub fn read(t: &[u8], c: usize, cl: &[u8; 32]) -> Reading
-    requires { ⌜ (length (now t) ≡ 61 * c) × (c ≤ 4096) ⌝ }
+// Reads the counter of CL, whose keys are given, out of the part that holds table C. Anchor B is
+// tested before the counters are walked, since Start + k could pass 2^64; only anchor B and counter
+// Start + k are decrypted, each where it exists. [01:RC5 RC6 RC7]
+pub fn read_by(t: &[u8], c: usize, cl: &[u8; 32], keys: Keys) -> Reading
+    requires { ⌜ (length (now t) ≡ 61 * c) × ((c ≤ 4096) × KeysOf keys (now cl)) ⌝ }
     ensures { λ r. ⌜ readingOf r ≡ reading program c (now (cl .entry)) (rows 61 c (now (t .entry))) ⌝ }
 {
-    let keys = keys_of(cl);
     let ct = keys.ct;
     let ce = keys.ce;
     let anchors = anchors_held(t, c, ct);
@@ -248,4 +248,12 @@ pub fn read(t: &[u8], c: usize, cl: &[u8; 32]) -> Reading
         k: counters.k,
         count: counter.n,
     })
+}
+
+// Reads the counter of CL out of the part that holds table C.
+pub fn read(t: &[u8], c: usize, cl: &[u8; 32]) -> Reading
+    requires { ⌜ (length (now t) ≡ 61 * c) × (c ≤ 4096) ⌝ }
+    ensures { λ r. ⌜ readingOf r ≡ reading program c (now (cl .entry)) (rows 61 c (now (t .entry))) ⌝ }
+{
+    read_by(t, c, cl, keys_of(cl))
 }
