@@ -1,0 +1,167 @@
+-- What the walks and the two decrypted rows tell is the scheme's reading.
+use Prim.Native.Nat.{ℕ, zero, suc, _+_, _-_, _*_, _≤_, _<_}
+use mathlib.Core.Path.{_≡_, refl, sym, ap, ap₂, _∙_}
+use mathlib.Core.Bool.{Bool, true, false, cond, not, _||_, true≢false}
+use mathlib.Core.Option.{some}
+use mathlib.Core.List.{List, []}
+use native.Mathlib.Nat.{zero-add}
+use native.Mathlib.Omega.{arith}
+use borrow.Author.Tests.{lt-ltb, le-ltb, ne-eqb, ltb-false}
+use lib.Dec.{ltb, eqb, lit≤}
+use lib.ListN.{length, getD, take, drop, length-drop}
+use lib.Seq.{take-all, drop-drop}
+use Rattle.octets.specs.Number.{number}
+use Rattle.chacha20.specs.Cipher.{E}
+use Rattle.table.specs.Table.{Table, rows, body, lookup, placeOf}
+use Rattle.table.proofs.Counting.{neither}
+use Rattle.table.proofs.Rows.{place-held}
+use Rattle.table.proofs.Walk.{row-part, row-length, field-at, place-found}
+use Rattle.scheme.specs.Suite.{valueOf}
+use Rattle.scheme.specs.Keys.{CE}
+use Rattle.scheme.specs.Store.{counterTag, anchorTag, plainIn}
+use Rattle.scheme.specs.Reading.{limit, walk, Numbers, Reading, numbersAt, anchorsHeld, anchorNumbers, startOf, countersHeld, counterNumbers, isDamage, reading}
+use Rattle.scheme.specs.Reading.Reading.{counter, damage}
+use Rattle.suite.specs.Program.{program}
+use Rattle.counter.specs.declared.Keys.{Keys}
+use Rattle.counter.specs.Tags.{KeysOf}
+use Rattle.counter.specs.Walks.{counterTags, anchorTags, heldIn, lastPlace}
+use Rattle.counter.specs.Outcome.{numbersIn, numbersOr, anchorBad, counterBad}
+use Rattle.counter.proofs.Tags.{counter-tags, anchor-tags}
+use Rattle.counter.proofs.Walks.{walk-held, walk-le}
+
+-- ---- one row
+
+module _ (c i : ℕ) (t : List ℕ) (h : i < c) where
+  -- nonce and ciphertext of the row at a place
+  pub nonce-at : take (61 * i + 45 - (61 * i + 33)) (drop (61 * i + 33) t) ≡ take 12 (drop 32 (body (getD (rows 61 c t) i [])))
+  nonce-at =
+      ap (λ (k : ℕ). take k (drop (61 * i + 33) t)) (let e : 61 * i + 45 - (61 * i + 33) ≡ 12 = omega arith in e)
+      ∙ sym (field-at 61 c i 33 12 t h (lit≤ tt)) ∙ ap (take 12) (sym (drop-drop 32 1 (getD (rows 61 c t) i [])))
+
+  pub text-at : length t ≡ 61 * c → take (61 * i + 61 - (61 * i + 45)) (drop (61 * i + 45) t) ≡ drop 44 (body (getD (rows 61 c t) i []))
+  text-at e =
+      let row = getD (rows 61 c t) i [] in
+      let l : length row ≡ 61 = sym (ap length (row-part 61 c i t h)) ∙ row-length 61 c i t h e in
+      ap (λ (k : ℕ). take k (drop (61 * i + 45) t)) (let e : 61 * i + 61 - (61 * i + 45) ≡ 16 = omega arith in e)
+      ∙ sym (field-at 61 c i 45 16 t h (lit≤ tt)) ∙ take-all 16 (drop 45 row) (omega (arith, length-drop 45 row)) ∙ sym (drop-drop 44 1 row)
+
+-- the two numbers of the plaintext
+pub numbers-are : (ce b plain : List ℕ) (a n : ℕ) → length plain ≡ 16 → plain ≡ E ce (take 12 (drop 32 b)) (drop 44 b)
+    → a ≡ number (take 8 plain) → n ≡ number (take 8 (drop 8 plain)) → _≡_ {A = Numbers} (record { a = a; n = n }) (numbersIn ce b)
+unfolding numbersIn valueOf
+numbers-are ce b plain a n l e p q =
+    let x = p ∙ ap (λ (m : List ℕ). number (take 8 m)) e in
+    let y = q ∙ ap number (take-all 8 (drop 8 plain) (omega (arith, length-drop 8 plain))) ∙ ap (λ (m : List ℕ). number (drop 8 m)) e in
+    λ j. record { a = x j; n = y j }
+
+numbers-in : (cl b : List ℕ) → numbersIn (CE program cl) b ≡ numbersAt program cl (some b)
+unfolding numbersIn numbersAt plainIn program
+numbers-in cl b = refl
+
+-- the numbers in the last row that a walk held
+numbers-last : (tag : ℕ → List ℕ) (t : Table) (cl : List ℕ) (c i k at : ℕ) (other : Numbers) → k ≡ walk (heldIn tag t) c i → at ≡ lastPlace tag t i k
+    → numbersOr (CE program cl) t at other ≡ cond (eqb k 0) other (numbersAt program cl (lookup (tag (i + k)) t))
+unfolding numbersOr lastPlace
+numbers-last tag t cl c i zero at other h e = rw (le-ltb at (length t) (omega arith))
+numbers-last tag t cl c i (suc k) at other h e =
+    let p = place-held (tag (i + suc k)) t (walk-held (heldIn tag t) c i k (sym h)) .inside in
+    rw (lt-ltb at (length t) (omega arith), ne-eqb (suc k) 0 (λ z. absurd (omega arith)))
+    (ap (λ (n : ℕ). numbersIn (CE program cl) (body (getD t n []))) e ∙ numbers-in cl (body (getD t (placeOf (tag (i + suc k)) t) []))
+    ∙ ap (numbersAt program cl) (sym (place-found (tag (i + suc k)) t p)))
+
+either : (a b r : Bool) → (a || b) ≡ true → (a || (b || r)) ≡ true
+either true b r e = refl
+either false true r e = refl
+either false false r e = absurd (true≢false (sym e))
+
+neither-of : (a b r : Bool) → (a || b) ≡ false → (a || (b || r)) ≡ r
+neither-of true b r e = absurd (true≢false e)
+neither-of false true r e = absurd (true≢false e)
+neither-of false false r e = refl
+
+-- how large the numbers of a counter are
+pub record Bounds (c b start k n : ℕ) : Type 0 where
+  pub anchors : b ≤ c
+  pub start-limit : start ≤ limit
+  pub counters : k ≤ c
+  pub count-limit : n ≤ limit
+
+module _ (c : ℕ) (cl : List ℕ) (t : Table) where
+  -- the three answers of a reading: damage of anchor B comes first, whatever the counters are [01:RS6]
+  abbrev answer : Bool → Reading
+  answer b =
+      cond b damage (counter (anchorsHeld program c cl t) (startOf program c cl t) (countersHeld program c cl t) (counterNumbers program c cl t .n))
+
+  module _ (x : Numbers) (e : x ≡ anchorNumbers program c cl t) where
+    start-is : x .a ≡ startOf program c cl t
+    unfolding startOf
+    start-is = ap (λ (y : Numbers). y .a) e
+
+    pub damaged-anchor : anchorBad x ≡ true → damage ≡ reading program c cl t
+    unfolding reading isDamage
+    damaged-anchor h =
+        ap answer (sym (either (ltb limit (anchorNumbers program c cl t .a)) (ltb limit (anchorNumbers program c cl t .n)) (counterBad (counterNumbers program c cl t)) (sym (ap anchorBad e) ∙ h)))
+
+    module _ (h : anchorBad x ≡ false) (y : Numbers) (f : y ≡ counterNumbers program c cl t) where
+      sound : answer (counterBad y) ≡ reading program c cl t
+      unfolding reading isDamage
+      sound =
+          ap answer (ap counterBad f
+          ∙ sym (neither-of (ltb limit (anchorNumbers program c cl t .a)) (ltb limit (anchorNumbers program c cl t .n)) (counterBad (counterNumbers program c cl t)) (sym (ap anchorBad e) ∙ h)))
+
+      pub damaged-counter : counterBad y ≡ true → damage ≡ reading program c cl t
+      damaged-counter g = ap answer (sym g) ∙ sound
+
+      pub counted : (b k : ℕ) → b ≡ anchorsHeld program c cl t → k ≡ countersHeld program c cl t → counterBad y ≡ false
+          → counter b (x .a) k (y .n) ≡ reading program c cl t
+      counted b k p r g =
+          let s = start-is in
+          let n = ap (λ (z : Numbers). z .n) f in
+          let a : counter b (x .a) k (y .n) ≡ answer false = cc in
+          a ∙ ap answer (sym g) ∙ sound
+
+  module _ (keys : Keys) (p : KeysOf keys cl) where
+    module _ (b at : ℕ) (h : b ≡ walk (heldIn (anchorTags (keys .ct)) t) c 0) (e : at ≡ lastPlace (anchorTags (keys .ct)) t 0 b) where
+      pub anchors-are : b ≡ anchorsHeld program c cl t
+      unfolding anchorsHeld
+      anchors-are = h ∙ ap (λ (g : ℕ → List ℕ). walk (heldIn g t) c 0) (anchor-tags (keys .ct) cl (p .ct))
+
+      pub anchor-numbers-are : numbersOr (keys .ce) t at (record { a = 0; n = 0 }) ≡ anchorNumbers program c cl t
+      unfolding anchorNumbers
+      anchor-numbers-are =
+          ap (λ (k : List ℕ). numbersOr k t at (record { a = 0; n = 0 })) (p .ce) ∙ numbers-last (anchorTags (keys .ct)) t cl c 0 b at (record { a = 0; n = 0 }) h e
+          ∙ ap₂ (λ (g : ℕ → List ℕ) (k : ℕ). cond (eqb b 0) (record { a = 0; n = 0 }) (numbersAt program cl (lookup (g k) t))) (anchor-tags (keys .ct) cl (p .ct)) (zero-add b)
+          ∙ ap (λ (k : ℕ). cond (eqb k 0) (record { a = 0; n = 0 }) (numbersAt program cl (lookup (anchorTag program cl k) t))) anchors-are
+
+    module _ (x : Numbers) (o : x ≡ anchorNumbers program c cl t) (k at : ℕ) (h : k ≡ walk (heldIn (counterTags (keys .ct)) t) c (x .a)) (e : at ≡ lastPlace (counterTags (keys .ct)) t (x .a) k) where
+      pub counters-are : k ≡ countersHeld program c cl t
+      unfolding countersHeld
+      counters-are =
+          h ∙ ap₂ (λ (g : ℕ → List ℕ) (i : ℕ). walk (heldIn g t) c i) (counter-tags (keys .ct) cl (p .ct)) (start-is x o)
+
+      pub counter-numbers-are : numbersOr (keys .ce) t at (record { a = 0; n = x .n }) ≡ counterNumbers program c cl t
+      unfolding counterNumbers
+      counter-numbers-are =
+          ap (λ (l : List ℕ). numbersOr l t at (record { a = 0; n = x .n })) (p .ce) ∙ numbers-last (counterTags (keys .ct)) t cl c (x .a) k at (record { a = 0; n = x .n }) h e
+          ∙ ap₂ (λ (g : ℕ → List ℕ) (i : ℕ). cond (eqb k 0) (record { a = 0; n = x .n }) (numbersAt program cl (lookup (g (i + k)) t))) (counter-tags (keys .ct) cl (p .ct)) (start-is x o)
+          ∙ ap₂ (λ (j i : ℕ). cond (eqb j 0) (record { a = 0; n = i }) (numbersAt program cl (lookup (counterTag program cl (startOf program c cl t + j)) t))) counters-are (ap (λ (y : Numbers). y .n) o)
+
+  -- a reading that is no damage
+  pub reading-bounds : (b start k n : ℕ) → counter b start k n ≡ reading program c cl t → Bounds c b start k n
+  unfolding reading isDamage anchorsHeld countersHeld
+  reading-bounds b start k n e =
+      go (isDamage program c cl t) refl e (walk-le (heldIn (anchorTag program cl) t) c 0) (walk-le (heldIn (counterTag program cl) t) c (startOf program c cl t)) (start-is (anchorNumbers program c cl t) refl)
+    where
+      go : (d : Bool) → (ltb limit (anchorNumbers program c cl t .a) || (ltb limit (anchorNumbers program c cl t .n) || counterBad (counterNumbers program c cl t))) ≡ d → counter b start k n ≡ answer d
+          → anchorsHeld program c cl t ≤ c → countersHeld program c cl t ≤ c → anchorNumbers program c cl t .a ≡ startOf program c cl t → Bounds c b start k n
+      go true d f p q s = absurd (let z : _≡_ {A = ℕ} 0 1 = cc in omega arith)
+      go false d f p q s =
+          let x = anchorNumbers program c cl t in
+          let y = counterNumbers program c cl t in
+          let h = neither (ltb limit (x .a)) (ltb limit (x .n) || counterBad y) d in
+          let m = neither (not (eqb (y .a) 0)) (ltb limit (y .n)) (neither (ltb limit (x .n)) (counterBad y) (h .1) .1) in
+          let eb : b ≡ anchorsHeld program c cl t = cc in
+          let es : start ≡ startOf program c cl t = cc in
+          let ek : k ≡ countersHeld program c cl t = cc in
+          let en : n ≡ y .n = cc in
+          record { anchors = omega arith; start-limit = omega (arith, ltb-false limit (x .a) (h .0)); counters = omega arith; count-limit = omega (arith, ltb-false limit (y .n) (m .1)) }

@@ -1,0 +1,90 @@
+-- A walk goes on from where it stands: what is left decides. And the row of the last number held is held.
+use Prim.Native.Nat.{ℕ, zero, suc, _+_, _-_, _≤_, _<_}
+use mathlib.Core.Path.{_≡_, refl, sym, ap, ap₂, _∙_}
+use mathlib.Core.Bool.{Bool, true, false, cond}
+use mathlib.Core.List.{List}
+use native.Mathlib.Nat.{not-suc-le-zero, zero-add, add-zero}
+use native.Mathlib.Numerals.{add-one}
+use native.Mathlib.Omega.{arith}
+use borrow.Author.Tests.{lt-ltb, le-ltb}
+use lib.ListN.{length}
+use Rattle.table.specs.Table.{Table, holds, placeOf}
+use Rattle.table.proofs.Walk.{place-holds}
+use Rattle.scheme.specs.Reading.{walk}
+use Rattle.counter.specs.Walks.{heldIn, lastPlace}
+
+module _ (held : ℕ → Bool) where
+  walk-more : (left n : ℕ) → 0 < left → held (n + 1) ≡ true → walk held left n ≡ suc (walk held (left - 1) (n + 1))
+  walk-more zero n p e = absurd (not-suc-le-zero p)
+  walk-more (suc m) n p e =
+      ap (λ (b : Bool). cond b (suc (walk held m (suc n))) zero) (sym (ap held (add-one n)) ∙ e)
+      ∙ ap₂ (λ (l j : ℕ). suc (walk held l j)) (let l : m ≡ suc m - 1 = omega arith in l) (sym (add-one n))
+
+  walk-stop : (left n : ℕ) → held (n + 1) ≡ false → walk held left n ≡ 0
+  walk-stop zero n e = refl
+  walk-stop (suc m) n e = ap (λ (b : Bool). cond b (suc (walk held m (suc n))) zero) (sym (ap held (add-one n)) ∙ e)
+
+  walk-end : (left n : ℕ) → left ≤ 0 → walk held left n ≡ 0
+  walk-end zero n p = refl
+  walk-end (suc m) n p = absurd (not-suc-le-zero p)
+
+  pub walk-le : (bound i : ℕ) → walk held bound i ≤ bound
+  walk-le zero i = omega arith
+  walk-le (suc bound) i = go (held (suc i)) (walk-le bound (suc i))
+    where
+      go : (b : Bool) → walk held bound (suc i) ≤ bound → cond b (suc (walk held bound (suc i))) zero ≤ suc bound
+      go true h = omega arith
+      go false h = omega arith
+
+  pub walk-held : (bound i k : ℕ) → walk held bound i ≡ suc k → held (i + suc k) ≡ true
+  walk-held zero i k e = absurd (omega arith)
+  walk-held (suc bound) i k e = go (held (suc i)) refl e (walk-held bound (suc i))
+    where
+      go : (b : Bool) → held (suc i) ≡ b → cond b (suc (walk held bound (suc i))) zero ≡ suc k
+          → ((j : ℕ) → walk held bound (suc i) ≡ suc j → held (suc i + suc j) ≡ true) → held (i + suc k) ≡ true
+      go false h w f = absurd (omega arith)
+      go true h w f = at k (omega arith)
+        where
+          at : (j : ℕ) → walk held bound (suc i) ≡ j → held (i + suc j) ≡ true
+          at zero z = ap held (let n : i + suc zero ≡ suc i = omega arith in n) ∙ h
+          at (suc j) z = ap held (let n : i + suc (suc j) ≡ suc i + suc j = omega arith in n) ∙ f j z
+
+-- k of the numbers after i were held, at most left more are to be looked up, and the last row stands at a place
+pub record Walked (tag : ℕ → List ℕ) (t : Table) (c i k left at : ℕ) : Type 0 where
+  pub bound : k + left ≡ c
+  pub total : k + walk (heldIn tag t) left (i + k) ≡ walk (heldIn tag t) c i
+  pub place : at ≡ lastPlace tag t i k
+
+module _ (tag : ℕ → List ℕ) (t : Table) (c i : ℕ) where
+  pub walked-none : c ≡ length t → Walked tag t c i 0 c c
+  unfolding lastPlace
+  walked-none e =
+      record { bound = omega arith; total = zero-add _ ∙ ap (walk (heldIn tag t) c) (add-zero i); place = e }
+
+  module _ (k left at : ℕ) (w : Walked tag t c i k left at) where
+    module _ (j : ℕ) (found : j ≡ placeOf (tag (i + k + 1)) t) where
+      pub walked-more : 0 < left → j < length t → Walked tag t c i (k + 1) (left - 1) j
+      unfolding lastPlace
+      walked-more p h =
+          let b = w .bound in
+          let s = w .total in
+          let e = walk-more (heldIn tag t) left (i + k) p (place-holds (tag (i + k + 1)) t ∙ lt-ltb (placeOf (tag (i + k + 1)) t) (length t) (omega arith)) in
+          let a : walk (heldIn tag t) (left - 1) (i + (k + 1)) ≡ walk (heldIn tag t) (left - 1) (i + k + 1) =
+          ap (walk (heldIn tag t) (left - 1)) (let n : i + (k + 1) ≡ i + k + 1 = omega arith in n) in
+          record {
+            bound = omega arith;
+            total = omega arith;
+            place = found ∙ ap (λ (n : ℕ). placeOf (tag n) t) (let n : i + k + 1 ≡ i + suc k = omega arith in n) ∙ ap (lastPlace tag t i) (sym (add-one k));
+          }
+
+      pub walked-stop : length t ≤ j → (k ≡ walk (heldIn tag t) c i) × (at ≡ lastPlace tag t i k)
+      walked-stop h =
+          let s = w .total in
+          let e = walk-stop (heldIn tag t) left (i + k) (place-holds (tag (i + k + 1)) t ∙ le-ltb (placeOf (tag (i + k + 1)) t) (length t) (omega arith)) in
+          (omega arith, w .place)
+
+    pub walked-end : left ≤ 0 → (k ≡ walk (heldIn tag t) c i) × (at ≡ lastPlace tag t i k)
+    walked-end h =
+        let s = w .total in
+        let e = walk-end (heldIn tag t) left (i + k) h in
+        (omega arith, w .place)

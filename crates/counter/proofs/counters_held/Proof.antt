@@ -1,0 +1,55 @@
+-- The invariant: what is left of the walk decides.
+use Prim.Native.Nat.{ℕ, _+_}
+use mathlib.Core.Path.{_≡_, sym, ap, _∙_}
+use mathlib.Core.List.{List}
+use native.Mathlib.Omega.{arith}
+use lib.ListN.{length}
+use Rattle.table.specs.Table.{rows, placeOf}
+use Rattle.table.proofs.Rows.{rows-length}
+use Rattle.counter.specs.Walks.{counterTags}
+use Rattle.counter.proofs.Walks.{Walked, walked-none, walked-more, walked-stop, walked-end}
+use borrow.Author.Needs.{needs}
+use Rattle.counter.proofs.counters_held.Statement.{statement}
+use Rattle.counter.proofs.counters_held.Tie as tie
+
+abbrev Inv-loop : tie.InvT-loop
+Inv-loop t c ct start k₀ at₀ rest₀ k at rest = Walked (counterTags ct) (rows 61 c t) c (start .0) k rest at
+
+abbrev μ-loop : tie.MeasureT-loop
+μ-loop t c ct start k₀ at₀ rest₀ k at rest = rest
+
+-- the place of the next one's row
+found : (c : tie.After-place Inv-loop μ-loop) →
+    let a = c .before .before .before .before .before .before .before .args in
+    c .place .result ≡ placeOf (counterTags (a .ct) (a .start .0 + c .before .before .before .before .before .loop .k + 1)) (rows 61 (a .c) (a .t .now))
+found c =
+    let l = c .before .before .before .before .before .loop in
+    let a = c .before .before .before .before .before .before .before .args in
+    c .place .ensures ∙ ap (λ (g : List ℕ). placeOf g (rows 61 (a .c) (a .t .now))) (c .before .before .counter-tag .ensures)
+
+loop-holds : tie.Need-loop-holds Inv-loop μ-loop
+loop-holds c =
+    let a = c .before .args in
+    walked-none (counterTags (a .ct)) (rows 61 (a .c) (a .t .now)) (a .c) (a .start .0) (sym (rows-length 61 (a .c) (a .t .now)))
+
+returns : tie.Need-returns Inv-loop μ-loop
+returns c =
+    let l = c .before .before .before .before .before .before .loop in
+    let a = c .before .before .before .before .before .before .before .before .args in
+    walked-stop (counterTags (a .ct)) (rows 61 (a .c) (a .t .now)) (a .c) (a .start .0) (l .k) (l .rest) (l .at) (l .inv) (c .before .place .result) (found (c .before)) (omega (arith, rows-length 61 (a .c) (a .t .now)))
+
+loop-again : tie.Need-loop-again Inv-loop μ-loop
+loop-again c =
+    let l = c .before .before .before .before .before .before .loop in
+    let a = c .before .before .before .before .before .before .before .before .args in
+    walked-more (counterTags (a .ct)) (rows 61 (a .c) (a .t .now)) (a .c) (a .start .0) (l .k) (l .rest) (l .at) (l .inv) (c .before .place .result) (found (c .before)) (omega arith) (omega (arith, rows-length 61 (a .c) (a .t .now)))
+
+returns-2 : tie.Need-returns-2 Inv-loop μ-loop
+returns-2 c =
+    let l = c .before .loop in
+    let a = c .before .before .before .args in
+    walked-end (counterTags (a .ct)) (rows 61 (a .c) (a .t .now)) (a .c) (a .start .0) (l .k) (l .rest) (l .at) (l .inv) (omega arith)
+
+pub counters-held-spec : {M : Type 1} → statement M
+counters-held-spec =
+    tie.close (tie.spec Inv-loop μ-loop loop-holds (λ c. search needs) (λ c. search needs) (λ c κs. search needs) (λ c κs. search needs) returns (λ c. search needs) (λ c. search needs) (λ c. search needs) loop-again returns-2)

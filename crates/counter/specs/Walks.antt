@@ -1,0 +1,25 @@
+-- What the two walks of a reading find (document 01, "Reading a counter"): how many are held, by the scheme's walk, and the
+-- place of the last one's row.
+use Prim.Native.Nat.{ℕ, zero, suc, _+_}
+use mathlib.Core.Bool.{Bool}
+use mathlib.Core.List.{List}
+use lib.ListN.{length}
+use Rattle.table.specs.Table.{Table, holds, placeOf}
+use Rattle.hmac.specs.declared.Keyed.{Keyed}
+use Rattle.counter.specs.Tags.{counterTagBy, anchorTagBy}
+
+-- the tags by number
+abbrev pub counterTags : Keyed → ℕ → List ℕ
+counterTags ct a = counterTagBy ct (record { 0 = a })
+
+abbrev pub anchorTags : Keyed → ℕ → List ℕ
+anchorTags ct b = anchorTagBy ct (record { 0 = b })
+
+-- whether the table holds the row of a number
+abbrev pub heldIn : (ℕ → List ℕ) → Table → ℕ → Bool
+heldIn tag t = λ i. holds (tag i) t
+
+-- the place of the last of the k rows after number i; where k is 0, the end of the table
+unfoldable pub lastPlace : (ℕ → List ℕ) → Table → ℕ → ℕ → ℕ
+lastPlace tag t i zero = length t
+lastPlace tag t i (suc k) = placeOf (tag (i + suc k)) t

@@ -1,0 +1,259 @@
+// What is counted: the three kinds of number, the tags under a prepared key, and the reading of a
+// counter out of table C (document 01, "Store" and "Reading a counter").
+ghost use mathlib.Core.Path.{_≡_};
+ghost use mathlib.Core.List.{_∷_, []};
+ghost use Prim.Native.Nat.{_*_, _≤_, _<_};
+ghost use lib.ListN.{length, getD};
+ghost use Rattle.table.specs.Table.{rows, body};
+ghost use Rattle.scheme.specs.Suite.{number8};
+ghost use Rattle.scheme.specs.Reading.{limit, walk, reading};
+ghost use Rattle.suite.specs.Program.{program};
+ghost use Rattle.counter.specs.Tags.{tagBy, entryTagBy, counterTagBy, anchorTagBy, KeysOf};
+ghost use Rattle.counter.specs.Walks.{counterTags, anchorTags, heldIn, lastPlace};
+ghost use Rattle.counter.specs.Outcome.{numbersIn, numbersOr, numbersOf, anchorBad, counterBad, readingOf};
+use hmac::Keyed;
+
+// Entry address: the number in the tag of an M row. [01:ST17 FM10]
+pub struct Address(pub u64);
+
+// Counter position: the number in the tag of a counter row, and Start in an anchor. [01:ST17 FM10]
+pub struct Position(pub u64);
+
+// Anchor number: the number in the tag of an anchor row, up to B. [01:ST17 FM10]
+pub struct AnchorNumber(pub u64);
+
+// The tag of a message under a prepared key.
+fn tagged(key: Keyed, m: &[u8]) -> [u8; 32]
+    requires { ⌜ length (now m) ≤ 65536 ⌝ }
+    ensures { λ r. ⌜ r ≡ tagBy key (now (m .entry)) ⌝ }
+{
+    let mut to = [0u8; 32];
+    hmac::tag(key, m, &mut to);
+    to
+}
+
+// A number as a message. [01:KF6]
+fn number(n: u64) -> [u8; 8]
+    ensures { λ r. ⌜ r ≡ number8 n ⌝ }
+{
+    let mut m = [0u8; 8];
+    octets::put(&mut m, n);
+    m
+}
+
+// A byte, then a number of 8 bytes.
+fn message(byte: u8, n: u64) -> [u8; 9]
+    ensures { λ r. ⌜ r ≡ byte ∷ number8 n ⌝ }
+{
+    let mut m = [byte; 9];
+    octets::put(&mut m[1..9], n);
+    m
+}
+
+// The tag of the M row at an address, with the prepared MT. [01:ST6]
+pub fn entry_tag(mt: Keyed, a: Address) -> [u8; 32]
+    ensures { λ r. ⌜ r ≡ entryTagBy mt a ⌝ }
+{
+    let m = number(a.0);
+    tagged(mt, &m)
+}
+
+// The tag of the counter row at a position, with the prepared CT. [01:ST10]
+pub fn counter_tag(ct: Keyed, a: Position) -> [u8; 32]
+    ensures { λ r. ⌜ r ≡ counterTagBy ct a ⌝ }
+{
+    let m = message(1, a.0);
+    tagged(ct, &m)
+}
+
+// The tag of the anchor row of a number, with the prepared CT. [01:ST11]
+pub fn anchor_tag(ct: Keyed, b: AnchorNumber) -> [u8; 32]
+    ensures { λ r. ⌜ r ≡ anchorTagBy ct b ⌝ }
+{
+    let m = message(2, b.0);
+    tagged(ct, &m)
+}
+
+// The keys of one CL: CT prepared, and CE. [01:KT6]
+pub struct Keys {
+    pub ct: Keyed,
+    pub ce: [u8; 32],
+}
+
+// CT = F(CL, 1), prepared, and CE = F(CL, 2); CL itself is prepared once.
+pub fn keys_of(cl: &[u8; 32]) -> Keys
+    ensures { λ r. ⌜ KeysOf r (now (cl .entry)) ⌝ }
+{
+    let k = hmac::prepare(cl);
+    let one = number(1);
+    let two = number(2);
+    let t = tagged(k, &one);
+    let ct = hmac::prepare(&t);
+    let ce = tagged(k, &two);
+    Keys { ct, ce }
+}
+
+// The two numbers in a row of C. [01:ST10 ST11]
+pub struct Numbers {
+    pub a: u64,
+    pub n: u64,
+}
+
+// The numbers in the row of C at a place.
+fn numbers_at(t: &[u8], c: usize, i: usize, ce: &[u8; 32]) -> Numbers
+    requires { ⌜ (i < c) × (length (now t) ≡ 61 * c) ⌝ }
+    ensures { λ r. ⌜ numbersOf r ≡ numbersIn (now (ce .entry)) (body (getD (rows 61 c (now (t .entry))) i [])) ⌝ }
+{
+    let at = 61 * i;
+    let nonce = at + 33;
+    let text = at + 45;
+    let e = at + 61;
+    let mut plain = [0u8; 16];
+    octets::copy(&mut plain, &t[text..e]);
+    chacha20::apply_short(ce, &t[nonce..text], &mut plain);
+    Numbers {
+        a: octets::get(&plain[0..8]),
+        n: octets::get(&plain[8..16]),
+    }
+}
+
+// The numbers in the row of C at a place; others where the table has no such row.
+fn numbers_or(t: &[u8], c: usize, i: usize, ce: &[u8; 32], other: Numbers) -> Numbers
+    requires { ⌜ length (now t) ≡ 61 * c ⌝ }
+    ensures { λ r. ⌜ numbersOf r ≡ numbersOr (now (ce .entry)) (rows 61 c (now (t .entry))) i (numbersOf other) ⌝ }
+{
+    if i < c {
+        numbers_at(t, c, i, ce)
+    } else {
+        other
+    }
+}
+
+// B, and the place of anchor B's row; c where B is 0.
+struct Anchors {
+    b: AnchorNumber,
+    at: usize,
+}
+
+// The greatest B up to c such that anchors 1 to B are all held. [01:RC1]
+fn anchors_held(t: &[u8], c: usize, ct: Keyed) -> Anchors
+    requires { ⌜ (length (now t) ≡ 61 * c) × (c ≤ 4096) ⌝ }
+    ensures { λ r. ⌜ (r .b .0 ≡ walk (heldIn (anchorTags ct) (rows 61 c (now (t .entry)))) c 0) × (r .at ≡ lastPlace (anchorTags ct) (rows 61 c (now (t .entry))) 0 (r .b .0)) ⌝ }
+{
+    let mut b: u64 = 0;
+    let mut at = c;
+    let mut left = c;
+    while 0 < left {
+        let tag = anchor_tag(ct, AnchorNumber(b + 1));
+        let i = table::place(t, 61, c, &tag);
+        if c <= i {
+            return Anchors {
+                b: AnchorNumber(b),
+                at,
+            };
+        }
+        b += 1;
+        at = i;
+        left -= 1;
+    }
+    Anchors {
+        b: AnchorNumber(b),
+        at,
+    }
+}
+
+// k, and the place of counter Start + k's row; c where k is 0.
+struct Counters {
+    k: u64,
+    at: usize,
+}
+
+// The greatest k up to c such that counters Start + 1 to Start + k are all held. [01:RC3]
+fn counters_held(t: &[u8], c: usize, ct: Keyed, start: Position) -> Counters
+    requires { ⌜ (length (now t) ≡ 61 * c) × ((c ≤ 4096) × (start .0 ≤ limit)) ⌝ }
+    ensures { λ r. ⌜ (r .k ≡ walk (heldIn (counterTags ct) (rows 61 c (now (t .entry)))) c (start .0)) × (r .at ≡ lastPlace (counterTags ct) (rows 61 c (now (t .entry))) (start .0) (r .k)) ⌝ }
+{
+    let mut k: u64 = 0;
+    let mut at = c;
+    let mut rest = c;
+    while 0 < rest {
+        let tag = counter_tag(ct, Position(start.0 + k + 1));
+        let i = table::place(t, 61, c, &tag);
+        if c <= i {
+            return Counters { k, at };
+        }
+        k += 1;
+        at = i;
+        rest -= 1;
+    }
+    Counters { k, at }
+}
+
+// A number of anchor B is above 4,294,967,295. [01:RS6]
+fn anchor_damaged(x: Numbers) -> bool
+    ensures { λ r. ⌜ r ≡ anchorBad (numbersOf x) ⌝ }
+{
+    if 4294967295 < x.a {
+        true
+    } else {
+        4294967295 < x.n
+    }
+}
+
+// The first number of counter Start + k isn't 0, or its count is above 4,294,967,295. [01:RS6]
+fn counter_damaged(x: Numbers) -> bool
+    ensures { λ r. ⌜ r ≡ counterBad (numbersOf x) ⌝ }
+{
+    if x.a == 0 { 4294967295 < x.n } else { true }
+}
+
+// A counter: B, Start, k and the count. [01:RC1 RC2 RC3 RC4]
+pub struct Counter {
+    pub b: AnchorNumber,
+    pub start: Position,
+    pub k: u64,
+    pub count: u64,
+}
+
+// What a reading gives. [01:RC5 FM8]
+pub enum Reading {
+    Counter(Counter),
+    Damage,
+}
+
+// Reads the counter of CL, whose keys are given, out of the part that holds table C. Anchor B is
+// tested before the counters are walked, since Start + k could pass 2^64; only anchor B and counter
+// Start + k are decrypted, each where it exists. [01:RC5 RC6 RC7]
+pub fn read_by(t: &[u8], c: usize, cl: &[u8; 32], keys: Keys) -> Reading
+    requires { ⌜ (length (now t) ≡ 61 * c) × ((c ≤ 4096) × KeysOf keys (now cl)) ⌝ }
+    ensures { λ r. ⌜ readingOf r ≡ reading program c (now (cl .entry)) (rows 61 c (now (t .entry))) ⌝ }
+{
+    let ct = keys.ct;
+    let ce = keys.ce;
+    let anchors = anchors_held(t, c, ct);
+    let anchor = numbers_or(t, c, anchors.at, &ce, Numbers { a: 0, n: 0 });
+    if anchor_damaged(anchor) {
+        return Reading::Damage;
+    }
+    let start = Position(anchor.a);
+    let counters = counters_held(t, c, ct, start);
+    let counter = numbers_or(t, c, counters.at, &ce, Numbers { a: 0, n: anchor.n });
+    if counter_damaged(counter) {
+        return Reading::Damage;
+    }
+    let b = anchors.b;
+    Reading::Counter(Counter {
+        b,
+        start,
+        k: counters.k,
+        count: counter.n,
+    })
+}
+
+// Reads the counter of CL out of the part that holds table C.
+pub fn read(t: &[u8], c: usize, cl: &[u8; 32]) -> Reading
+    requires { ⌜ (length (now t) ≡ 61 * c) × (c ≤ 4096) ⌝ }
+    ensures { λ r. ⌜ readingOf r ≡ reading program c (now (cl .entry)) (rows 61 c (now (t .entry))) ⌝ }
+{
+    read_by(t, c, cl, keys_of(cl))
+}
