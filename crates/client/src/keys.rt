@@ -9,23 +9,13 @@ ghost use Rattle.scheme.specs.Keys.{KC, KM, KS};
 ghost use Rattle.suite.specs.Program.{program};
 use hmac::Keyed;
 
-// F of a message under a prepared key.
-pub fn tagged(k: Keyed, m: &[u8]) -> [u8; 32]
-    requires { ⌜ length (now m) ≤ 65536 ⌝ }
-    ensures { λ r. ⌜ r ≡ Tag (words (k .inner)) (words (k .outer)) (now (m .entry)) ⌝ }
-{
-    let mut to = [0u8; 32];
-    hmac::tag(k, m, &mut to);
-    to
-}
-
 // F of a number under a prepared key.
 pub fn numbered(k: Keyed, n: u64) -> [u8; 32]
     ensures { λ r. ⌜ r ≡ Tag (words (k .inner)) (words (k .outer)) (number8 n) ⌝ }
 {
     let mut b = [0u8; 8];
     octets::put(&mut b, n);
-    tagged(k, &b)
+    hmac::tagged(k, &b)
 }
 
 // F of a message, and of a number, under a key that serves once.
@@ -33,7 +23,7 @@ pub fn once(key: &[u8; 32], m: &[u8]) -> [u8; 32]
     requires { ⌜ length (now m) ≤ 65536 ⌝ }
     ensures { λ r. ⌜ r ≡ F (now (key .entry)) (now (m .entry)) ⌝ }
 {
-    tagged(hmac::prepare(key), m)
+    hmac::tagged(hmac::prepare(key), m)
 }
 
 pub fn number_once(key: &[u8; 32], n: u64) -> [u8; 32]

@@ -22,16 +22,6 @@ pub struct Position(pub u64);
 // Anchor number: the number in the tag of an anchor row, up to B. [01:ST17 FM10]
 pub struct AnchorNumber(pub u64);
 
-// The tag of a message under a prepared key.
-fn tagged(key: Keyed, m: &[u8]) -> [u8; 32]
-    requires { ⌜ length (now m) ≤ 65536 ⌝ }
-    ensures { λ r. ⌜ r ≡ tagBy key (now (m .entry)) ⌝ }
-{
-    let mut to = [0u8; 32];
-    hmac::tag(key, m, &mut to);
-    to
-}
-
 // A number as a message. [01:KF6]
 fn number(n: u64) -> [u8; 8]
     ensures { λ r. ⌜ r ≡ number8 n ⌝ }
@@ -55,7 +45,7 @@ pub fn entry_tag(mt: Keyed, a: Address) -> [u8; 32]
     ensures { λ r. ⌜ r ≡ entryTagBy mt a ⌝ }
 {
     let m = number(a.0);
-    tagged(mt, &m)
+    hmac::tagged(mt, &m)
 }
 
 // The tag of the counter row at a position, with the prepared CT. [01:ST10]
@@ -63,7 +53,7 @@ pub fn counter_tag(ct: Keyed, a: Position) -> [u8; 32]
     ensures { λ r. ⌜ r ≡ counterTagBy ct a ⌝ }
 {
     let m = message(1, a.0);
-    tagged(ct, &m)
+    hmac::tagged(ct, &m)
 }
 
 // The tag of the anchor row of a number, with the prepared CT. [01:ST11]
@@ -71,7 +61,7 @@ pub fn anchor_tag(ct: Keyed, b: AnchorNumber) -> [u8; 32]
     ensures { λ r. ⌜ r ≡ anchorTagBy ct b ⌝ }
 {
     let m = message(2, b.0);
-    tagged(ct, &m)
+    hmac::tagged(ct, &m)
 }
 
 // The keys of one CL: CT prepared, and CE. [01:KT6]
@@ -87,9 +77,9 @@ pub fn keys_of(cl: &[u8; 32]) -> Keys
     let k = hmac::prepare(cl);
     let one = number(1);
     let two = number(2);
-    let t = tagged(k, &one);
+    let t = hmac::tagged(k, &one);
     let ct = hmac::prepare(&t);
-    let ce = tagged(k, &two);
+    let ce = hmac::tagged(k, &two);
     Keys { ct, ce }
 }
 

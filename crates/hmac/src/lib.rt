@@ -78,6 +78,16 @@ pub fn tag(k: Keyed, m: &[u8], to: &mut [u8])
     sha256::digest(sha256::finish(outer, 64, to), to);
 }
 
+// The tag of a message under a prepared key, in an array of its own.
+pub fn tagged(k: Keyed, m: &[u8]) -> [u8; 32]
+    requires { ⌜ length (now m) ≤ 65536 ⌝ }
+    ensures { λ r. ⌜ r ≡ Tag (words (k .inner)) (words (k .outer)) (now (m .entry)) ⌝ }
+{
+    let mut to = [0u8; 32];
+    tag(k, m, &mut to);
+    to
+}
+
 // F(key, message), for a key and a message of at most 65,536 bytes each; refusal 9 above, with the
 // tag left as lent.
 pub fn mac(key: &[u8], message: &[u8], out: &mut [u8; 32]) -> Completion
