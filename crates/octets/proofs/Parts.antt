@@ -96,3 +96,29 @@ written-next front junk ys a f =
 
 pub length-written : (xs ys : List ℕ) (a : ℕ) → a + length ys ≤ length xs → length (written xs a ys) ≡ length xs
 length-written xs ys a h = length-back xs a (a + length ys) ys (omega arith) h (omega arith)
+
+-- three pieces fill a list
+pub three-written : (to a b c x y z : List ℕ) → length to ≡ length a + (length b + length c)
+    → x ≡ written to 0 a → y ≡ written x (length a) b → z ≡ written y (length a + length b) c → z ≡ a ++ (b ++ c)
+three-written to a b c x y z h e f g =
+    g ∙ ap (λ (l : List ℕ). written l (length a + length b) c)
+    (f ∙ ap (λ (l : List ℕ). written l (length a) b) (e ∙ written-next [] to a 0 refl) ∙ written-next a (drop (length a) to) b (length a) refl)
+    ∙ written-next (a ++ b) (drop (length b) (drop (length a) to)) c (length a + length b) (length-append a b)
+    ∙ ap₂ (λ (l r : List ℕ). l ++ r) (append-assoc a b c)
+    (drop-of-length-le (drop (length b) (drop (length a) to)) {i = length c} (omega (arith, length-drop (length b) (drop (length a) to), length-drop (length a) to)))
+    ∙ append-nil (a ++ (b ++ c))
+
+-- a list at the start of another: as many elements, read again
+pub front-le : (n : ℕ) (l r whole : List ℕ) → n ≡ length l → whole ≡ l ++ r → n ≤ length whole
+front-le n l r whole e f = omega (arith, ap length f, length-append l r)
+
+pub front-is : (n : ℕ) (l r whole : List ℕ) → n ≡ length l → whole ≡ l ++ r → take n whole ≡ l
+front-is n l r whole e f = ap (take n) f ∙ take-at l r n (sym e)
+
+-- two parts that fill a list
+pub halves : (to x y : List ℕ) (a e : ℕ) → length to ≡ e → length x ≡ a → back (back to 0 a x) a e y ≡ x ++ y
+halves to x y a e h k =
+    back-next x (drop (a - 0) to) y a e k
+    ∙ ap (λ (l : List ℕ). (x ++ y) ++ l)
+    (drop-of-length-le (drop (a - 0) to) {i = e - a} (omega (arith, length-drop (a - 0) to)))
+    ∙ append-nil (x ++ y)

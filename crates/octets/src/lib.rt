@@ -4,6 +4,7 @@ ghost use mathlib.Core.Path.{_≡_};
 ghost use mathlib.Core.List.{_++_};
 ghost use Prim.Native.Nat.{_≤_, _<_, _+_};
 ghost use lib.ListN.{length, replicate};
+ghost use Rattle.octets.specs.Compare.{same as sameBytes};
 ghost use Rattle.octets.specs.Number.{bytes, number};
 ghost use Rattle.octets.specs.Part.{written};
 
@@ -71,4 +72,20 @@ pub fn copy_at(to: &mut [u8], at: usize, from: &[u8])
 {
     let e = at + from.len();
     copy(&mut to[at..e], from);
+}
+
+// Whether two texts of one length are equal. There is no early exit: that is what makes it fast.
+pub fn same(a: &[u8], b: &[u8]) -> bool
+    requires { ⌜ length (now a) ≡ length (now b) ⌝ }
+    ensures { λ r. ⌜ r ≡ sameBytes (now (a .entry)) (now (b .entry)) ⌝ }
+{
+    let mut agree = 0;
+    let mut i = 0;
+    while i < b.len() {
+        if a[i] == b[i] {
+            agree += 1;
+        }
+        i += 1;
+    }
+    agree == b.len()
 }

@@ -5,28 +5,26 @@ use mathlib.Core.Bool.{Bool, true, false, cond, not, _||_, true≢false}
 use mathlib.Core.Logic.{_⊎_, inl, inr, ⊎-elim}
 use mathlib.Core.Option.{Option, none, some}
 use mathlib.Core.List.{List, [], _∷_, _++_, map, List·Memᴰ, List·Memᴰ·head, List·Memᴰ·tail, List·Memᴰ·cases-cons, List·Memᴰ·append-cases, List·Memᴰ·not-nil, Memᴰ·append-left, Memᴰ·append-right}
-use native.Mathlib.Nat.{add-zero}
-use native.Mathlib.Numerals.{add-one}
 use native.Mathlib.Omega.{arith}
 use lib.Dec.{eqb, ltb}
-use lib.ListN.{length, getD, drop}
+use lib.ListN.{length}
 use borrow.Author.Tests.{eqb-true, not-false, ltb-false}
 use Rattle.answer.specs.Answer.{Answer, done, refused}
 use Rattle.table.specs.Lists.{same, select, flat, upTo, All}
-use Rattle.table.proofs.Counting.{same-true, ne-same, neither, select-append}
+use Rattle.table.proofs.Counting.{ne-same, neither, select-append}
 use Rattle.scheme.specs.Suite.{Suite}
 use Rattle.scheme.specs.Labels.{Field, fieldLengthsBad}
 use Rattle.scheme.specs.Store.{Sizes}
 use Rattle.scheme.specs.Refusals.{idCount, idsIn, lengthNot, insertTokenTests, insertInputTests, eraseInputTests, fieldTokenTests}
-use Rattle.answer.specs.Verdict.{Test, verdict, answerOr, unlessRefused}
+use Rattle.answer.specs.Verdict.{Test, verdict, answerOr}
 use Rattle.scheme.specs.Call
 use Rattle.scheme.specs.Call.{Call, Told}
-use Rattle.scheme.specs.Ledger.{Pair, samePair, Entry, Ledger, Bounds, empty, entryOf, withEntry, removed, ledgerInsertVerdict, appended, afterInsert, afterErase, afterCompaction, ledgerIds, ledgerSum, ledgerFindVerdict, ledgerCompactVerdict, nextOr, ledgerStep, ledgerTells}
+use Rattle.scheme.specs.Ledger.{Pair, Entry, Ledger, Bounds, empty, entryOf, removed, ledgerInsertVerdict, appended, afterInsert, afterErase, afterCompaction, ledgerIds, ledgerSum, ledgerFindVerdict, ledgerCompactVerdict, nextOr, ledgerStep, ledgerTells}
 use Rattle.scheme.specs.Claim.{Claim, boundsOf}
-use Rattle.scheme.specs.Corollaries.{Ran, toldAt, accepted, Finds, FindsId, Keeps, NoIdLost, Query, finding, counting, callOf, CompactionHidden, Without, EraseExact, BringsNot, FindsNoId, ErasedGone, Made, ClientsAlike}
-use Rattle.scheme.proofs.Setting.{samePair-true, samePair-refl}
+use Rattle.scheme.specs.Corollaries.{Ran, toldAt, accepted, Finds, Keeps, NoIdLost, Query, finding, counting, callOf, CompactionHidden, EraseExact, BringsNot, ErasedGone, Made, ClientsAlike}
+use Rattle.scheme.proofs.Setting.{by-pair}
 use Rattle.scheme.proofs.LedgerLaws.{entry-own, entry-other, entry-removed}
-use Rattle.scheme.proofs.Verdicts.{orElse, both-none, verdict-append, passed, map-upTo}
+use Rattle.scheme.proofs.Verdicts.{both-none, verdict-append, passed, map-upTo}
 use Rattle.scheme.proofs.Claim.{claim}
 
 -- ---- the ledger along a list
@@ -203,25 +201,18 @@ abbrev Has : Ledger → Pair → List ℕ → Type 0
 Has l pr id = List·Memᴰ id (entryOf pr (l .entries) .ids)
 
 -- an id in a pair's list stays there, unless it is erased
-has-insert : (z : Bounds) (l : Ledger) (pr : Pair) (id : List ℕ) (f : Field) (u : ℕ) (ids : List ℕ) → Has l pr id → Has (afterInsert z l f u ids) pr id
+has-insert : (z : Bounds) (l : Ledger) (id : List ℕ) (f : Field) (u : ℕ) (ids : List ℕ) (pr : Pair) → Has l pr id → Has (afterInsert z l f u ids) pr id
 unfolding afterInsert appended
-has-insert z l pr id f u ids m = go (samePair pr (record { field = f; u = u })) refl
-  where
-    go : (b : Bool) → samePair pr (record { field = f; u = u }) ≡ b → Has (afterInsert z l f u ids) pr id
-    go true e =
-        let q = samePair-true pr (record { field = f; u = u }) e in
-        let k : List·Memᴰ id (entryOf (record { field = f; u = u }) (l .entries) .ids) = rw q at m in
-        rw (q, entry-own (appended z l f u ids) (l .entries)) (Memᴰ·append-left (idsIn ids) k)
-    go false e =
-        let ne : pr ≡ record { field = f; u = u } → ⊥ = λ w. true≢false (sym (samePair-refl (record { field = f; u = u })) ∙ (rw w at e)) in
-        rw (entry-other (appended z l f u ids) (l .entries) pr ne) m
+has-insert z l id f u ids = by-pair (record { field = f; u = u }) (λ pr. Has l pr id → Has (afterInsert z l f u ids) pr id)
+    (λ m. rw (entry-own (appended z l f u ids) (l .entries)) (Memᴰ·append-left (idsIn ids) m))
+    (λ pr ne m. rw (entry-other (appended z l f u ids) (l .entries) pr ne) m)
 
 has-step : (z : Bounds) (l : Ledger) (pr : Pair) (id : List ℕ) (call : Call) → Keeps id call → Has l pr id → Has (ledgerStep z l call .next) pr id
 unfolding ledgerStep
 has-step z l pr id (Call.insert key f p u nonce ids nonces) k m = go (ledgerInsertVerdict z l key f p u nonce ids nonces)
   where
     go : (o : Option Answer) → Has (nextOr z l o (afterInsert z l f u ids)) pr id
-    go none = has-insert z l pr id f u ids m
+    go none = has-insert z l id f u ids pr m
     go (some r) = m
 has-step z l pr id (Call.erase other) k m = go (verdict (eraseInputTests other))
   where
@@ -328,16 +319,11 @@ lacks-erased z l id pr m =
 
 lacks-insert : (z : Bounds) (l : Ledger) (id : List ℕ) (f : Field) (u : ℕ) (ids : List ℕ) → (List·Memᴰ id (idsIn ids) → ⊥) → Lacks l id → Lacks (afterInsert z l f u ids) id
 unfolding afterInsert appended
-lacks-insert z l id f u ids k h pr m = go (samePair pr (record { field = f; u = u })) refl
-  where
-    go : (b : Bool) → samePair pr (record { field = f; u = u }) ≡ b → ⊥
-    go true e =
-        let q = samePair-true pr (record { field = f; u = u }) e in
-        let n : List·Memᴰ id (entryOf (record { field = f; u = u }) (l .entries) .ids ++ idsIn ids) = rw (q, entry-own (appended z l f u ids) (l .entries)) at m in
-        ⊎-elim (h (record { field = f; u = u })) k (List·Memᴰ·append-cases (entryOf (record { field = f; u = u }) (l .entries) .ids) n)
-    go false e =
-        let ne : pr ≡ record { field = f; u = u } → ⊥ = λ w. true≢false (sym (samePair-refl (record { field = f; u = u })) ∙ (rw w at e)) in
-        h pr (rw (entry-other (appended z l f u ids) (l .entries) pr ne) at m)
+lacks-insert z l id f u ids k h = by-pair (record { field = f; u = u }) (λ pr. Has (afterInsert z l f u ids) pr id → ⊥)
+    (λ m.
+    let n : List·Memᴰ id (entryOf (record { field = f; u = u }) (l .entries) .ids ++ idsIn ids) = rw (entry-own (appended z l f u ids) (l .entries)) at m in
+    ⊎-elim (h (record { field = f; u = u })) k (List·Memᴰ·append-cases (entryOf (record { field = f; u = u }) (l .entries) .ids) n))
+    (λ pr ne m. h pr (rw (entry-other (appended z l f u ids) (l .entries) pr ne) at m))
 
 select-mem : (p : List ℕ → Bool) (id : List ℕ) (l : List (List ℕ)) → List·Memᴰ id (select p l) → List·Memᴰ id l
 select-mem p id [] m = m

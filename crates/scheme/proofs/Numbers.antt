@@ -2,7 +2,6 @@
 use Prim.Native.Nat.{ℕ, _<_}
 use mathlib.Core.Path.{_≡_}
 use lib.ListN.{length}
-use Rattle.octets.specs.Number.{bytes, number}
 use Rattle.octets.proofs.Numbers.{length-bytes, read-back}
 use Rattle.scheme.specs.Suite.{number8, valueOf}
 

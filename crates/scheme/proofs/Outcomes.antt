@@ -1,9 +1,8 @@
 -- No call is without an outcome, whatever the store's bytes: where the rules accept, a free row exists, and the one of lowest index
 -- serves. So the claim does not hold for want of runs.
-use Prim.Native.Nat.{ℕ, zero, suc, _+_, _*_, _≤_, _<_}
+use Prim.Native.Nat.{ℕ, zero, suc, _+_, _≤_, _<_}
 use mathlib.Core.Path.{_≡_, refl, sym, ap, _∙_}
-use mathlib.Core.Bool.{Bool, true, false, cond, not, _||_, true≢false}
-use mathlib.Core.Logic.{_≢_}
+use mathlib.Core.Bool.{Bool, true, false, cond, not, _||_}
 use mathlib.Core.Option.{Option, none, some}
 use mathlib.Core.List.{List, [], _∷_, _++_}
 use native.Mathlib.Omega.{arith}
@@ -11,27 +10,26 @@ use lib.Dec.{eqb, ltb}
 use lib.ListN.{length, getD, take, drop, set}
 use lib.Seq.{getD-set-same, getD-set-other}
 use borrow.Author.Tests.{ltb-false, eqb-true, eqb-false}
-use Rattle.answer.specs.Answer.{Answer, done, refused}
+use Rattle.answer.specs.Answer.{Answer}
 use Rattle.table.specs.Lists.{bit, count, All, distinct}
 use Rattle.table.specs.Table.{Row, Table, isFree, used, body, freeRows, indexOf, placeOf, holds, zeroRow, freeAt, Placed, PlacedAll}
 use Rattle.table.specs.Table.PlacedAll.{none-placed, one-placed}
 use Rattle.table.proofs.Counting.{neither, same-length}
-use Rattle.table.proofs.Rows.{zero-free, free-used, placed-same, placed-length, index-holds, Held, place-held, rows-length}
+use Rattle.table.proofs.Rows.{zero-free, free-used, placed-same, placed-length, index-holds, place-held, rows-length}
 use Rattle.scheme.specs.Suite.{Suite}
-use Rattle.scheme.specs.Labels.{Field}
-use Rattle.scheme.specs.Keys.{insertToken, compactionToken, tokenP, tokenMT, tokenME, tokenCL, tokenLog}
-use Rattle.scheme.specs.Store.{Store, cut, joined, sizesOf, headerBad, marksBad, entryRow, reverseRow, counterTag, countedRow, counterRow, anchorRow, logRow}
+use Rattle.scheme.specs.Keys.{insertToken, compactionToken, tokenP, tokenMT, tokenME}
+use Rattle.scheme.specs.Store.{cut, sizesOf, headerBad, marksBad, entryRow, reverseRow, counterTag}
 use Rattle.scheme.specs.Reading
-use Rattle.scheme.specs.Reading.{Reading, damage, reading, damaged, countOf, positionOf, limit, walk, isDamage, anchorsHeld, startOf, countersHeld, counterNumbers}
+use Rattle.scheme.specs.Reading.{Reading, damage, reading, damaged, countOf, limit, walk, isDamage, anchorsHeld, startOf, countersHeld, counterNumbers}
 use Rattle.scheme.specs.Refusals.{Result, idCount, idsIn, insertTokenTests, insertInputTests, tokenTests, keyTests}
-use Rattle.answer.specs.Verdict.{Test, _⇒_, verdict}
-use Rattle.scheme.specs.Insert.{entryRows, reverseRows, newEntries, newReverses, newCounter, newLog, insertedStore, insertReading, newCount, insertStateTests, insertVerdict, Inserted, Insert}
-use Rattle.scheme.specs.Compaction.{heldPlaces, freedCounters, nextAnchor, logged, compactedStore, Anchored, freeLog, Treats, finished, stopped, skipped, anchored, compactVerdict, Compacted, Compact}
+use Rattle.answer.specs.Verdict.{verdict}
+use Rattle.scheme.specs.Insert.{entryRows, reverseRows, newEntries, newReverses, newCounter, newLog, insertedStore, insertReading, newCount, insertStateTests, insertVerdict, Insert}
+use Rattle.scheme.specs.Compaction.{heldPlaces, freedCounters, nextAnchor, logged, compactedStore, freeLog, Treats, finished, stopped, skipped, anchored, Compact}
 use Rattle.scheme.specs.Call
 use Rattle.scheme.specs.Call.{Call, Told}
-use Rattle.scheme.specs.Run.{Step, InsertCall, CompactCall, Gives, Run, ended, step}
+use Rattle.scheme.specs.Run.{Step, Run, ended, step}
 use Rattle.scheme.specs.Lowest.{place, placeAll, insertedLowest, insertLowest, Treated, byReading, treatLowest, treatedLowest, compactLowest, callLowest, tellsLowest, storeLowest}
-use Rattle.scheme.proofs.Verdicts.{orElse, both-none, verdict-append, passed}
+use Rattle.scheme.proofs.Verdicts.{both-none, verdict-append, passed}
 
 -- ---- a free row takes a new one
 
@@ -101,8 +99,8 @@ module _ (suite : Suite) (before ids nonces token : List ℕ) where
       let c = passed (headerBad before) _ _ (b .1) in
       let d = passed (marksBad (cut before)) _ _ (c .1) in
       let f = passed (not (eqb (tokenP token) (sizesOf before .p))) _ _ (d .1) in
-      let g = passed (damaged (insertReading suite before ids nonces token)) _ _ (f .1) in
-      let h = passed (ltb limit (newCount suite before ids nonces token)) _ _ (g .1) in
+      let g = passed (damaged (insertReading suite before token)) _ _ (f .1) in
+      let h = passed (ltb limit (newCount suite before ids token)) _ _ (g .1) in
       let i = passed (ltb (freeRows (cut before .tM)) (idCount ids) || ltb (freeRows (cut before .tV)) (idCount ids)) _ _ (h .1) in
       let j = passed (ltb (freeRows (cut before .tC)) 1) _ _ (i .1) in
       let k = passed (ltb (freeRows (cut before .tS)) 1) _ _ (j .1) in
@@ -122,8 +120,8 @@ module _ (suite : Suite) (before ids nonces token : List ℕ) where
     wrote = λ e.
         let r = room e in
         let n = rows-length 16 (idCount ids) ids in
-        let a = entries-number suite (tokenMT token) (tokenME token) (countOf (insertReading suite before ids nonces token)) (idsIn ids) nonces in
-        let b = reverses-number suite (tokenMT token) (countOf (insertReading suite before ids nonces token)) (idsIn ids) in
+        let a = entries-number suite (tokenMT token) (tokenME token) (countOf (insertReading suite before token)) (idsIn ids) nonces in
+        let b = reverses-number suite (tokenMT token) (countOf (insertReading suite before token)) (idsIn ids) in
         let hM = r .inM in
         let hV = r .inV in
         record {
@@ -131,8 +129,8 @@ module _ (suite : Suite) (before ids nonces token : List ℕ) where
           tV′ = insertedLowest suite before ids nonces token .tV;
           tC′ = insertedLowest suite before ids nonces token .tC;
           tS′ = insertedLowest suite before ids nonces token .tS;
-          entries = placed-all-lowest (cut before .tM) _ (entries-busy suite (tokenMT token) (tokenME token) (countOf (insertReading suite before ids nonces token)) (idsIn ids) nonces) (omega arith);
-          reverses = placed-all-lowest (cut before .tV) _ (reverses-busy suite (tokenMT token) (countOf (insertReading suite before ids nonces token)) (idsIn ids)) (omega arith);
+          entries = placed-all-lowest (cut before .tM) _ (entries-busy suite (tokenMT token) (tokenME token) (countOf (insertReading suite before token)) (idsIn ids) nonces) (omega arith);
+          reverses = placed-all-lowest (cut before .tV) _ (reverses-busy suite (tokenMT token) (countOf (insertReading suite before token)) (idsIn ids)) (omega arith);
           counter = placed-lowest (cut before .tC) _ (r .inC);
           log = placed-lowest (cut before .tS) _ (r .inTS);
           written = rw e refl;

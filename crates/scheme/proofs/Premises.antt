@@ -1,11 +1,11 @@
 -- The premise can be met: a suite whose F spells out the ends of its messages has different tags for every list of calls that names one
 -- field. So the claim does not hold for want of lists under its premise.
-use Prim.Native.Nat.{ℕ, zero, suc, _+_, _*_, _≤_, _<_}
+use Prim.Native.Nat.{ℕ, suc, _+_, _*_, _<_}
 use mathlib.Core.Path.{_≡_, refl, sym, ap, _∙_}
 use mathlib.Core.Logic.{⊎-elim}
 use mathlib.Core.List.{List, [], _∷_, _++_, map, reverse, reverse-reverse, append-assoc, head-eq-of-cons-eq, tail-eq-of-cons-eq, List·Memᴰ, List·Memᴰ·not-nil, List·Memᴰ·cases-cons}
 use native.Mathlib.Omega.{arith}
-use lib.ListN.{length, take, drop, replicate, length-append, length-reverse, length-replicate}
+use lib.ListN.{length, take, drop, replicate, length-append, length-reverse}
 use lib.Seq.{take-at, drop-at, take-take, drop-drop, take-add, take-append-le, length-take-le}
 use Rattle.table.specs.Lists.{All, flat}
 use Rattle.scheme.specs.Suite.{Suite, number8, valueOf}

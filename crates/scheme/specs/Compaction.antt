@@ -1,7 +1,6 @@
 -- Document 01, "Operations": compaction. A relation for the row placing alone.
 use Prim.Native.Nat.{ℕ, zero, suc, _+_, _/_}
 use mathlib.Core.Path.{_≡_}
-use mathlib.Core.Bool.{Bool}
 use mathlib.Core.Option.{Option, none, some}
 use mathlib.Core.List.{List, [], _∷_, _++_, map}
 use lib.Dec.{ltb}
@@ -11,9 +10,9 @@ use Rattle.table.specs.Table.{Row, Table, used, placeOf, freeAt, freeWhere, Pla
 use Rattle.answer.specs.Answer.{Answer, done, refused}
 use Rattle.scheme.specs.Suite.{Suite}
 use Rattle.scheme.specs.Store.{Store, sizesOf, cut, joined, headerBad, marksBad, counterTag, anchorRow, clIn}
-use Rattle.scheme.specs.Reading.{Reading, damage, counter, reading}
+use Rattle.scheme.specs.Reading.{damage, counter, reading}
 use Rattle.scheme.specs.Refusals.{compactionInputTests, tokenTests}
-use Rattle.answer.specs.Verdict.{Test, _⇒_, verdict}
+use Rattle.answer.specs.Verdict.{_⇒_, verdict}
 
 module _ (suite : Suite) where
   -- the places of the rows held as counters start + 1 to start + k [01:OP11]
@@ -56,6 +55,14 @@ pub data Treats (suite : Suite) (c : ℕ) (ks : List ℕ) : List (List ℕ) → 
       → Treats suite c ks cls tC₁ (freeLog suite ks cl tS) (drop 12 nonces) (anchors + 1) (counters + suc k) answer tC′ tS′
       → Treats suite c ks (cl ∷ cls) tC tS nonces anchors counters answer tC′ tS′
 
+-- distinct CL of S in order of first row [01:OP10]
+unfoldable pub logged : Suite → List ℕ → List ℕ → List (List ℕ)
+logged suite before token = distinct (logOf suite token (cut before .tS))
+
+-- the store with its tables C and S after the treatment
+unfoldable pub compactedStore : List ℕ → Table → Table → Store
+compactedStore before tC tS = record { header = cut before .header; tM = cut before .tM; tV = cut before .tV; tC = tC; tS = tS }
+
 module _ (suite : Suite) (before nonces token : List ℕ) where
   -- 4, 6, 10, 11, 19 [01:RI5 RI7 RS2 RS3 RS5]
   unfoldable pub compactVerdict : Option Answer
@@ -65,19 +72,12 @@ module _ (suite : Suite) (before nonces token : List ℕ) where
       ∷ (ltb (length nonces / 12) (length (used (cut before .tS))) ⇒ 19)
       ∷ [])))
 
-  -- distinct CL of S in order of first row [01:OP10]
-  unfoldable pub logged : List (List ℕ)
-  logged = distinct (logOf suite token (cut before .tS))
-
-  unfoldable pub compactedStore : Table → Table → Store
-  compactedStore tC tS = record { header = cut before .header; tM = cut before .tM; tV = cut before .tV; tC = tC; tS = tS }
-
   -- answer: anchors written, counters freed [01:OP13]
   pub record Compacted (answer : Answer) (after : List ℕ) : Type 0 where
     pub tC′ : Table
     pub tS′ : Table
-    pub treats : Treats suite (sizesOf before .c) token logged (cut before .tC) (cut before .tS) nonces 0 0 answer tC′ tS′
-    pub written : after ≡ joined (compactedStore tC′ tS′)
+    pub treats : Treats suite (sizesOf before .c) token (logged suite before token) (cut before .tC) (cut before .tS) nonces 0 0 answer tC′ tS′
+    pub written : after ≡ joined (compactedStore before tC′ tS′)
 
   -- a refusal changes no byte, except 13, which Treats tells [01:RS13]
   pub record Compact (answer : Answer) (after : List ℕ) : Type 0 where

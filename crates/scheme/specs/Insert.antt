@@ -1,7 +1,7 @@
 -- Document 01, "Operations": insert. A relation for the row placing alone.
-use Prim.Native.Nat.{ℕ, zero, suc, _+_, _*_}
+use Prim.Native.Nat.{ℕ, suc, _+_, _*_}
 use mathlib.Core.Path.{_≡_}
-use mathlib.Core.Bool.{Bool, not, _||_}
+use mathlib.Core.Bool.{not, _||_}
 use mathlib.Core.Option.{Option, none, some}
 use mathlib.Core.List.{List, [], _∷_, _++_}
 use lib.Dec.{ltb, eqb}
@@ -25,22 +25,26 @@ module _ (suite : Suite) where
   reverseRows mt g [] = []
   reverseRows mt g (id ∷ ids) = reverseRow suite mt (suc g) id ∷ reverseRows mt (suc g) ids
 
+-- the reading of the token's CL, and the new count [01:OP3]
+unfoldable pub insertReading : Suite → List ℕ → List ℕ → Reading
+insertReading suite before token = reading suite (sizesOf before .c) (tokenCL token) (cut before .tC)
+
+unfoldable pub newCount : Suite → List ℕ → List ℕ → List ℕ → ℕ
+newCount suite before ids token = countOf (insertReading suite before token) + idCount ids
+
+-- the store with its four tables after the writing
+unfoldable pub insertedStore : List ℕ → Table → Table → Table → Table → Store
+insertedStore before tM tV tC tS = record { header = cut before .header; tM = tM; tV = tV; tC = tC; tS = tS }
+
 module _ (suite : Suite) (before ids nonces token : List ℕ) where
-  unfoldable pub insertReading : Reading
-  insertReading = reading suite (sizesOf before .c) (tokenCL token) (cut before .tC)
-
-  -- the new count [01:OP3]
-  unfoldable pub newCount : ℕ
-  newCount = countOf insertReading + idCount ids
-
   -- 10 to 17 [01:RS2 RS3 RS4 RS6 RS7 RS8 RS9 RS10]
   unfoldable pub insertStateTests : List Test
   insertStateTests =
       (headerBad before ⇒ 10)
       ∷ (marksBad (cut before) ⇒ 11)
       ∷ (not (eqb (tokenP token) (sizesOf before .p)) ⇒ 12)
-      ∷ (damaged insertReading ⇒ 13)
-      ∷ (ltb limit newCount ⇒ 14)
+      ∷ (damaged (insertReading suite before token) ⇒ 13)
+      ∷ (ltb limit (newCount suite before ids token) ⇒ 14)
       ∷ (ltb (freeRows (cut before .tM)) (idCount ids) || ltb (freeRows (cut before .tV)) (idCount ids) ⇒ 15)
       ∷ (ltb (freeRows (cut before .tC)) 1 ⇒ 16)
       ∷ (ltb (freeRows (cut before .tS)) 1 ⇒ 17)
@@ -51,20 +55,17 @@ module _ (suite : Suite) (before ids nonces token : List ℕ) where
 
   -- the rows to be written: entries in M and V, the counter at the next position, the token's last 44 bytes in S [01:OP1 OP2]
   unfoldable pub newEntries : List Row
-  newEntries = entryRows suite (tokenMT token) (tokenME token) (countOf insertReading) (idsIn ids) nonces
+  newEntries = entryRows suite (tokenMT token) (tokenME token) (countOf (insertReading suite before token)) (idsIn ids) nonces
 
   unfoldable pub newReverses : List Row
-  newReverses = reverseRows suite (tokenMT token) (countOf insertReading) (idsIn ids)
+  newReverses = reverseRows suite (tokenMT token) (countOf (insertReading suite before token)) (idsIn ids)
 
   unfoldable pub newCounter : Row
-  newCounter = counterRow suite (tokenCL token) (positionOf insertReading + 1) (drop (12 * idCount ids) nonces) newCount
+  newCounter =
+      counterRow suite (tokenCL token) (positionOf (insertReading suite before token) + 1) (drop (12 * idCount ids) nonces) (newCount suite before ids token)
 
   unfoldable pub newLog : Row
   newLog = logRow (tokenLog token)
-
-  -- the store with its four tables after the writing
-  unfoldable pub insertedStore : Table → Table → Table → Table → Store
-  insertedStore tM tV tC tS = record { header = cut before .header; tM = tM; tV = tV; tC = tC; tS = tS }
 
   -- each row in a free row of its table
   pub record Inserted (after : List ℕ) : Type 0 where
@@ -76,10 +77,10 @@ module _ (suite : Suite) (before ids nonces token : List ℕ) where
     pub reverses : PlacedAll (cut before .tV) newReverses tV′
     pub counter : Placed (cut before .tC) newCounter tC′
     pub log : Placed (cut before .tS) newLog tS′
-    pub written : after ≡ joined (insertedStore tM′ tV′ tC′ tS′)
+    pub written : after ≡ joined (insertedStore before tM′ tV′ tC′ tS′)
 
   -- a refusal changes no byte [01:RS13]; otherwise the rows are written and the answer is the new count [01:OP3 OP14 OP15]
   pub record Insert (answer : Answer) (after : List ℕ) : Type 0 where
-    pub answered : answer ≡ answerOr insertVerdict (done (newCount ∷ []))
+    pub answered : answer ≡ answerOr insertVerdict (done (newCount suite before ids token ∷ []))
     pub kept : (r : Answer) → insertVerdict ≡ some r → after ≡ before
     pub wrote : insertVerdict ≡ none → Inserted after

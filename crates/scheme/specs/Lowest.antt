@@ -16,7 +16,7 @@ use Rattle.scheme.specs.Compaction.{freedCounters, nextAnchor, freeLog, 
 use Rattle.scheme.specs.Erase
 use Rattle.scheme.specs.Call
 use Rattle.scheme.specs.Call.{Call, Told}
-use Rattle.scheme.specs.Run.{madeOr, findCall, countTokenCall}
+use Rattle.scheme.specs.Run.{madeOr, findCall, countCall}
 
 abbrev pub place : Table → Row → Table
 place t row = set t (indexOf isFree t) row
@@ -28,7 +28,7 @@ placeAll t (row ∷ rest) = placeAll (place t row) rest
 module _ (suite : Suite) (before : List ℕ) where
   unfoldable pub insertedLowest : List ℕ → List ℕ → List ℕ → Store
   insertedLowest ids nonces token =
-      insertedStore suite before ids nonces token
+      insertedStore before
       (placeAll (cut before .tM) (newEntries suite before ids nonces token))
       (placeAll (cut before .tV) (newReverses suite before ids nonces token))
       (place (cut before .tC) (newCounter suite before ids nonces token))
@@ -36,7 +36,7 @@ module _ (suite : Suite) (before : List ℕ) where
 
   unfoldable pub insertLowest : List ℕ → List ℕ → List ℕ → Result
   insertLowest ids nonces token = record {
-    answer = answerOr (insertVerdict suite before ids nonces token) (done (newCount suite before ids nonces token ∷ []));
+    answer = answerOr (insertVerdict suite before ids nonces token) (done (newCount suite before ids token ∷ []));
     store = unlessRefused (insertVerdict suite before ids nonces token) (joined (insertedLowest ids nonces token)) before;
     output = [];
   }
@@ -66,13 +66,13 @@ treatLowest suite c ks (cl ∷ cls) tC tS nonces a w =
 module _ (suite : Suite) (before : List ℕ) where
   unfoldable pub treatedLowest : List ℕ → List ℕ → Treated
   treatedLowest nonces token =
-      treatLowest suite (sizesOf before .c) token (logged suite before nonces token) (cut before .tC) (cut before .tS) nonces 0 0
+      treatLowest suite (sizesOf before .c) token (logged suite before token) (cut before .tC) (cut before .tS) nonces 0 0
 
   unfoldable pub compactLowest : List ℕ → List ℕ → Result
   compactLowest nonces token = record {
     answer = answerOr (compactVerdict suite before nonces token) (treatedLowest nonces token .answer);
     store = unlessRefused (compactVerdict suite before nonces token)
-        (joined (compactedStore suite before nonces token (treatedLowest nonces token .tC) (treatedLowest nonces token .tS)))
+        (joined (compactedStore before (treatedLowest nonces token .tC) (treatedLowest nonces token .tS)))
         before;
     output = [];
   }
@@ -83,7 +83,7 @@ module _ (suite : Suite) (before : List ℕ) where
       madeOr (verdict (insertTokenTests key f p u nonce)) (insertLowest suite before ids nonces (insertToken suite key f p u nonce)) before []
   callLowest (Call.erase id) = Erase.erase before id
   callLowest (Call.find key f output) = findCall suite before key f output
-  callLowest (Call.count key f) = countTokenCall suite before key f
+  callLowest (Call.count key f) = countCall suite before key f
   callLowest (Call.compact key nonces) =
       madeOr (verdict (keyTests key)) (compactLowest nonces (compactionToken suite key)) before []
 

@@ -13,7 +13,7 @@ use Rattle.answer.specs.Verdict.{verdict}
 use Rattle.scheme.specs.Insert.{Insert}
 use Rattle.scheme.specs.Erase
 use Rattle.scheme.specs.Find
-use Rattle.scheme.specs.Count.{countCall}
+use Rattle.scheme.specs.Count
 use Rattle.scheme.specs.Compaction.{Compact}
 use Rattle.scheme.specs.Call
 use Rattle.scheme.specs.Call.{Call, Told}
@@ -37,9 +37,9 @@ module _ (suite : Suite) (before : List ℕ) where
   findCall key f output =
       madeOr (verdict (fieldTokenTests key f)) (Find.find suite before (findToken suite key f) output) before output
 
-  unfoldable pub countTokenCall : List ℕ → Field → Result
-  countTokenCall key f =
-      madeOr (verdict (fieldTokenTests key f)) (countCall suite before (countToken suite key f)) before []
+  unfoldable pub countCall : List ℕ → Field → Result
+  countCall key f =
+      madeOr (verdict (fieldTokenTests key f)) (Count.count suite before (countToken suite key f)) before []
 
 -- a call that is a function gives its result
 pub record Gives (result : Result) (told : Told) (after : List ℕ) : Type 0 where
@@ -53,7 +53,7 @@ Step suite (Call.insert key f p u nonce ids nonces) before told after =
     InsertCall suite before key f p u nonce ids nonces (told .answer) after × (told .output ≡ [])
 Step suite (Call.erase id) before told after = Gives (Erase.erase before id) told after
 Step suite (Call.find key f output) before told after = Gives (findCall suite before key f output) told after
-Step suite (Call.count key f) before told after = Gives (countTokenCall suite before key f) told after
+Step suite (Call.count key f) before told after = Gives (countCall suite before key f) told after
 Step suite (Call.compact key nonces) before told after = CompactCall suite before key nonces (told .answer) after × (told .output ≡ [])
 
 -- call after call

@@ -1,20 +1,19 @@
 -- Laws of one table: what placing a row and freeing rows do to the used rows, to lookups and to widths, and cutting a table
 -- out of bytes again.
 use Prim.Native.Nat.{ℕ, zero, suc, _+_, _*_, _≤_, _<_}
-use mathlib.Core.Path.{_≡_, refl, sym, ap, _∙_}
-use mathlib.Core.Bool.{Bool, true, false, cond, not, _&&_, _||_, true≢false}
+use mathlib.Core.Path.{_≡_, refl, sym, ap, _∙_, ap₂}
+use mathlib.Core.Bool.{Bool, true, false, cond, not, _&&_, true≢false, _||_}
 use mathlib.Core.Logic.{_≢_, _⊎_, inl, inr}
-use mathlib.Core.Option.{Option, none, some}
-use mathlib.Core.List.{List, [], _∷_, _++_, map, append-assoc}
-use native.Mathlib.Nat.{zero-add, not-suc-le-zero, le-of-suc-le-suc}
+use mathlib.Core.Option.{none, some, Option}
+use mathlib.Core.List.{List, [], _∷_, _++_, append-assoc, map}
+use native.Mathlib.Nat.{not-suc-le-zero, le-of-suc-le-suc, zero-add}
 use native.Mathlib.Omega.{arith}
-use lib.Dec.{eqb, ltb}
-use lib.ListN.{length, getD, take, drop, set, replicate, length-append, length-replicate, length-set}
-use lib.Seq.{take-at, drop-at, getD-set-other, getD-set-same}
-use Rattle.table.specs.Lists.{bit, same, select, count, first, anyOf, isSome, flat, All, Same}
-use Rattle.table.specs.Table.{Row, Table, rows, markOf, isFree, body, used, freeRows, hasTag, lookup, holds, indexOf, placeOf, zeroRow, freeAt, freeWhere, Placed, PlacedAll}
+use lib.ListN.{length, getD, drop, set, replicate, length-append, length-set}
+use lib.Seq.{take-at, drop-at, getD-set-other}
+use Rattle.table.specs.Lists.{bit, select, count, first, isSome, flat, All, Same}
+use Rattle.table.specs.Table.{Row, Table, rows, isFree, body, used, freeRows, hasTag, lookup, holds, indexOf, placeOf, zeroRow, freeAt, freeWhere, Placed, PlacedAll}
 use Rattle.table.specs.Table.PlacedAll.{none-placed, one-placed}
-use Rattle.table.proofs.Counting.{both, neither, count-append, Same-refl, Same-trans, Same-cons, same-length, first-none, none-first}
+use Rattle.table.proofs.Counting.{both}
 
 -- a row of all zeros is free
 pub zero-free : (w : ℕ) → isFree (zeroRow w) ≡ true
@@ -119,6 +118,17 @@ free-where-all P w q (r ∷ rs) z a = (go (not (isFree r) && q (body r)), free-w
     go : (b : Bool) → P (cond b (zeroRow w) r)
     go true = z
     go false = a .0
+
+-- freed by one test, then by another
+pub free-where-or : (w : ℕ) (p q : List ℕ → Bool) (t : Table) → freeWhere w q (freeWhere w p t) ≡ freeWhere w (λ b. p b || q b) t
+free-where-or w p q [] = refl
+free-where-or w p q (r ∷ rs) = ap₂ (λ (x : Row) (xs : Table). x ∷ xs) (go (isFree r) (p (body r)) refl) (free-where-or w p q rs)
+  where
+    go : (f c : Bool) → isFree r ≡ f
+        → cond (not (isFree (cond (not f && c) (zeroRow w) r)) && q (body (cond (not f && c) (zeroRow w) r))) (zeroRow w) (cond (not f && c) (zeroRow w) r) ≡ cond (not f && (c || q (body r))) (zeroRow w) r
+    go true c e = rw e
+    go false true e = rw (zero-free w)
+    go false false e = rw e
 
 -- one used row freed: one used row fewer; a row without the property leaves the first row with it; none stays none
 zeroed-length : (w : ℕ) (t : Table) (i : ℕ) → i < length t → isFree (getD t i []) ≡ false → length (used t) ≡ suc (length (used (set t i (zeroRow w))))
@@ -283,6 +293,10 @@ placed-next t row rest t′ (one-placed {t₁ = b} p ps) = record { between = b;
 pub rows-length : (w n : ℕ) (l : List ℕ) → length (rows w n l) ≡ n
 rows-length w zero l = refl
 rows-length w (suc n) l = ap suc (rows-length w n (drop w l))
+
+-- each of n rows is free or used
+pub rows-free : (w n : ℕ) (l : List ℕ) → n ≡ freeRows (rows w n l) + length (used (rows w n l))
+rows-free w n l = sym (rows-length w n l) ∙ free-used (rows w n l)
 
 pub rows-wide : (w n : ℕ) (l : List ℕ) → w * n ≤ length l → All (λ r. length r ≡ w) (rows w n l)
 rows-wide w zero l h = tt

@@ -1,7 +1,7 @@
 -- Laws for the code: the row at an index as a part of the bytes, one row further in a walk over the rows, and a row that was
 -- lent and has come back.
 use Prim.Native.Nat.{ℕ, zero, suc, _+_, _*_, _-_, _≤_, _<_}
-use mathlib.Core.Path.{_≡_, refl, sym, ap, _∙_}
+use mathlib.Core.Path.{_≡_, refl, sym, ap, ap₂, _∙_}
 use mathlib.Core.Bool.{Bool, true, false, cond, not, _&&_, true≢false}
 use mathlib.Core.Option.{Option, none, some}
 use mathlib.Core.List.{List, [], _∷_, _++_, append-assoc}
@@ -9,7 +9,7 @@ use native.Mathlib.Nat.{mul-zero, mul-suc, add-zero, mul-le-mul-left, add-sub-ca
 use native.Mathlib.Numerals.{add-one}
 use native.Mathlib.Omega.{arith}
 use lib.Dec.{eqb, ltb}
-use lib.ListN.{length, getD, take, drop, set, length-take, length-drop, drop-of-length-le, take-append-drop}
+use lib.ListN.{length, getD, take, drop, set, length-drop, drop-of-length-le, take-append-drop}
 use lib.Seq.{take-at, drop-at, take-add, take-take, drop-drop, drop-cons, getD-take, getD-drop, take-nil, length-take-le}
 use borrow.Author.Tests.{lt-ltb, le-ltb, ltb-true, ltb-false, eq-eqb, ne-eqb}
 use Rattle.octets.specs.Part.{back}
@@ -40,19 +40,25 @@ pub row-length : (w n i : ℕ) (t : List ℕ) → i < n → length t ≡ w * n �
 row-length w n i t h e =
     length-part t (w * i) (w * i + w) (omega (arith, row-end w n i h)) ∙ add-sub-cancel-left (w * i) w
 
--- k bytes of a row, from its byte a on; its mark is byte 0
-pub field-at : (w n i a k : ℕ) (t : List ℕ) → i < n → a + k ≤ w → take k (drop a (getD (rows w n t) i [])) ≡ take k (drop (w * i + a) t)
-field-at w n i a k t h f =
-    ap (λ (r : Row). take k (drop a r)) (row-at w n i t h) ∙ ap (take k) (inner a w (drop (w * i) t)) ∙ shorter
-  where
-    inner : (a w : ℕ) (l : List ℕ) → drop a (take w l) ≡ take (w - a) (drop a l)
-    inner zero w l = ap (λ (m : ℕ). take m l) (let e : w ≡ w - 0 = omega arith in e)
-    inner (suc a) zero l = ap (λ (m : ℕ). take m (drop (suc a) l)) (let e : 0 ≡ 0 - suc a = omega arith in e)
-    inner (suc a) (suc w) [] = sym (take-nil (suc w - suc a))
-    inner (suc a) (suc w) (x ∷ xs) = inner a w xs ∙ ap (λ (m : ℕ). take m (drop a xs)) (let e : w - a ≡ suc w - suc a = omega arith in e)
+drop-take : (a w : ℕ) (l : List ℕ) → drop a (take w l) ≡ take (w - a) (drop a l)
+drop-take zero w l = ap (λ (m : ℕ). take m l) (let e : w ≡ w - 0 = omega arith in e)
+drop-take (suc a) zero l = ap (λ (m : ℕ). take m (drop (suc a) l)) (let e : 0 ≡ 0 - suc a = omega arith in e)
+drop-take (suc a) (suc w) [] = sym (take-nil (suc w - suc a))
+drop-take (suc a) (suc w) (x ∷ xs) = drop-take a w xs ∙ ap (λ (m : ℕ). take m (drop a xs)) (let e : w - a ≡ suc w - suc a = omega arith in e)
 
-    shorter : take k (take (w - a) (drop a (drop (w * i) t))) ≡ take k (drop (w * i + a) t)
-    shorter = take-take k (w - a) (drop a (drop (w * i) t)) (omega arith) ∙ ap (take k) (drop-drop a (w * i) t)
+-- a row from its byte a on; k bytes of it; the same of a row without its mark
+pub tail-at : (w n i a : ℕ) (t : List ℕ) → i < n → drop a (getD (rows w n t) i []) ≡ take (w - a) (drop (w * i + a) t)
+tail-at w n i a t h =
+    ap (λ (r : Row). drop a r) (row-at w n i t h) ∙ drop-take a w (drop (w * i) t) ∙ ap (λ (l : List ℕ). take (w - a) l) (drop-drop a (w * i) t)
+
+pub field-at : (w n i a k : ℕ) (t : List ℕ) → i < n → a + k ≤ w → take k (drop a (getD (rows w n t) i [])) ≡ take k (drop (w * i + a) t)
+field-at w n i a k t h f = ap (λ (l : List ℕ). take k l) (tail-at w n i a t h) ∙ take-take k (w - a) (drop (w * i + a) t) (omega arith)
+
+pub body-tail : (w n i a : ℕ) (t : List ℕ) → i < n → drop a (body (getD (rows w n t) i [])) ≡ take (w - (1 + a)) (drop (w * i + (1 + a)) t)
+body-tail w n i a t h = drop-drop a 1 (getD (rows w n t) i []) ∙ tail-at w n i (1 + a) t h
+
+pub body-field : (w n i a k : ℕ) (t : List ℕ) → i < n → 1 + a + k ≤ w → take k (drop a (body (getD (rows w n t) i []))) ≡ take k (drop (w * i + (1 + a)) t)
+body-field w n i a k t h f = ap (λ (l : List ℕ). take k l) (drop-drop a 1 (getD (rows w n t) i [])) ∙ field-at w n i (1 + a) k t h f
 
 pub mark-at : (w n i : ℕ) (t : List ℕ) → 1 ≤ w → i < n → markOf (getD (rows w n t) i []) ≡ getD t (w * i) 0
 mark-at w n i t p h =
@@ -68,6 +74,14 @@ flat-rows w zero t h = sym (empty t (h ∙ mul-zero w))
     empty (x ∷ xs) e = absurd (omega arith)
 flat-rows w (suc n) t h =
     ap (λ (l : List ℕ). take w t ++ l) (flat-rows w n (drop w t) (omega (arith, length-drop w t, mul-suc w n))) ∙ take-append-drop w t
+
+-- only the first rows' bytes count
+pub rows-take : (w n k : ℕ) (t : List ℕ) → w * n ≤ k → rows w n (take k t) ≡ rows w n t
+rows-take w zero k t h = refl
+rows-take w (suc n) k t h =
+    let m = mul-suc w n in
+    ap₂ (λ (r : Row) (rs : Table). r ∷ rs) (take-take w k t (omega arith))
+    (ap (rows w n) (drop-take w k t) ∙ rows-take w n (k - w) (drop w t) (omega arith))
 
 -- ---- one row further
 
@@ -111,18 +125,18 @@ module _ (q : Row → Bool) (w n i z : ℕ) (t : List ℕ) (e : i + indexOf q (d
 -- ---- what an index tells
 
 -- where a row is free, one is found, and it can take a row
+pub free-inside : (t : Table) → 1 ≤ freeRows t → indexOf isFree t < length t
+free-inside [] h = absurd (not-suc-le-zero h)
+free-inside (r ∷ rs) h = go (isFree r) h (free-inside rs)
+  where
+    go : (b : Bool) → 1 ≤ bit b + freeRows rs → (1 ≤ freeRows rs → indexOf isFree rs < length rs) → cond b zero (suc (indexOf isFree rs)) < suc (length rs)
+    go true h k = omega arith
+    go false h k = let l = k (omega arith) in omega arith
+
 pub free-placed : (t : Table) (row : Row) → 1 ≤ freeRows t → Placed t row (set t (indexOf isFree t) row)
 free-placed t row h =
-    let k = inside t h in
+    let k = free-inside t h in
     record { at = indexOf isFree t; inside = k; free = index-holds isFree t k; put = refl }
-  where
-    inside : (t : Table) → 1 ≤ freeRows t → indexOf isFree t < length t
-    inside [] h = absurd (not-suc-le-zero h)
-    inside (r ∷ rs) h = go (isFree r) h (inside rs)
-      where
-        go : (b : Bool) → 1 ≤ bit b + freeRows rs → (1 ≤ freeRows rs → indexOf isFree rs < length rs) → cond b zero (suc (indexOf isFree rs)) < suc (length rs)
-        go true h k = omega arith
-        go false h k = let l = k (omega arith) in omega arith
 
 -- the row at a tag's place is what a lookup finds [01:ST13]
 pub place-found : (tag : List ℕ) (t : Table) → placeOf tag t < length t → lookup tag t ≡ some (body (getD t (placeOf tag t) []))
@@ -272,54 +286,3 @@ module _ (w : ℕ) (q : List ℕ → Bool) where
         let c = f .freed in
         let z : count q (used (drop i t₀)) ≡ 0 = ap (λ (l : Table). count q (used l)) (drop-of-length-le t₀ h) in
         (omega arith, f .now ∙ freed-all i t₀ h)
-
--- ---- bytes that agree
-
-abbrev pub agreed : List ℕ → List ℕ → ℕ
-agreed [] ys = 0
-agreed (x ∷ xs) [] = 0
-agreed (x ∷ xs) (y ∷ ys) = bit (eqb x y) + agreed xs ys
-
-pub agreed-next : (i : ℕ) (a b : List ℕ) → i < length a → i < length b
-    → agreed (drop i a) (drop i b) ≡ bit (eqb (getD a i 0) (getD b i 0)) + agreed (drop (i + 1) a) (drop (i + 1) b)
-agreed-next i a b h k = rw (add-one i, drop-cons a i 0 h, drop-cons b i 0 k)
-
-pub agreed-end : (i x z : ℕ) (a b : List ℕ) → length a ≤ i → x + agreed (drop i a) (drop i b) ≡ z → x ≡ z
-agreed-end i x z a b h e = sym (add-zero x) ∙ ap (λ (l : List ℕ). x + agreed l (drop i b)) (sym (drop-of-length-le a h)) ∙ e
-
--- lists of one length are equal where as many bytes agree
-pub same-agreed : (a b : List ℕ) (k : ℕ) → length a ≡ length b → k ≡ agreed a b → eqb k (length b) ≡ same a b
-same-agreed a b k l e = go (same a b) refl
-  where
-    most : (a b : List ℕ) → agreed a b ≤ length b
-    most [] b = omega arith
-    most (x ∷ xs) [] = omega arith
-    most (x ∷ xs) (y ∷ ys) = at (eqb x y) (most xs ys)
-      where
-        at : (c : Bool) → agreed xs ys ≤ length ys → bit c + agreed xs ys ≤ suc (length ys)
-        at true h = omega arith
-        at false h = omega arith
-
-    all : (a b : List ℕ) → length a ≡ length b → same a b ≡ true → agreed a b ≡ length b
-    all [] [] l e = refl
-    all [] (y ∷ ys) l e = absurd (omega arith)
-    all (x ∷ xs) [] l e = absurd (omega arith)
-    all (x ∷ xs) (y ∷ ys) l e = at (eqb x y) e (all xs ys (omega arith))
-      where
-        at : (c : Bool) → (c && same xs ys) ≡ true → (same xs ys ≡ true → agreed xs ys ≡ length ys) → bit c + agreed xs ys ≡ suc (length ys)
-        at true e h = let k = h e in omega arith
-        at false e h = absurd (true≢false (sym e))
-
-    some : (a b : List ℕ) → length a ≡ length b → same a b ≡ false → agreed a b < length b
-    some [] [] l e = absurd (true≢false e)
-    some [] (y ∷ ys) l e = absurd (omega arith)
-    some (x ∷ xs) [] l e = absurd (omega arith)
-    some (x ∷ xs) (y ∷ ys) l e = at (eqb x y) e (most xs ys) (some xs ys (omega arith))
-      where
-        at : (c : Bool) → (c && same xs ys) ≡ false → agreed xs ys ≤ length ys → (same xs ys ≡ false → agreed xs ys < length ys) → bit c + agreed xs ys < suc (length ys)
-        at true e m h = let k = h e in omega arith
-        at false e m h = omega arith
-
-    go : (c : Bool) → same a b ≡ c → eqb k (length b) ≡ c
-    go true s = eq-eqb k (length b) (e ∙ all a b l s)
-    go false s = ne-eqb k (length b) (λ x. let h = some a b l s in absurd (omega arith))

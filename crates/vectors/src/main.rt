@@ -19,6 +19,7 @@ ghost use mathlib.Core.Path.{_≡_};
 ghost use Prim.Native.Nat.{_<_, _^_};
 ghost use lib.ListN.{length};
 ghost use Rattle.io.specs.Counts.{Counts};
+ghost use Rattle.chacha20.specs.Call.{cipherText};
 
 // Room for a byte string: the longest that a call accepts is 65,536 bytes, and the records have
 // one of 65,537.
@@ -159,7 +160,7 @@ fn mac_record()
 
 // Runs the cipher over the text, of which lent is a copy.
 fn cipher(key: &[u8], nonce: &[u8], text: &mut [u8], lent: &[u8])
-    ensures { λ _. ⌜ length (now (text .exit)) ≡ length (now (text .entry)) ⌝ }
+    ensures { λ _. ⌜ now (text .exit) ≡ cipherText (now (key .entry)) (now (nonce .entry)) (now (text .entry)) ⌝ }
 {
     let done = chacha20::apply(key, nonce, text);
     write_line(done, text, lent);

@@ -1,6 +1,6 @@
 -- The first rows are gone through, and those freed are counted.
 use Prim.Native.Nat.{ℕ, _+_, _*_, _-_, _≤_, _<_}
-use mathlib.Core.Path.{_≡_, ap, sym, refl, _∙_}
+use mathlib.Core.Path.{_≡_, ap, refl, _∙_}
 use mathlib.Core.Bool.{Bool, not, _&&_}
 use mathlib.Core.List.{List, []}
 use mathlib.Core.Logic.{⊎-elim}
