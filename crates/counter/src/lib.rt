@@ -179,22 +179,21 @@ fn counters_held(t: &[u8], c: usize, ct: Keyed, start: Position) -> Counters
     Counters { k, at }
 }
 
-// A number of anchor B is above 4,294,967,295. [01:RS6]
+// The greatest number of an anchor, and the greatest count. [01:RS6]
+const GREATEST: u64 = 4_294_967_295;
+
+// A number of anchor B is above the greatest. [01:RS6]
 fn anchor_damaged(x: Numbers) -> bool
     ensures { λ r. ⌜ r ≡ anchorBad (numbersOf x) ⌝ }
 {
-    if 4294967295 < x.a {
-        true
-    } else {
-        4294967295 < x.n
-    }
+    if GREATEST < x.a { true } else { GREATEST < x.n }
 }
 
-// The first number of counter Start + k isn't 0, or its count is above 4,294,967,295. [01:RS6]
+// The first number of counter Start + k isn't 0, or its count is above the greatest. [01:RS6]
 fn counter_damaged(x: Numbers) -> bool
     ensures { λ r. ⌜ r ≡ counterBad (numbersOf x) ⌝ }
 {
-    if x.a == 0 { 4294967295 < x.n } else { true }
+    if x.a == 0 { GREATEST < x.n } else { true }
 }
 
 // A counter: B, Start, k and the count. [01:RC1 RC2 RC3 RC4]
