@@ -11,7 +11,7 @@ use lib.Bits.{bitXor}
 use lib.Dec.{leb}
 use Rattle.sha256.specs.Constants.{H0}
 use Rattle.sha256.specs.Compression.{Compress}
-use Rattle.sha256.specs.Hash.{Hash, Final, Digest, pick}
+use Rattle.sha256.specs.Hash.{Hash, Final, Digest}
 use Rattle.sha256.proofs.Laws.{after-block, length-hash}
 use Rattle.hmac.specs.Hmac.{Used, Block, Pad, F, Inner, Outer, Tag}
 

@@ -6,7 +6,7 @@ use native.Mathlib.Omega.{arith}
 use native.Mathlib.Numerals.{add-one}
 use lib.ListN.{length, length-append, length-take, length-drop, length-map, drop-of-length-le, take, drop, set, getD, take-append-drop}
 use lib.Seq.{take-suc, take-suc-set, take-all, take-at, drop-at, drop-cons, drop-drop, getD-at, set-at, length-take-le}
-use Rattle.octets.specs.Part.{back}
+use Rattle.octets.specs.Part.{back, written}
 
 pub copy-byte : (i : ℕ) (to from : List ℕ) → i < length to → i < length from → take i to ≡ take i from
     → take (i + 1) (set to i (getD from i 0)) ≡ take (i + 1) from
@@ -84,3 +84,41 @@ module _ (f : ℕ → ℕ) (i : ℕ) (xs : List ℕ) where
         ∙ set-at (map f (take i xs)) (getD xs i 0) (drop (suc i) xs) (f (getD xs i 0)) i front
         ∙ sym (append-assoc (map f (take i xs)) (f (getD xs i 0) ∷ []) (drop (suc i) xs))
         ∙ rw (add-one i, take-suc xs i 0 h, map-append f (take i xs) (getD xs i 0 ∷ []))
+
+-- ---- pieces written one after the other
+
+pub written-next : (front junk ys : List ℕ) (a : ℕ) → length front ≡ a → written (front ++ junk) a ys ≡ (front ++ ys) ++ drop (length ys) junk
+written-next front junk ys a f =
+    back-next front junk ys a (a + length ys) f ∙ ap (λ (k : ℕ). (front ++ ys) ++ drop k junk) (gap a (length ys))
+  where
+    gap : (a n : ℕ) → a + n - a ≡ n
+    gap a n = omega arith
+
+pub length-written : (xs ys : List ℕ) (a : ℕ) → a + length ys ≤ length xs → length (written xs a ys) ≡ length xs
+length-written xs ys a h = length-back xs a (a + length ys) ys (omega arith) h (omega arith)
+
+-- three pieces fill a list
+pub three-written : (to a b c x y z : List ℕ) → length to ≡ length a + (length b + length c)
+    → x ≡ written to 0 a → y ≡ written x (length a) b → z ≡ written y (length a + length b) c → z ≡ a ++ (b ++ c)
+three-written to a b c x y z h e f g =
+    g ∙ ap (λ (l : List ℕ). written l (length a + length b) c)
+    (f ∙ ap (λ (l : List ℕ). written l (length a) b) (e ∙ written-next [] to a 0 refl) ∙ written-next a (drop (length a) to) b (length a) refl)
+    ∙ written-next (a ++ b) (drop (length b) (drop (length a) to)) c (length a + length b) (length-append a b)
+    ∙ ap₂ (λ (l r : List ℕ). l ++ r) (append-assoc a b c)
+    (drop-of-length-le (drop (length b) (drop (length a) to)) {i = length c} (omega (arith, length-drop (length b) (drop (length a) to), length-drop (length a) to)))
+    ∙ append-nil (a ++ (b ++ c))
+
+-- a list at the start of another: as many elements, read again
+pub front-le : (n : ℕ) (l r whole : List ℕ) → n ≡ length l → whole ≡ l ++ r → n ≤ length whole
+front-le n l r whole e f = omega (arith, ap length f, length-append l r)
+
+pub front-is : (n : ℕ) (l r whole : List ℕ) → n ≡ length l → whole ≡ l ++ r → take n whole ≡ l
+front-is n l r whole e f = ap (take n) f ∙ take-at l r n (sym e)
+
+-- two parts that fill a list
+pub halves : (to x y : List ℕ) (a e : ℕ) → length to ≡ e → length x ≡ a → back (back to 0 a x) a e y ≡ x ++ y
+halves to x y a e h k =
+    back-next x (drop (a - 0) to) y a e k
+    ∙ ap (λ (l : List ℕ). (x ++ y) ++ l)
+    (drop-of-length-le (drop (a - 0) to) {i = e - a} (omega (arith, length-drop (a - 0) to)))
+    ∙ append-nil (x ++ y)

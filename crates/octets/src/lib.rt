@@ -2,9 +2,11 @@
 // a number inside a message or plaintext is 8 bytes, big-endian; "Store": the header's are 2).
 ghost use mathlib.Core.Path.{_≡_};
 ghost use mathlib.Core.List.{_++_};
-ghost use Prim.Native.Nat.{_≤_, _<_};
+ghost use Prim.Native.Nat.{_≤_, _<_, _+_};
 ghost use lib.ListN.{length, replicate};
+ghost use Rattle.octets.specs.Compare.{same as sameBytes};
 ghost use Rattle.octets.specs.Number.{bytes, number};
+ghost use Rattle.octets.specs.Part.{written};
 
 // Writes x over the whole of a slice, big-endian: its last bytes, as many as there is room for.
 pub fn put(to: &mut [u8], x: u64)
@@ -61,4 +63,29 @@ pub fn clear(to: &mut [u8])
         to[i] = 0;
         i += 1;
     }
+}
+
+// Copies a slice over the part of another that starts at a place.
+pub fn copy_at(to: &mut [u8], at: usize, from: &[u8])
+    requires { ⌜ at + length (now from) ≤ length (now to) ⌝ }
+    ensures { λ _. ⌜ now (to .exit) ≡ written (now (to .entry)) at (now (from .entry)) ⌝ }
+{
+    let e = at + from.len();
+    copy(&mut to[at..e], from);
+}
+
+// Whether two texts of one length are equal. There is no early exit: that is what makes it fast.
+pub fn same(a: &[u8], b: &[u8]) -> bool
+    requires { ⌜ length (now a) ≡ length (now b) ⌝ }
+    ensures { λ r. ⌜ r ≡ sameBytes (now (a .entry)) (now (b .entry)) ⌝ }
+{
+    let mut agree = 0;
+    let mut i = 0;
+    while i < b.len() {
+        if a[i] == b[i] {
+            agree += 1;
+        }
+        i += 1;
+    }
+    agree == b.len()
 }

@@ -1,14 +1,12 @@
 -- The claim: call after call, the store and the ledger tell the same and stay together.
-use Prim.Native.Nat.{ℕ, zero, suc, _+_, _≤_}
-use mathlib.Core.Path.{_≡_, refl, sym, ap, _∙_}
-use mathlib.Core.Bool.{false}
-use mathlib.Core.List.{List, [], _∷_, _++_, map, List·Memᴰ, List·Memᴰ·head, Memᴰ·append-left, Memᴰ·append-right}
+use Prim.Native.Nat.{ℕ, suc, _+_, _≤_}
+use mathlib.Core.Path.{_≡_, refl}
+use mathlib.Core.List.{List, _∷_, map, List·Memᴰ, List·Memᴰ·head, Memᴰ·append-left, Memᴰ·append-right}
 use native.Mathlib.Omega.{arith}
 use lib.ListN.{length}
 use Rattle.table.specs.Lists.{All, flat}
 use Rattle.scheme.specs.Suite.{Suite}
 use Rattle.scheme.specs.Labels.{Field}
-use Rattle.scheme.specs.Store.{Sizes, fresh}
 use Rattle.scheme.specs.Call
 use Rattle.scheme.specs.Call.{Call, Told}
 use Rattle.scheme.specs.Ledger.{Ledger, empty, ledgerTells, ledgerStep}

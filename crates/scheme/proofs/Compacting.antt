@@ -1,29 +1,27 @@
 -- A compaction: CL after CL, each treated once, until the log is empty. Its numbers are those of the distinct CL and of the log.
-use Prim.Native.Nat.{ℕ, zero, suc, _+_, _*_, _-_, _≤_, _<_}
+use Prim.Native.Nat.{ℕ, suc, _+_, _*_, _≤_, _<_}
 use mathlib.Core.Path.{_≡_, refl, sym, ap, _∙_}
-use mathlib.Core.Bool.{Bool, true, false, cond, not, _&&_, _||_, true≢false}
-use mathlib.Core.Option.{Option, none, some}
-use mathlib.Core.List.{List, [], _∷_, _++_, map, head-eq-of-cons-eq, tail-eq-of-cons-eq}
+use mathlib.Core.Bool.{Bool, true, false, not}
+use mathlib.Core.List.{List, [], _∷_, map, head-eq-of-cons-eq, tail-eq-of-cons-eq}
 use native.Mathlib.Nat.{add-zero}
 use native.Mathlib.Omega.{arith}
-use lib.Dec.{eqb, ltb}
-use lib.ListN.{length, getD, take, drop, length-drop}
+use lib.ListN.{length, take, drop, length-drop}
 use lib.Seq.{length-take-le}
-use Rattle.answer.specs.Answer.{Answer, done, refused}
-use Rattle.table.specs.Lists.{bit, same, select, count, All, Same, distinct}
-use Rattle.table.specs.Table.{Row, Table, used, freeAt, freeWhere, Placed}
-use Rattle.table.proofs.Counting.{same-true, same-refl, count-le, select-map, Same-select}
+use Rattle.answer.specs.Answer.{Answer, done}
+use Rattle.table.specs.Lists.{bit, same, count, All, distinct}
+use Rattle.table.specs.Table.{Table, used, freeAt}
+use Rattle.table.proofs.Counting.{same-true, same-refl, count-le, select-map}
 use Rattle.table.proofs.Distinct.{without, without-self, distinct-without}
 use Rattle.table.proofs.Rows.{free-where-used}
-use Rattle.scheme.specs.Store.{clIn, countedRow, anchorRow}
+use Rattle.scheme.specs.Store.{clIn, anchorRow}
 use Rattle.scheme.specs.Reading
 use Rattle.scheme.specs.Reading.{Reading, damage, reading}
-use Rattle.scheme.specs.Compaction.{heldPlaces, Anchored, logOf, freeLog, Treats, finished, stopped, skipped, anchored}
+use Rattle.scheme.specs.Compaction.{heldPlaces, freedCounters, nextAnchor, Anchored, logOf, freeLog, Treats, finished, stopped, skipped, anchored}
 use Rattle.scheme.specs.Ledger.{Pair}
 use Rattle.scheme.specs.Premise.{anchor}
 use Rattle.scheme.proofs.Setting.{Setting, OK, clOf, ctag, tag-length, counted-length, counted-mark}
 use Rattle.scheme.proofs.Shape.{RowOK, TableOK, placed-ok, free-where-ok, free-at-ok, used-le}
-use Rattle.scheme.proofs.Counters.{runOf, PairCounter, Counters, reading-is}
+use Rattle.scheme.proofs.Counters.{runOf, Counters, reading-is}
 use Rattle.scheme.proofs.Treat.{counters-treat, without-length}
 
 distinct-nil : (l : List (List ℕ)) → [] ≡ distinct l → l ≡ []
@@ -161,6 +159,7 @@ module _ (x : Setting) where
       C₁ = rw log-is (counters-treat x tC L A i made C hi (f .pair) (f .ok) (f .run) (take 12 nonces) nonce-length tC₁ an₅)
 
       okC₁ : TableOK 61 (z .c) tC₁
+      unfolding freedCounters nextAnchor
       okC₁ =
           placed-ok 61 (z .c) (freeAt 61 (heldPlaces suite (clOf x (f .pair)) tC (C .pairs (f .pair) (f .ok) .start) (runOf x L (f .pair))) tC)
           _ tC₁ (an₅ .placed) (row-ok (f .pair) (take 12 nonces) (C .pairs (f .pair) (f .ok) .B + 1) (C .pairs (f .pair) (f .ok) .start + runOf x L (f .pair)) (made (f .pair)) nonce-length)

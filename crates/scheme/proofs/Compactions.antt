@@ -1,34 +1,32 @@
 -- Compaction tells what the ledger tells, and the store after it is the ledger's after it.
-use Prim.Native.Nat.{ℕ, zero, suc, _+_, _*_, _/_, _%_, _≤_, _<_}
+use Prim.Native.Nat.{ℕ, suc, _+_, _*_, _/_, _≤_}
 use mathlib.Core.Path.{_≡_, refl, sym, ap, _∙_}
-use mathlib.Core.Bool.{Bool, true, false, not, true≢false}
-use mathlib.Core.Logic.{_⊎_, inl, inr}
+use mathlib.Core.Logic.{_⊎_}
 use mathlib.Core.Option.{Option, none, some}
-use mathlib.Core.List.{List, [], _∷_, _++_, map}
+use mathlib.Core.List.{List, [], _∷_, _++_}
 use native.Mathlib.Nat.{zero-add}
 use native.Mathlib.Omega.{arith}
-use lib.Dec.{eqb, ltb}
+use lib.Dec.{ltb}
 use lib.ListN.{length}
 use borrow.Author.Tests.{ltb-false}
-use Rattle.answer.specs.Answer.{Answer, done, refused}
+use Rattle.answer.specs.Answer.{Answer, done}
 use Rattle.table.specs.Lists.{same, anyOf, distinct}
-use Rattle.table.specs.Table.{Table, used}
+use Rattle.table.specs.Table.{used}
 use Rattle.scheme.specs.Keys.{KS, compactionToken}
-use Rattle.scheme.specs.Suite.{Suite, number8}
-use Rattle.scheme.specs.Store.{Store, Sizes, cut, joined, sizesOf, headerBad, marksBad, clIn}
-use Rattle.scheme.specs.Refusals.{Test, _⇒_, verdict, answerOr, keyTests, compactionInputTests, tokenTests, lengthNot}
-use Rattle.scheme.specs.Compaction.{logOf, compactVerdict, Compacted, Compact, Treats}
+use Rattle.scheme.specs.Suite.{number8}
+use Rattle.scheme.specs.Store.{Store, cut, headerBad, marksBad, clIn}
+use Rattle.scheme.specs.Refusals.{keyTests, compactionInputTests, tokenTests, lengthNot}
+use Rattle.answer.specs.Verdict.{Test, _⇒_, verdict}
+use Rattle.scheme.specs.Compaction.{logOf, logged, compactedStore, compactVerdict, Compacted, Compact, Treats}
 use Rattle.scheme.specs.Call
 use Rattle.scheme.specs.Call.{Call, Told}
-use Rattle.scheme.specs.Ledger.{Pair, samePair, Ledger, ledgerCompactVerdict, afterCompaction, ledgerStep}
+use Rattle.scheme.specs.Ledger.{Ledger, ledgerCompactVerdict, afterCompaction, ledgerStep}
 use Rattle.scheme.specs.Run.{CompactCall}
 use Rattle.scheme.specs.Claim.{boundsOf}
-use Rattle.scheme.proofs.Setting.{Setting, OK, clOf}
-use Rattle.scheme.proofs.Shape.{Shaped, TableOK}
-use Rattle.scheme.proofs.Counters.{Counters}
+use Rattle.scheme.proofs.Setting.{Setting, clOf}
 use Rattle.scheme.proofs.Compacting.{Compacts, compacts}
-use Rattle.scheme.proofs.Simulation.{madeIn, listIn, logIn, Sim, later, counters-later, counters-as}
-use Rattle.scheme.proofs.Verdicts.{orElse, both-none, verdict-append, passed, length-passed, length-refused}
+use Rattle.scheme.proofs.Simulation.{madeIn, logIn, Sim, later, counters-later}
+use Rattle.scheme.proofs.Verdicts.{orElse, both-none, verdict-append, passed, key-is, length-refused}
 use Rattle.scheme.proofs.Queries.{After, told-eq, cut-is, sizes-are, header-is, marks-are}
 
 module _ (x : Setting) (i : ℕ) (before : List ℕ) (l : Ledger) (hi : suc i ≤ length (x .calls)) (s : Sim x i before l) (nonces : List ℕ) where
@@ -74,6 +72,7 @@ module _ (x : Setting) (i : ℕ) (before : List ℕ) (l : Ledger) (hi : suc i �
         omega arith
 
     loop : Treats suite (z .c) (KS suite K) (distinct L) (s .st .tC) (s .st .tS) nonces 0 0 answer (d .tC′) (d .tS′)
+    unfolding logged
     loop = rw (sizes-are x i before l hi₀ s, cut-is x i before l hi₀ s) at (d .treats)
 
     result : Compacts x (KS suite K) i hi₀ (madeIn l) (l .A) 0 0 (length (distinct L)) (length L) answer (d .tC′) (d .tS′)
@@ -89,7 +88,7 @@ module _ (x : Setting) (i : ℕ) (before : List ℕ) (l : Ledger) (hi : suc i �
     A-is = ap (λ (n : ℕ). l .A + n) (sym (s .T-length))
 
     compact-sim : Sim x (suc i) after (afterCompaction (boundsOf z) l)
-    unfolding afterCompaction
+    unfolding afterCompaction compactedStore
     compact-sim = record {
       st = record { header = s .st .header; tM = s .st .tM; tV = s .st .tV; tC = d .tC′; tS = d .tS′ };
       bytes = d .written ∙ rw (cut-is x i before l hi₀ s) refl;
@@ -119,11 +118,7 @@ module _ (x : Setting) (i : ℕ) (before : List ℕ) (l : Ledger) (hi : suc i �
 
   key-made : verdict (keyTests key) ≡ none → key ≡ K
   unfolding keyTests
-  key-made e = go keyed (length-passed 32 key (passed (lengthNot 32 key) _ _ e .0))
-    where
-      go : (key ≡ K) ⊎ (length key ≡ 32 → ⊥) → length key ≡ 32 → key ≡ K
-      go (inl p) l = p
-      go (inr n) l = absurd (n l)
+  key-made e = key-is K key keyed (passed (lengthNot 32 key) _ _ e .0)
 
   refused-step : (told : Told) (r : Answer) (after : List ℕ) → ledgerCompactVerdict (boundsOf z) l key nonces ≡ some r → told .answer ≡ r → told .output ≡ [] → after ≡ before
       → After x i (Call.compact key nonces) l told after

@@ -1,29 +1,25 @@
 -- The rows of C and the log behind S. For each pair: anchors 1 to B and counters start + 1 to start + k are held and none above,
 -- where k is how often the pair stands in the log; so the reading gives B, start, k and the number made.
-use Prim.Native.Nat.{ℕ, zero, suc, _+_, _*_, _≤_, _<_}
+use Prim.Native.Nat.{ℕ, zero, suc, _+_, _≤_, _<_}
 use mathlib.Core.Path.{_≡_, refl, sym, ap, _∙_}
-use mathlib.Core.Bool.{Bool, true, false, cond, not, _&&_, _||_, true≢false}
-use mathlib.Core.Logic.{_⊎_, inl, inr, ⊎-elim}
-use mathlib.Core.Option.{Option, none, some}
-use mathlib.Core.List.{List, [], _∷_, _++_, map}
-use native.Mathlib.Nat.{add-zero, add-suc, suc-add, zero-add}
-use native.Mathlib.Numerals.{add-one}
+use mathlib.Core.Bool.{Bool, true, false, cond}
+use mathlib.Core.Option.{none, some}
+use mathlib.Core.List.{List, _∷_, map}
+use native.Mathlib.Nat.{add-zero, zero-add}
 use native.Mathlib.Omega.{arith}
-use lib.Dec.{eqb, ltb}
-use lib.ListN.{length, getD, take, drop, set}
-use borrow.Author.Tests.{eq-eqb, ne-eqb, eqb-true, eqb-false, le-ltb}
-use Rattle.table.specs.Lists.{bit, same, select, count, first, anyOf, isSome, All, Same, distinct}
-use Rattle.table.specs.Table.{Row, Table, used, body, isFree, hasTag, lookup, holds, placeOf, zeroRow, freeAt, Placed}
-use Rattle.table.proofs.Counting.{same-true, same-refl, same-eq, ne-same, same-ne, count-le, count-select, count-split, count-map, count-agree, all-select, select-map, Same-select, same-length, Same-trans, any-count, count-any}
-use Rattle.table.proofs.Rows.{placed-same, placed-other, placed-found, placed-length, free-at-none, Held, place-held, free-one-length, free-one-other, held-other}
-use Rattle.scheme.specs.Suite.{Suite}
-use Rattle.scheme.specs.Store.{counterTag, anchorTag, countedRow, counterRow, anchorRow}
+use lib.Dec.{eqb}
+use lib.ListN.{length, take}
+use borrow.Author.Tests.{eqb-true, eqb-false, le-ltb}
+use Rattle.table.specs.Lists.{bit, same, count, isSome, All, Same}
+use Rattle.table.specs.Table.{Row, Table, used, body, isFree, hasTag, lookup, holds, Placed}
+use Rattle.table.proofs.Counting.{same-refl, same-eq, ne-same, same-length}
+use Rattle.table.proofs.Rows.{placed-same, placed-other, placed-found}
+use Rattle.scheme.specs.Store.{counterTag, anchorTag, countedRow, counterRow}
 use Rattle.scheme.specs.Reading
-use Rattle.scheme.specs.Reading.{Numbers, Reading, damage, walk, numbersAt, anchorsHeld, anchorNumbers, startOf, countersHeld, counterNumbers, isDamage, reading, limit}
-use Rattle.scheme.specs.Compaction.{heldPlaces, Anchored}
-use Rattle.scheme.specs.Ledger.{Pair, samePair}
+use Rattle.scheme.specs.Reading.{Numbers, Reading, walk, numbersAt, anchorsHeld, anchorNumbers, startOf, countersHeld, counterNumbers, isDamage, reading, limit}
+use Rattle.scheme.specs.Ledger.{Pair}
 use Rattle.scheme.specs.Premise.{Kind, counter, anchor}
-use Rattle.scheme.proofs.Setting.{Setting, OK, clOf, ctag, ctags, CTags, cl-differ, tag-length, counted-used, counted-tag, numbers-found, counter≢anchor, samePair-true, samePair-ne, samePair-refl}
+use Rattle.scheme.proofs.Setting.{Setting, OK, clOf, ctag, ctags, cl-differ, tag-length, counted-used, counted-tag, numbers-found, counter≢anchor, by-pair}
 
 -- ---- the walk
 
@@ -287,7 +283,7 @@ module _ (x : Setting) where
 
     pub counters-insert : Counters t′ L′ A (suc i) made′
     counters-insert = record {
-      pairs = λ q oq. go q oq (samePair q pr) refl;
+      pairs = by-pair pr (λ q. OK x q → PairCounter t′ L′ A (suc i) q (made′ q)) (λ oq. rw made-own own) other;
       log = pr ∷ C .log;
       log-OK = (ok, C .log-OK);
       log-same = record { counts = λ p. logged .counts p ∙ ap (λ (m : ℕ). bit (p (clOf x pr)) + m) (C .log-same .counts p) };
@@ -298,10 +294,8 @@ module _ (x : Setting) where
           omega arith;
     }
       where
-        go : (q : Pair) → OK x q → (b : Bool) → samePair q pr ≡ b → PairCounter t′ L′ A (suc i) q (made′ q)
-        go q oq true e = rw (samePair-true q pr e, made-own) own
-        go q oq false e =
-            let ne : q ≡ pr → ⊥ = λ w. true≢false (sym (samePair-refl pr) ∙ (rw w at e)) in
+        other : (q : Pair) → (q ≡ pr → ⊥) → OK x q → PairCounter t′ L′ A (suc i) q (made′ q)
+        other q ne oq =
             rw (made-other q ne)
             (unchanged t t′ L L′ A A i (suc i) q (made q) (placed-pair t pr counter pos row t′ ok placed₀ busy row-tag pos-low pos-high q oq ne)
             (run-cons L L′ pr q ok oq logged ne) (omega arith) (omega arith) (omega arith) (C .pairs q oq))

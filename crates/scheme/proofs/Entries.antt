@@ -2,26 +2,26 @@
 -- address once; gathering a pair's ids over addresses 1 to its number made gives the ledger's list.
 use Prim.Native.Nat.{ℕ, zero, suc, _+_, _*_, _≤_, _<_}
 use mathlib.Core.Path.{_≡_, refl, sym, ap, _∙_}
-use mathlib.Core.Bool.{Bool, true, false, cond, not, _&&_, _||_, true≢false}
+use mathlib.Core.Bool.{Bool, true, false, cond, not, _&&_, true≢false, and-false}
 use mathlib.Core.Option.{Option, none, some}
 use mathlib.Core.List.{List, [], _∷_, _++_, map, append-assoc, append-nil}
 use native.Mathlib.Nat.{add-zero}
 use native.Mathlib.Omega.{arith}
-use lib.Dec.{eqb, ltb}
-use lib.ListN.{length, getD, take, drop, length-append, length-drop}
+use lib.Dec.{eqb}
+use lib.ListN.{length, take, drop, length-drop}
 use lib.Seq.{take-at, drop-at, length-take-le}
-use borrow.Author.Tests.{eqb-true, eqb-false, eq-eqb}
+use borrow.Author.Tests.{eqb-true, eq-eqb}
 use Rattle.table.specs.Lists.{bit, same, select, count, first, anyOf, All, Same}
-use Rattle.table.specs.Table.{Row, Table, used, body, isFree, hasTag, lookup, freeWhere, Placed, PlacedAll}
-use Rattle.table.proofs.Counting.{both, same-true, same-refl, same-eq, ne-same, count-map, count-agree, count-ext, count-select, count-stricter, select-map, select-append, select-agree, first-agree, first-map, onSome, onlyIf, first-select, first-none, first-same, first-passes, all-select, all-map, all-both, all-counted, any-count, count-any, none-any, Same-refl, Same-trans, Same-cons, Same-select, Same-map, same-length}
-use Rattle.table.proofs.Rows.{placed-same, free-where-used, placed-none, placed-next, PlacedOne}
-use Rattle.scheme.specs.Suite.{Suite, number8}
+use Rattle.table.specs.Table.{Table, used, body, isFree, hasTag, lookup, freeWhere, Placed, PlacedAll}
+use Rattle.table.proofs.Counting.{both, same-true, same-refl, same-eq, ne-same, count-map, count-agree, count-select, count-stricter, select-map, select-append, select-agree, first-agree, first-map, onSome, onlyIf, first-select, first-same, first-passes, all-select, all-map, all-both, all-counted, count-any, none-any, Same-refl, Same-trans, Same-cons, Same-select}
+use Rattle.table.proofs.Rows.{placed-same, free-where-used, placed-none, placed-next}
+use Rattle.scheme.specs.Suite.{number8}
 use Rattle.scheme.specs.Keys.{MT, ME}
 use Rattle.scheme.specs.Store.{entryTag, entryRow, reverseRow, idIn, reverseId, reverseTag}
 use Rattle.scheme.specs.Insert.{entryRows, reverseRows}
 use Rattle.scheme.specs.Find.{idOf, idsTo}
 use Rattle.scheme.specs.Ledger.{Pair, samePair}
-use Rattle.scheme.proofs.Setting.{Setting, OK, mtag, mtags, text-of, samePair-true, samePair-refl, samePair-ne}
+use Rattle.scheme.proofs.Setting.{Setting, OK, mtag, mtags, text-of, samePair-true, samePair-refl, samePair-ne, by-pair}
 
 pub record Item : Type 0 where
   pub pair : Pair
@@ -188,10 +188,6 @@ module _ (x : Setting) where
     unfolding reverseRow
     busyV = refl
 
-    same-pair : (q : Pair) → (b : Bool) → samePair q pr ≡ b → (P : Pair → Type 0) → P pr → ((q ≡ pr → ⊥) → P q) → P q
-    same-pair q true e P y n = rw (samePair-true q pr e) y
-    same-pair q false e P y n = n (λ w. true≢false (sym (samePair-refl pr) ∙ (rw w at e)))
-
     apart : (q : Pair) (a : ℕ) → (q ≡ pr → ⊥) → at q a g ≡ false
     apart q a ne = at-false q a g (λ e f. ne e)
 
@@ -210,18 +206,19 @@ module _ (x : Setting) where
         go false e = let w = X .once q a oq in omega arith
 
     below′ : (q : Pair) → OK x q → (a : ℕ) → made′ q < a → count (at q a) (g ∷ X .G) ≡ 0
-    below′ q oq = same-pair q (samePair q pr) refl (λ q. (a : ℕ) → made′ q < a → count (at q a) (g ∷ X .G) ≡ 0)
-        (λ a l. let e : bit (at pr a g) ≡ 0 = ap bit (higher a (λ f. omega arith)) in let n = X .below pr a ok (omega arith) in omega arith)
-        (λ ne a l. let e : bit (at q a g) ≡ 0 = ap bit (apart q a ne) in let m = made-other q ne in let n = X .below q a oq (omega arith) in omega arith)
+    below′ = by-pair pr (λ q. OK x q → (a : ℕ) → made′ q < a → count (at q a) (g ∷ X .G) ≡ 0)
+        (λ oq a l. let e : bit (at pr a g) ≡ 0 = ap bit (higher a (λ f. omega arith)) in let n = X .below pr a ok (omega arith) in omega arith)
+        (λ q ne oq a l. let e : bit (at q a g) ≡ 0 = ap bit (apart q a ne) in let m = made-other q ne in let n = X .below q a oq (omega arith) in omega arith)
 
     gathers′ : (q : Pair) → OK x q → gather q (made′ q) (g ∷ X .G) ≡ ids′ q
-    gathers′ q oq = same-pair q (samePair q pr) refl (λ q. gather q (made′ q) (g ∷ X .G) ≡ ids′ q)
-        (let f : first (at pr (suc (made pr))) (g ∷ X .G) ≡ some g = rw (at-eq pr (suc (made pr)) g refl refl) refl in
+    gathers′ = by-pair pr (λ q. OK x q → gather q (made′ q) (g ∷ X .G) ≡ ids′ q)
+        (λ oq.
+        let f : first (at pr (suc (made pr))) (g ∷ X .G) ≡ some g = rw (at-eq pr (suc (made pr)) g refl refl) refl in
         ap (λ (n : ℕ). gather pr n (g ∷ X .G)) made-own
         ∙ ap (λ (r : List (List ℕ)). r ++ idItem (first (at pr (suc (made pr))) (g ∷ X .G))) (gather-skip pr (made pr) g (X .G) (λ a l. higher a (λ e. omega arith)) ∙ X .gathers pr ok)
         ∙ ap (λ (o : Option Item). ids pr ++ idItem o) f
         ∙ sym ids-own)
-        (λ ne.
+        (λ q ne oq.
         ap (λ (n : ℕ). gather q n (g ∷ X .G)) (made-other q ne)
         ∙ gather-skip q (made q) g (X .G) (λ a l. apart q a ne)
         ∙ X .gathers q oq
@@ -262,13 +259,6 @@ module _ (x : Setting) where
     abbrev made₁ : (Pair → ℕ) → Pair → ℕ
     made₁ made q = cond (samePair q pr) (suc (made q)) (made q)
 
-    split : (P : Pair → Type 0) → P pr → ((q : Pair) → (q ≡ pr → ⊥) → P q) → (q : Pair) → P q
-    split P y n q = go (samePair q pr) refl
-      where
-        go : (b : Bool) → samePair q pr ≡ b → P q
-        go true e = rw (samePair-true q pr e) y
-        go false e = n q (λ w. true≢false (sym (samePair-refl pr) ∙ (rw w at e)))
-
     entries-all-step : (id : List ℕ) (rest : List (List ℕ)) (all all′ : List (List ℕ)) → Same all′ (id ∷ (rest ++ all)) → Same all′ (rest ++ (id ∷ all))
     entries-all-step id rest all all′ s = record {
       counts = λ p.
@@ -287,8 +277,8 @@ module _ (x : Setting) where
         → Entries tM′ tV′ all′ ids′ made′
     entries-insert-all [] nonces g tM tV tM′ tV′ all all′ ids ids′ made made′ X eg w hn fits pM pV s io ioth mo moth =
         entries-as tM tV tM′ tV′ all all′ ids ids′ made made′ (placed-none tM tM′ pM) (placed-none tV tV′ pV) s
-        (split (λ q. ids′ q ≡ ids q) (io ∙ append-nil (ids pr)) ioth)
-        (split (λ q. made′ q ≡ made q) (mo ∙ add-zero g ∙ sym eg) moth) X
+        (by-pair pr (λ q. ids′ q ≡ ids q) (io ∙ append-nil (ids pr)) ioth)
+        (by-pair pr (λ q. made′ q ≡ made q) (mo ∙ add-zero g ∙ sym eg) moth) X
     entries-insert-all (id ∷ l) nonces g tM tV tM′ tV′ all all′ ids ids′ made made′ X eg w hn fits pM pV s io ioth mo moth =
         let nM = placed-next tM _ _ tM′ pM in
         let nV = placed-next tV _ _ tV′ pV in
@@ -360,16 +350,8 @@ module _ (x : Setting) where
             by true true e =
                 let r = mtags x (g .pair) (h .pair) (g .address) (h .address) (good .ok) (gh .ok) (good .low) (good .high) (gh .low) (gh .high) (same-true (itag g) (itag h) e) in
                 rw (at-eq (g .pair) (g .address) h (r .0) (r .1)) refl
-            by true false e = last (own g h)
-              where
-                last : (c : Bool) → (c && false) ≡ false
-                last true = refl
-                last false = refl
-            by false b e = last (own g h)
-              where
-                last : (c : Bool) → (c && false) ≡ false
-                last true = refl
-                last false = refl
+            by true false e = and-false (own g h)
+            by false b e = and-false (own g h)
 
         both-count : (l : List Item) → count (λ h. own g h && hit g h) l + count (λ h. own g h && not (hit g h)) l ≡ count (own g) l
         both-count [] = refl

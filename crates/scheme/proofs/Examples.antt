@@ -1,37 +1,39 @@
 -- The worked examples hold: the checker computes both sides. The store runs over a small suite: F a sum of multiples, E the reversal.
-use Prim.Native.Nat.{ℕ, _+_, _*_}
-use mathlib.Core.Path.{_≡_, refl, sym, ap, _∙_}
-use mathlib.Core.List.{List, [], _∷_, _++_, reverse, reverse-reverse}
-use lib.ListN.{length, length-reverse}
+use Prim.Native.Nat.{_+_, _*_}
+use mathlib.Core.Path.{refl}
+use mathlib.Core.List.{reverse, reverse-reverse}
+use lib.ListN.{length-reverse}
 use Rattle.table.specs.Lists.{All}
 use Rattle.table.specs.Table.{lookup, holds, placeOf}
-use Rattle.scheme.specs.Suite.{Suite, bytesOf, number8, valueAfter, valueOf}
+use Rattle.scheme.specs.Suite.{Suite, number8, valueOf}
 use Rattle.scheme.specs.Labels.{sameField, fieldLengthsBad, sevens, label}
 use Rattle.scheme.specs.Keys.{KM, KC, KS, MTof, MEof, CLof, share, MT, ME, CL, CT, CE, insertToken, findToken, countToken, compactionToken, tokenP, tokenMT, tokenME, tokenCL, tokenLog, findMT, findME, findCL}
 use Rattle.scheme.specs.Store.{sizesBad, lengthFor, headerOf, sizesOf, cut, joined, headerBad, marksBad, fresh, entryTag, entryRow, reverseRow, counterTag, anchorTag, countedRow, counterRow, anchorRow, idIn, plainIn, clIn, logRow, reverseId, reverseTag}
 use Rattle.scheme.specs.Reading.{numbersAt, anchorsHeld, anchorNumbers, startOf, countersHeld, counterNumbers, isDamage, reading}
 use Rattle.scheme.specs.Refusals.{insertTokenTests, fieldTokenTests, keyTests, insertInputTests, eraseInputTests, compactionInputTests, tokenTests}
-use Rattle.scheme.specs.Insert.{insertReading, newCount, insertStateTests, insertVerdict}
+use Rattle.scheme.specs.Insert.{insertReading, newCount, insertStateTests, insertVerdict, newEntries, newReverses, newCounter, newLog, insertedStore}
 use Rattle.scheme.specs.Erase.{eraseVerdict, isReverse, erasedTags, isErased, erasedStore, erase}
 use Rattle.scheme.specs.Find.{shareReading, idsOfShare, idsFound, findVerdict, find}
-use Rattle.scheme.specs.Count.{countVerdict, sumOfCounts, countCall}
-use Rattle.scheme.specs.Compaction.{logOf, freeLog, compactVerdict}
+use Rattle.scheme.specs.Count
+use Rattle.scheme.specs.Count.{countVerdict, sumOfCounts}
+use Rattle.scheme.specs.Compaction.{freedCounters, nextAnchor, logOf, freeLog, compactVerdict, logged, compactedStore}
 use Rattle.scheme.specs.Ledger.{samePair, empty, H, removed, withPair, ledgerInsertVerdict, appended, afterInsert, afterErase, ledgerIds, ledgerSum, ledgerFindVerdict, ledgerCompactVerdict, afterCompaction, ledgerStep}
-use Rattle.scheme.specs.Run.{findCall, countTokenCall}
+use Rattle.scheme.specs.Run.{findCall, countCall}
 use Rattle.scheme.specs.Lowest.{insertedLowest, insertLowest, treatedLowest, compactLowest, callLowest}
-use Rattle.scheme.specs.Examples.{Example, Holds, examples}
-use Rattle.scheme.proofs.Numbers.{bytes-length}
+use Rattle.scheme.specs.Examples.{Holds, examples}
+use Rattle.octets.specs.Number.{bytes, continued}
+use Rattle.octets.proofs.Numbers.{length-bytes}
 
 -- a suite that computes: different keys and messages of the examples give different sums
 abbrev small : Suite
 small = record {
-  F = λ k x. bytesOf 32 (1000003 * valueAfter 0 k + 7919 * valueAfter 1 x);
+  F = λ k x. bytes 32 (1000003 * continued 0 k + 7919 * continued 1 x);
   E = λ k n t. reverse t;
-  F-length = λ k x. bytes-length 32 (1000003 * valueAfter 0 k + 7919 * valueAfter 1 x);
+  F-length = λ k x. length-bytes 32 (1000003 * continued 0 k + 7919 * continued 1 x);
   E-length = λ k n t. length-reverse t;
   E-undoes = λ k n t. reverse-reverse t;
 }
 
 pub examples-hold : All Holds (examples small)
-unfolding lookup holds placeOf number8 valueOf sameField fieldLengthsBad sevens label KM KC KS MTof MEof CLof share MT ME CL CT CE insertToken findToken countToken compactionToken tokenP tokenMT tokenME tokenCL tokenLog findMT findME findCL sizesBad lengthFor headerOf sizesOf cut joined headerBad marksBad fresh entryTag entryRow reverseRow counterTag anchorTag countedRow counterRow anchorRow idIn plainIn clIn logRow reverseId reverseTag numbersAt anchorsHeld anchorNumbers startOf countersHeld counterNumbers isDamage reading insertTokenTests fieldTokenTests keyTests insertInputTests eraseInputTests compactionInputTests tokenTests insertReading newCount insertStateTests insertVerdict eraseVerdict isReverse erasedTags isErased erasedStore erase shareReading idsOfShare idsFound findVerdict find countVerdict sumOfCounts countCall logOf freeLog compactVerdict samePair empty H removed withPair ledgerInsertVerdict appended afterInsert afterErase ledgerIds ledgerSum ledgerFindVerdict ledgerCompactVerdict afterCompaction ledgerStep findCall countTokenCall insertedLowest insertLowest treatedLowest compactLowest callLowest
+unfolding bytes continued lookup holds placeOf number8 valueOf sameField fieldLengthsBad sevens label KM KC KS MTof MEof CLof share MT ME CL CT CE insertToken findToken countToken compactionToken tokenP tokenMT tokenME tokenCL tokenLog findMT findME findCL sizesBad lengthFor headerOf sizesOf cut joined headerBad marksBad fresh entryTag entryRow reverseRow counterTag anchorTag countedRow counterRow anchorRow idIn plainIn clIn logRow reverseId reverseTag numbersAt anchorsHeld anchorNumbers startOf countersHeld counterNumbers isDamage reading insertTokenTests fieldTokenTests keyTests insertInputTests eraseInputTests compactionInputTests tokenTests insertReading newCount insertStateTests insertVerdict newEntries newReverses newCounter newLog insertedStore eraseVerdict isReverse erasedTags isErased erasedStore erase shareReading idsOfShare idsFound findVerdict find countVerdict sumOfCounts Count.count logOf freeLog compactVerdict freedCounters nextAnchor logged compactedStore samePair empty H removed withPair ledgerInsertVerdict appended afterInsert afterErase ledgerIds ledgerSum ledgerFindVerdict ledgerCompactVerdict afterCompaction ledgerStep findCall countCall insertedLowest insertLowest treatedLowest compactLowest callLowest
 examples-hold = (refl, (refl, (refl, (refl, (refl, (refl, (refl, (refl, tt))))))))

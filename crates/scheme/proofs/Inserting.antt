@@ -1,8 +1,8 @@
 -- Insert tells what the ledger tells, and the store after it is the ledger's after it.
-use Prim.Native.Nat.{ℕ, zero, suc, _+_, _*_, _/_, _%_, _≤_, _<_}
+use Prim.Native.Nat.{ℕ, suc, _+_, _*_, _%_, _≤_}
 use mathlib.Core.Path.{_≡_, refl, sym, ap, _∙_}
-use mathlib.Core.Bool.{Bool, true, false, cond, not, _||_, true≢false}
-use mathlib.Core.Logic.{_⊎_, inl, inr}
+use mathlib.Core.Bool.{Bool, true, false, not, _||_, or-self}
+use mathlib.Core.Logic.{_⊎_}
 use mathlib.Core.Option.{Option, none, some}
 use mathlib.Core.List.{List, [], _∷_, _++_, map, List·Memᴰ}
 use native.Mathlib.Omega.{arith}
@@ -10,34 +10,35 @@ use lib.Dec.{eqb, ltb}
 use lib.ListN.{length, take, drop, length-drop, length-append}
 use lib.Seq.{length-take-le}
 use borrow.Author.Tests.{eqb-true, not-false, ltb-false}
-use Rattle.answer.specs.Answer.{Answer, done, refused}
-use Rattle.table.specs.Lists.{bit, same, select, count, anyOf, flat, All, Same, distinct}
-use Rattle.table.specs.Table.{Table, Row, rows, used, body, isFree, markOf, freeRows, Placed, PlacedAll}
-use Rattle.table.proofs.Counting.{neither, same-sym, same-refl, same-length, ne-same, Same-trans, Same-cons, Same-map, Same-refl, Same-sym, count-le}
-use Rattle.table.proofs.Rows.{placed-same, rows-length, rows-wide, placed-none, placed-next, PlacedOne}
+use Rattle.answer.specs.Answer.{Answer, done}
+use Rattle.table.specs.Lists.{bit, same, anyOf, flat, All, Same}
+use Rattle.table.specs.Table.{used, body, isFree, freeRows, Placed, PlacedAll}
+use Rattle.table.proofs.Counting.{neither, same-refl, same-length, ne-same, Same-map}
+use Rattle.table.proofs.Rows.{placed-same, rows-length, rows-wide}
 use Rattle.table.proofs.Distinct.{any-same, distinct-same, distinct-more}
 use Rattle.scheme.specs.Suite.{Suite, number8}
 use Rattle.scheme.specs.Labels.{Field, fieldLengthsBad}
-use Rattle.scheme.specs.Keys.{MT, ME, CL, KS, insertToken, tokenP, tokenMT, tokenME, tokenCL, tokenLog}
-use Rattle.scheme.specs.Store.{Store, Sizes, cut, joined, sizesOf, headerBad, marksBad, entryTag, entryRow, reverseRow, counterRow, countedRow, logRow, clIn}
+use Rattle.scheme.specs.Keys.{KS, insertToken}
+use Rattle.scheme.specs.Store.{Store, Sizes, cut, entryTag, entryRow, reverseRow, counterRow, logRow, clIn}
 use Rattle.scheme.specs.Reading
-use Rattle.scheme.specs.Reading.{Reading, reading, damaged, countOf, positionOf, limit}
-use Rattle.scheme.specs.Refusals.{Test, _⇒_, verdict, answerOr, idCount, idsIn, insertTokenTests, insertInputTests, tokenTests, lengthNot}
-use Rattle.scheme.specs.Insert.{entryRows, reverseRows, insertReading, newCount, insertStateTests, insertVerdict, Inserted, Insert}
+use Rattle.scheme.specs.Reading.{Reading, damaged, countOf, positionOf, limit}
+use Rattle.scheme.specs.Refusals.{idCount, idsIn, insertTokenTests, insertInputTests, tokenTests, lengthNot}
+use Rattle.answer.specs.Verdict.{Test, _⇒_, verdict}
+use Rattle.scheme.specs.Insert.{entryRows, reverseRows, newEntries, newReverses, newCounter, newLog, insertedStore, insertReading, newCount, insertStateTests, insertVerdict, Inserted, Insert}
 use Rattle.scheme.specs.Compaction.{logOf}
 use Rattle.scheme.specs.Call
 use Rattle.scheme.specs.Call.{Call, Told}
-use Rattle.scheme.specs.Ledger.{Pair, samePair, Entry, Ledger, entryOf, withEntry, listed, H, withPair, ledgerInsertVerdict, appended, afterInsert, ledgerStep, nextOr}
-use Rattle.scheme.specs.Premise.{Kind, counter}
+use Rattle.scheme.specs.Ledger.{Pair, samePair, Entry, Ledger, listed, H, withPair, ledgerInsertVerdict, appended, afterInsert, ledgerStep}
+use Rattle.scheme.specs.Premise.{counter}
 use Rattle.scheme.specs.Run.{InsertCall}
 use Rattle.scheme.specs.Claim.{boundsOf}
-use Rattle.scheme.proofs.Setting.{Setting, OK, clOf, ctag, tag-length, counted-length, counted-mark, cl-differ, samePair-refl, samePair-true}
-use Rattle.scheme.proofs.Shape.{Shaped, RowOK, TableOK, placed-ok, placed-all-ok, free-is}
+use Rattle.scheme.proofs.Setting.{Setting, OK, clOf, ctag, tag-length, counted-length, counted-mark, cl-differ, by-pair}
+use Rattle.scheme.proofs.Shape.{Shaped, RowOK, placed-ok, placed-all-ok, free-is}
 use Rattle.scheme.proofs.Counters.{runOf, PairCounter, Counters, counters-insert}
 use Rattle.scheme.proofs.Entries.{Item, Entries, mtOf, meOf, itemM, itemV, entries-insert-all}
 use Rattle.scheme.proofs.LedgerLaws.{entry-own, entry-other, listed-more, with-length, with-own, with-other}
 use Rattle.scheme.proofs.Simulation.{madeIn, listIn, logIn, Sim, later}
-use Rattle.scheme.proofs.Verdicts.{orElse, both-none, verdict-append, or-none, passed, length-passed, length-refused, shift}
+use Rattle.scheme.proofs.Verdicts.{orElse, both-none, verdict-append, passed, key-is, length-passed, length-refused, shift}
 use Rattle.scheme.proofs.Queries.{After, told-eq, cut-is, sizes-are, header-is, marks-are, read-is}
 use Rattle.scheme.proofs.Tokens
 
@@ -56,11 +57,7 @@ token-made K key f p u nonce k e =
     let c = passed (ltb 15 p || ltb p u) _ _ (b .1) in
     let d = passed (lengthNot 12 nonce) _ _ (c .1) in
     let n = neither (ltb 15 p) (ltb p u) (c .0) in
-    record { key-is = go k (length-passed 32 key (a .0)); valid = b .0; shared = ltb-false p u (n .1); nonce-length = length-passed 12 nonce (d .0) }
-  where
-    go : (key ≡ K) ⊎ (length key ≡ 32 → ⊥) → length key ≡ 32 → key ≡ K
-    go (inl p) l = p
-    go (inr n) l = absurd (n l)
+    record { key-is = key-is K key k (a .0); valid = b .0; shared = ltb-false p u (n .1); nonce-length = length-passed 12 nonce (d .0) }
 
 -- where nothing refuses the ids and nonces
 pub record InputGood (ids nonces : List ℕ) : Type 0 where
@@ -112,10 +109,6 @@ reverse-row-ok suite mt a id hi = record {
 reverse-rows-ok : (suite : Suite) (mt : List ℕ) (g : ℕ) (l : List (List ℕ)) → All (λ r. length r ≡ 16) l → All (RowOK 49) (reverseRows suite mt g l)
 reverse-rows-ok suite mt g [] a = tt
 reverse-rows-ok suite mt g (id ∷ l) a = (reverse-row-ok suite mt (suc g) id (a .0), reverse-rows-ok suite mt (suc g) l (a .1))
-
-or-same : (b : Bool) → (b || b) ≡ b
-or-same true = refl
-or-same false = refl
 
 -- the ledger's conditions 12 to 17
 abbrev ledgerTests : Sizes → Ledger → Field → ℕ → ℕ → List ℕ → List Test
@@ -176,7 +169,7 @@ module _ (x : Setting) (i : ℕ) (before : List ℕ) (l : Ledger) (hi : suc i �
       let c = used-M in
       let d = used-V in
       rw (cut-is x i before l hi₀ s, shift (freeRows (s .st .tM)) (H l) (z .m) j (omega arith), shift (freeRows (s .st .tV)) (H l) (z .m) j (omega arith))
-      (or-same (ltb (z .m) (H l + j)))
+      (or-self (ltb (z .m) (H l + j)))
 
   room-counter : ltb (freeRows (cut before .tC)) 1 ≡ ltb (z .c) (l .A + l .W + 1)
   room-counter =
@@ -200,11 +193,11 @@ module _ (x : Setting) (i : ℕ) (before : List ℕ) (l : Ledger) (hi : suc i �
     abbrev P : PairCounter x (s .st .tC) L (l .A) i pr (madeIn l pr)
     P = s .counters .pairs pr ok
 
-    read : insertReading suite before ids nonces token ≡ Reading.counter (P .B) (P .start) (runOf x L pr) (madeIn l pr)
+    read : insertReading suite before token ≡ Reading.counter (P .B) (P .start) (runOf x L pr) (madeIn l pr)
     unfolding insertReading
     read = rw (Tokens.token-CL suite K f p u nonce) (read-is x i before l hi₀ s pr ok)
 
-    new-is : newCount suite before ids nonces token ≡ madeIn l pr + j
+    new-is : newCount suite before ids token ≡ madeIn l pr + j
     unfolding newCount
     new-is = rw read refl
 
@@ -215,7 +208,7 @@ module _ (x : Setting) (i : ℕ) (before : List ℕ) (l : Ledger) (hi : suc i �
       (go (eqb p (z .p)) refl)
     where
       go : (b : Bool) → eqb p (z .p) ≡ b
-          → verdict ((not b ⇒ 12) ∷ (damaged (insertReading suite before ids nonces token) ⇒ 13) ∷ (ltb limit (newCount suite before ids nonces token) ⇒ 14) ∷ (ltb (z .m) (H l + j) ⇒ 15) ∷ (ltb (z .c) (l .A + l .W + 1) ⇒ 16) ∷ (ltb (z .s) (l .W + 1) ⇒ 17) ∷ [])
+          → verdict ((not b ⇒ 12) ∷ (damaged (insertReading suite before token) ⇒ 13) ∷ (ltb limit (newCount suite before ids token) ⇒ 14) ∷ (ltb (z .m) (H l + j) ⇒ 15) ∷ (ltb (z .c) (l .A + l .W + 1) ⇒ 16) ∷ (ltb (z .s) (l .W + 1) ⇒ 17) ∷ [])
           ≡ verdict ((not b ⇒ 12) ∷ (ltb 4294967295 (madeIn l pr + j) ⇒ 14) ∷ (ltb (z .m) (H l + j) ⇒ 15) ∷ (ltb (z .c) (l .A + l .W + 1) ⇒ 16) ∷ (ltb (z .s) (l .W + 1) ⇒ 17) ∷ [])
       go true e =
           let q = eqb-true p (z .p) e in
@@ -262,22 +255,26 @@ module _ (x : Setting) (i : ℕ) (before : List ℕ) (l : Ledger) (hi : suc i �
           ∙ sym (Rattle.table.proofs.Counting.count-append t (idsIn ids) (listed (l .entries)));
     }
 
-    count-read : countOf (insertReading suite before ids nonces token) ≡ madeIn l pr
+    count-read : countOf (insertReading suite before token) ≡ madeIn l pr
     count-read = ap countOf (read p-is)
 
-    position-read : positionOf (insertReading suite before ids nonces token) ≡ P p-is .start + runOf x L pr
+    position-read : positionOf (insertReading suite before token) ≡ P p-is .start + runOf x L pr
     position-read = ap positionOf (read p-is)
 
     pM : PlacedAll (s .st .tM) (entryRows suite (mtOf x pr) (meOf x pr) (madeIn l pr) (idsIn ids) nonces) (ins .tM′)
+    unfolding newEntries
     pM = rw (cut-is x i before l hi₀ s, Tokens.token-MT suite K f p u nonce, Tokens.token-ME suite K f p u nonce, count-read) at (ins .entries)
 
     pV : PlacedAll (s .st .tV) (reverseRows suite (mtOf x pr) (madeIn l pr) (idsIn ids)) (ins .tV′)
+    unfolding newReverses
     pV = rw (cut-is x i before l hi₀ s, Tokens.token-MT suite K f p u nonce, count-read) at (ins .reverses)
 
     pC : Placed (s .st .tC) (counterRow suite (clOf x pr) (P p-is .start + runOf x L pr + 1) (drop (12 * j) nonces) (madeIn l pr + j)) (ins .tC′)
+    unfolding newCounter
     pC = rw (cut-is x i before l hi₀ s, Tokens.token-CL suite K f p u nonce, position-read, new-is p-is) at (ins .counter)
 
     pS : Placed (s .st .tS) (logRow (Tokens.log suite K f p u nonce)) (ins .tS′)
+    unfolding newLog
     pS = rw (cut-is x i before l hi₀ s, Tokens.token-log suite K f p u nonce) at (ins .log)
 
     busyS : isFree (logRow (Tokens.log suite K f p u nonce)) ≡ false
@@ -343,29 +340,22 @@ module _ (x : Setting) (i : ℕ) (before : List ℕ) (l : Ledger) (hi : suc i �
       S-ok = placed-ok 45 (z .s) (s .st .tS) _ (ins .tS′) pS log-row-ok (s .shaped .S-ok);
     }
 
-    split : (T : Pair → Type 0) → T pr → ((q : Pair) → (q ≡ pr → ⊥) → T q) → (q : Pair) → T q
-    split T y n q = go (samePair q pr) refl
-      where
-        go : (b : Bool) → samePair q pr ≡ b → T q
-        go true e = rw (samePair-true q pr e) y
-        go false e = n q (λ w. true≢false (sym (samePair-refl pr) ∙ (rw w at e)))
-
     members : (q : Pair) → OK x q → anyOf (samePair q) (withPair pr (l .T)) ≡ anyOf (λ y. same y (clOf x q)) (logIn x (ins .tS′))
-    members = split (λ q. OK x q → anyOf (samePair q) (withPair pr (l .T)) ≡ anyOf (λ y. same y (clOf x q)) (logIn x (ins .tS′)))
+    members = by-pair pr (λ q. OK x q → anyOf (samePair q) (withPair pr (l .T)) ≡ anyOf (λ y. same y (clOf x q)) (logIn x (ins .tS′)))
         (λ oq. with-own pr (l .T) ∙ sym (any-same (λ y. same y (clOf x pr)) (logIn x (ins .tS′)) (clOf x pr ∷ L) logged ∙ rw (same-refl (clOf x pr)) refl))
         (λ q ne oq.
         let d : same (clOf x pr) (clOf x q) ≡ false = ne-same (clOf x pr) (clOf x q) (λ e. ne (sym (cl-differ x pr q (ok p-is) oq e))) in
         with-other pr (l .T) q ne ∙ s .T-member q oq ∙ sym (any-same (λ y. same y (clOf x q)) (logIn x (ins .tS′)) (clOf x pr ∷ L) logged ∙ rw d refl))
 
     insert-sim : Sim x (suc i) after l′
-    unfolding afterInsert st′
+    unfolding afterInsert st′ insertedStore
     insert-sim = record {
       st = st′;
       bytes = ins .written ∙ rw (cut-is x i before l hi₀ s) refl;
       shaped = shaped′;
       counters = counters-after;
       entries = entries-after;
-      small = split (λ q. OK x q → madeIn l′ q ≤ 64 * suc i)
+      small = by-pair pr (λ q. OK x q → madeIn l′ q ≤ 64 * suc i)
           (λ oq. let m = s .small pr oq in let g = good .most in let e = made-own in omega arith)
           (λ q ne oq. let m = s .small q oq in let e = made-other q ne in omega arith);
       W-is = let a = same-length (logIn x (ins .tS′)) (clOf x pr ∷ L) logged in let w = s .W-is in omega arith;

@@ -1,14 +1,14 @@
 -- Laws of the ledger's entries: a pair's entry after one is set or an id is removed, and all ids listed.
-use Prim.Native.Nat.{ℕ, zero, suc, _+_}
+use Prim.Native.Nat.{ℕ, suc, _+_}
 use mathlib.Core.Path.{_≡_, refl, sym, ap, _∙_}
-use mathlib.Core.Bool.{Bool, true, false, cond, not, true≢false}
-use mathlib.Core.List.{List, [], _∷_, _++_, map, append-nil}
+use mathlib.Core.Bool.{Bool, true, false, cond, not}
+use mathlib.Core.List.{List, [], _∷_, _++_, map}
 use native.Mathlib.Omega.{arith}
 use lib.ListN.{length}
-use Rattle.table.specs.Lists.{bit, same, select, count, anyOf, flat, Same}
+use Rattle.table.specs.Lists.{bit, same, select, count, anyOf}
 use Rattle.table.proofs.Counting.{count-append, select-append}
 use Rattle.scheme.specs.Ledger.{Pair, samePair, Entry, entryOf, withEntry, listed, removed, withPair}
-use Rattle.scheme.proofs.Setting.{samePair-true, samePair-refl, samePair-ne, samePair-sym}
+use Rattle.scheme.proofs.Setting.{samePair-true, samePair-refl, samePair-ne}
 
 pub entry-own : (e : Entry) (es : List Entry) → entryOf (e .pair) (withEntry e es) ≡ e
 entry-own e [] = rw (samePair-refl (e .pair)) refl

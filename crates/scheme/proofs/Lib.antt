@@ -15,3 +15,6 @@ pub mod Inserting
 pub mod Compactions
 pub mod Claim
 pub mod Examples
+pub mod Outcomes
+pub mod Corollaries
+pub mod Premises

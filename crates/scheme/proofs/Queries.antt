@@ -1,42 +1,43 @@
 -- Erase, find and count tell what the ledger tells.
-use Prim.Native.Nat.{ℕ, zero, suc, _+_, _*_, _≤_, _<_}
+use Prim.Native.Nat.{ℕ, suc, _*_, _≤_}
 use mathlib.Core.Path.{_≡_, refl, sym, ap, _∙_, fun-ext}
-use mathlib.Core.Bool.{Bool, true, false, not, _||_}
-use mathlib.Core.Logic.{_⊎_, inl, inr}
+use mathlib.Core.Bool.{false, not}
+use mathlib.Core.Logic.{_⊎_}
 use mathlib.Core.Option.{Option, none, some}
 use mathlib.Core.List.{List, [], _∷_, _++_, map, List·Memᴰ}
 use native.Mathlib.Omega.{arith}
-use lib.Dec.{eqb, ltb}
+use lib.Dec.{ltb}
 use lib.ListN.{length, take, drop, length-append}
 use lib.Seq.{take-at, drop-at, drop-drop}
-use Rattle.answer.specs.Answer.{Answer, done, refused}
-use Rattle.table.specs.Lists.{same, select, count, anyOf, flat, sum, upTo, All}
-use Rattle.table.specs.Table.{Table, used, freeWhere}
+use Rattle.answer.specs.Answer.{Answer, done}
+use Rattle.table.specs.Lists.{same, select, count, anyOf, flat, sum, upTo}
+use Rattle.table.specs.Table.{used, freeWhere}
 use Rattle.table.proofs.Counting.{count-le, Same-refl}
-use Rattle.scheme.specs.Suite.{Suite}
 use Rattle.scheme.specs.Labels.{Field, fieldLengthsBad}
-use Rattle.scheme.specs.Keys.{MT, ME, CL, MTof, MEof, CLof, KC, share, findToken, countToken, findMT, findME, findCL}
-use Rattle.scheme.specs.Store.{Sizes, Store, cut, joined, sizesOf, headerBad, marksBad, reverseId, reverseTag}
+use Rattle.scheme.specs.Keys.{MT, ME, CL, MTof, MEof, CLof, findToken, countToken, findMT, findME, findCL}
+use Rattle.scheme.specs.Store.{Store, cut, joined, sizesOf, headerBad, marksBad, reverseId, reverseTag}
 use Rattle.scheme.specs.Reading
 use Rattle.scheme.specs.Reading.{Reading, reading, damaged, countOf}
-use Rattle.scheme.specs.Refusals.{Test, _⇒_, _⇒_carrying_, verdict, answerOr, unlessRefused, Result, eraseInputTests, fieldTokenTests, tokenTests, lengthNot}
+use Rattle.scheme.specs.Refusals.{Result, eraseInputTests, fieldTokenTests, tokenTests, lengthNot}
+use Rattle.answer.specs.Verdict.{Test, _⇒_, _⇒_carrying_, verdict, answerOr, unlessRefused}
 use Rattle.scheme.specs.Erase
 use Rattle.scheme.specs.Erase.{eraseVerdict, isReverse, erasedTags, isErased, erasedStore}
 use Rattle.scheme.specs.Find
-use Rattle.scheme.specs.Find.{idsTo, shareReading, idsOfShare, idsFound, findVerdict}
-use Rattle.scheme.specs.Count.{countVerdict, sumOfCounts, countCall}
+use Rattle.scheme.specs.Find.{shareReading, idsOfShare, idsFound, findVerdict}
+use Rattle.scheme.specs.Count
+use Rattle.scheme.specs.Count.{countVerdict, sumOfCounts}
 use Rattle.scheme.specs.Call
 use Rattle.scheme.specs.Call.{Call, Told}
-use Rattle.scheme.specs.Ledger.{Pair, Entry, Ledger, Bounds, entryOf, listed, removed, afterErase, ledgerIds, ledgerSum, ledgerFindVerdict, ledgerStep, Outcome}
-use Rattle.scheme.specs.Run.{findCall, countTokenCall, Gives}
+use Rattle.scheme.specs.Ledger.{Pair, Entry, Ledger, listed, removed, afterErase, ledgerIds, ledgerSum, ledgerFindVerdict, ledgerStep}
+use Rattle.scheme.specs.Run.{findCall, countCall, Gives}
 use Rattle.scheme.specs.Claim.{boundsOf}
 use Rattle.scheme.proofs.Setting.{Setting, OK, clOf}
-use Rattle.scheme.proofs.Shape.{Shaped, TableOK, free-where-ok, used-le, sizes-is, cut-joined, header-good, marks-is}
-use Rattle.scheme.proofs.Counters.{runOf, PairCounter, Counters, reading-is}
-use Rattle.scheme.proofs.Entries.{Entries, entries-as, ids-to, entries-erase, erase-count, erasedIn, mtOf, meOf}
+use Rattle.scheme.proofs.Shape.{free-where-ok, used-le, sizes-is, cut-joined, header-good, marks-is}
+use Rattle.scheme.proofs.Counters.{runOf, reading-is}
+use Rattle.scheme.proofs.Entries.{entries-as, ids-to, entries-erase, erase-count, erasedIn}
 use Rattle.scheme.proofs.LedgerLaws.{entry-removed, listed-removed}
 use Rattle.scheme.proofs.Simulation.{madeIn, listIn, logIn, Sim, later, counters-later, counters-as}
-use Rattle.scheme.proofs.Verdicts.{orElse, verdict-append, or-none, passed, length-passed, length-refused, map-upTo, none-upTo}
+use Rattle.scheme.proofs.Verdicts.{orElse, verdict-append, or-none, passed, key-is, length-refused, map-upTo, none-upTo}
 
 module _ (x : Setting) where
   open Setting x using (suite, K, z, calls)
@@ -170,11 +171,7 @@ module _ (x : Setting) where
     field-made key f k e =
         let a = passed (lengthNot 32 key) _ _ e in
         let b = passed (fieldLengthsBad f) _ _ (a .1) in
-        record { key-is = go k (length-passed 32 key (a .0)); valid = b .0 }
-      where
-        go : (key ≡ K) ⊎ (length key ≡ 32 → ⊥) → length key ≡ 32 → key ≡ K
-        go (inl p) l = p
-        go (inr n) l = absurd (n l)
+        record { key-is = key-is K key k (a .0); valid = b .0 }
 
     abbrev pairAt : Field → ℕ → Pair
     pairAt f u = record { field = f; u = u }
@@ -243,7 +240,7 @@ module _ (x : Setting) where
           let d = CL-length in
           length-append (MTof suite K f) (MEof suite K f ++ CLof suite K f) ∙ omega arith
 
-      ids-is : (output : List ℕ) (u : ℕ) → u ≤ z .p → idsOfShare suite before (findToken suite K f) output u ≡ listIn l (pairAt f u)
+      ids-is : (output : List ℕ) (u : ℕ) → u ≤ z .p → idsOfShare suite before (findToken suite K f) u ≡ listIn l (pairAt f u)
       unfolding idsOfShare
       ids-is output u h =
           let ok = ok-at u h in
@@ -253,9 +250,9 @@ module _ (x : Setting) where
           (ids-to x (s .st .tM) (s .st .tV) (listed (l .entries)) (listIn l) (madeIn l) (s .entries) (pairAt f u) ok (madeIn l (pairAt f u)) (omega arith)
           ∙ s .entries .gathers (pairAt f u) ok))
 
-      found-is : (output : List ℕ) → idsFound suite before (findToken suite K f) output ≡ ledgerIds (boundsOf z) l f
+      found-is : (output : List ℕ) → idsFound suite before (findToken suite K f) ≡ ledgerIds (boundsOf z) l f
       unfolding idsFound ledgerIds
-      found-is output = rw sizes-are (ap flat (map-upTo (z .p) (idsOfShare suite before (findToken suite K f) output) (λ u. listIn l (pairAt f u)) (ids-is output)))
+      found-is output = rw sizes-are (ap flat (map-upTo (z .p) (idsOfShare suite before (findToken suite K f)) (λ u. listIn l (pairAt f u)) (ids-is output)))
 
       find-verdict : (output : List ℕ) → findVerdict suite before (findToken suite K f) output
           ≡ verdict ((ltb (length output) (16 * length (ledgerIds (boundsOf z) l f)) ⇒ 18 carrying (length (ledgerIds (boundsOf z) l f) ∷ [])) ∷ [])
@@ -302,13 +299,13 @@ module _ (x : Setting) where
               }
 
       count-result : verdict (fieldTokenTests key f) ≡ none
-          → countTokenCall suite before key f ≡ record { answer = done (ledgerSum (boundsOf z) l f ∷ []); store = before; output = [] }
-      unfolding countTokenCall countCall countToken
+          → countCall suite before key f ≡ record { answer = done (ledgerSum (boundsOf z) l f ∷ []); store = before; output = [] }
+      unfolding countCall Count.count countToken
       count-result e =
           let m = field-made key f keyed e in
           rw (e, m .key-is, count-verdict f (m .valid) named, sum-is f (m .valid) named) refl
 
-      pub count-step : (told : Told) (after : List ℕ) → Gives (countTokenCall suite before key f) told after → After i (Call.count key f) l told after
+      pub count-step : (told : Told) (after : List ℕ) → Gives (countCall suite before key f) told after → After i (Call.count key f) l told after
       unfolding ledgerStep
       count-step told after g = go (verdict (fieldTokenTests key f)) refl
         where
@@ -320,7 +317,7 @@ module _ (x : Setting) where
                 sim = rw (g .store ∙ ap (λ (w : Result). w .store) r) (later x i before l hi s);
               }
           go (some r) e =
-              let c : countTokenCall suite before key f ≡ record { answer = r; store = before; output = [] } = unfold countTokenCall in rw e refl in
+              let c : countCall suite before key f ≡ record { answer = r; store = before; output = [] } = unfold countCall in rw e refl in
               record {
                 told-is = told-eq told _ (g .answer ∙ ap (λ (w : Result). w .answer) c ∙ sym (rw e refl)) (g .output ∙ ap (λ (w : Result). w .output) c);
                 sim = rw (g .store ∙ ap (λ (w : Result). w .store) c) (later x i before l hi s);

@@ -1,26 +1,26 @@
 -- What the proof of the claim works under, and what the premise gives: tags tell pairs, kinds and numbers apart.
-use Prim.Native.Nat.{ℕ, suc, _+_, _*_, _≤_, _<_}
+use Prim.Native.Nat.{ℕ, _+_, _*_, _≤_}
 use mathlib.Core.Path.{_≡_, refl, sym, ap, _∙_}
 use mathlib.Core.Bool.{Bool, true, false, _&&_, true≢false}
 use mathlib.Core.Option
 use mathlib.Core.Option.{Option}
-use mathlib.Core.List.{List, [], _∷_, _++_}
+use mathlib.Core.List.{List, _∷_, _++_}
 use native.Mathlib.Omega.{arith}
 use lib.Dec.{eqb, ltb}
 use lib.ListN.{length, take, drop, length-append}
 use lib.Seq.{take-at, drop-at, drop-drop}
 use borrow.Author.Tests.{eqb-true, eq-eqb}
 use Rattle.table.specs.Lists.{same}
-use Rattle.table.specs.Table.{Row, isFree, body, markOf}
+use Rattle.table.specs.Table.{isFree, body, markOf}
 use Rattle.table.proofs.Counting.{both, same-true, same-refl}
 use Rattle.scheme.specs.Suite.{Suite, number8, valueOf}
-use Rattle.scheme.specs.Labels.{Field, sameField}
-use Rattle.scheme.specs.Keys.{MT, ME, CL, CT, CE}
+use Rattle.scheme.specs.Labels.{sameField}
+use Rattle.scheme.specs.Keys.{MT, CL, CT, CE}
 use Rattle.scheme.specs.Store.{Sizes, sizesBad, entryTag, counterTag, anchorTag, countedRow, plainIn}
-use Rattle.scheme.specs.Reading.{Numbers, numbersAt}
+use Rattle.scheme.specs.Reading.{numbersAt}
 use Rattle.scheme.specs.Call.{Call}
 use Rattle.scheme.specs.Ledger.{Pair, samePair}
-use Rattle.scheme.specs.Premise.{Named, From1, Kind, counter, anchor, tagOf, Premise}
+use Rattle.scheme.specs.Premise.{Named, Kind, counter, anchor, tagOf, Premise}
 use Rattle.scheme.proofs.Numbers.{number-length, number-value}
 
 pub record Setting : Type 0 where
@@ -61,6 +61,14 @@ samePair-sym a b = go (samePair a b) refl
     go : (t : Bool) → samePair a b ≡ t → t ≡ samePair b a
     go true e = let h = samePair-true a b e in sym (rw h (samePair-refl b))
     go false e = sym (samePair-ne b a (λ h. true≢false (sym (rw (← h) (samePair-refl b)) ∙ e)))
+
+-- what holds of a pair and of every other holds of all
+pub by-pair : (pr : Pair) (P : Pair → Type 0) → P pr → ((q : Pair) → (q ≡ pr → ⊥) → P q) → (q : Pair) → P q
+by-pair pr P own other q = go (samePair q pr) refl
+  where
+    go : (b : Bool) → samePair q pr ≡ b → P q
+    go true e = rw (samePair-true q pr e) own
+    go false e = other q (λ w. true≢false (sym (samePair-refl pr) ∙ (rw w at e)))
 
 -- ---- rows of C
 

@@ -1,20 +1,19 @@
 -- A store whose rows have their widths and marks: cutting its bytes gives its tables back, and it is never refused by 10 or 11.
-use Prim.Native.Nat.{ℕ, zero, suc, _+_, _*_, _-_, _/_, _%_, _≤_, _<_}
+use Prim.Native.Nat.{ℕ, zero, suc, _+_, _*_, _-_, _/_, _%_, _≤_}
 use mathlib.Core.Path.{_≡_, refl, sym, ap, _∙_}
-use mathlib.Core.Bool.{Bool, true, false, cond, not, _&&_, _||_}
+use mathlib.Core.Bool.{Bool, false}
 use mathlib.Core.List.{List, [], _∷_, _++_, append-assoc, append-nil}
-use native.Mathlib.Nat.{zero-add}
 use native.Mathlib.Omega.{arith}
-use lib.Dec.{ltb, eqb}
+use lib.Dec.{ltb}
 use lib.ListN.{length, getD, take, drop, replicate, length-append, length-replicate}
 use lib.Seq.{take-at, drop-at}
 use borrow.Author.Tests.{le-ltb, eq-eqb}
-use Rattle.table.specs.Lists.{flat, anyOf, All}
+use Rattle.table.specs.Lists.{flat, All}
 use Rattle.table.specs.Table.{Row, Table, rows, markOf, markBad, used, freeRows, zeroRow, freeAt, freeWhere, Placed, PlacedAll}
-use Rattle.table.specs.Table.PlacedAll.{none-placed, one-placed}
-use Rattle.table.proofs.Rows.{placed-none, placed-next, PlacedOne, flat-length, rows-flat, placed-all, placed-length, free-where-all, free-where-length, free-at-all, free-at-length, free-used, rows-zero, all-replicate}
+use Rattle.table.proofs.Rows.{placed-none, placed-next, flat-length, rows-flat, placed-all, placed-length, free-where-all, free-where-length, free-at-all, free-at-length, free-used, rows-zero, all-replicate}
 use Rattle.table.proofs.Counting.{all-map}
-use Rattle.scheme.specs.Store.{Sizes, sizesBad, lengthFor, headerOf, sizesOf, Store, cut, joined, headerBad, marksBad, fresh}
+use Rattle.answer.specs.Answer.{done}
+use Rattle.scheme.specs.Store.{Sizes, sizesBad, lengthFor, headerOf, sizesOf, Store, cut, joined, headerBad, marksBad, fresh, makeTests, make}
 
 pub record RowOK (w : ℕ) (r : Row) : Type 0 where
   pub width : length r ≡ w
@@ -179,3 +178,8 @@ placed-all-ok w n t [] t′ p a ok = rw (placed-none t t′ p) at ok
 placed-all-ok w n t (row ∷ rest) t′ p a ok =
     let q = placed-next t row rest t′ p in
     placed-all-ok w n (q .between) rest t′ (q .more) (a .1) (placed-ok w n t row (q .between) (q .one) (a .0) ok)
+
+-- making a store over a slice of its length gives the fresh store that the claim begins with
+pub make-fresh : (z : Sizes) (slice : List ℕ) → sizesBad z ≡ false → length slice ≡ lengthFor z → make z slice ≡ record { answer = done []; store = fresh z; output = [] }
+unfolding make makeTests
+make-fresh z slice good e = rw (good, eq-eqb (length slice) (lengthFor z) e) refl

@@ -1,13 +1,12 @@
 -- What holds of the store and the ledger after i calls, and that it holds at the start and later.
-use Prim.Native.Nat.{ℕ, zero, suc, _+_, _*_, _≤_, _<_}
-use mathlib.Core.Path.{_≡_, refl, sym, ap, _∙_}
-use mathlib.Core.Bool.{Bool, true, false}
-use mathlib.Core.Option.{Option, none, some}
-use mathlib.Core.List.{List, [], _∷_, _++_, map}
+use Prim.Native.Nat.{ℕ, suc, _*_, _≤_}
+use mathlib.Core.Path.{_≡_, refl, ap}
+use mathlib.Core.Option.{none}
+use mathlib.Core.List.{List, []}
 use native.Mathlib.Omega.{arith}
 use lib.ListN.{length, replicate}
-use Rattle.table.specs.Lists.{same, count, first, anyOf, All, Same, distinct}
-use Rattle.table.specs.Table.{Table, used, lookup, zeroRow}
+use Rattle.table.specs.Lists.{same, anyOf, distinct}
+use Rattle.table.specs.Table.{Table, lookup, zeroRow}
 use Rattle.table.proofs.Counting.{Same-refl}
 use Rattle.table.proofs.Rows.{used-zero}
 use Rattle.scheme.specs.Keys.{KS}

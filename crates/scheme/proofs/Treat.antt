@@ -1,28 +1,26 @@
 -- One CL of a compaction: the rows held as its counters are freed, its next anchor is written, its log rows are gone. A lemma of
 -- its own, over the rows of C and the log.
-use Prim.Native.Nat.{ℕ, zero, suc, _+_, _*_, _≤_, _<_}
+use Prim.Native.Nat.{ℕ, zero, suc, _+_, _≤_, _<_}
 use mathlib.Core.Path.{_≡_, refl, sym, ap, _∙_}
-use mathlib.Core.Bool.{Bool, true, false, cond, not, _&&_, _||_, true≢false}
+use mathlib.Core.Bool.{Bool, true, false, not, _&&_, and-false, not-and-self}
 use mathlib.Core.Logic.{_≢_}
-use mathlib.Core.Option.{Option, none, some}
-use mathlib.Core.List.{List, [], _∷_, _++_, map}
-use native.Mathlib.Nat.{add-zero, add-suc, suc-add, zero-add}
+use mathlib.Core.Option.{none, some}
+use mathlib.Core.List.{List, [], _∷_, map}
 use native.Mathlib.Omega.{arith}
 use lib.Dec.{eqb}
-use lib.ListN.{length, getD, take, drop, set}
+use lib.ListN.{length, getD, take, set}
 use borrow.Author.Tests.{eqb-true, eqb-false}
-use Rattle.table.specs.Lists.{bit, same, select, count, All, Same}
+use Rattle.table.specs.Lists.{same, select, count}
 use Rattle.table.specs.Table.{Row, Table, used, body, isFree, hasTag, lookup, holds, placeOf, zeroRow, freeAt, Placed}
-use Rattle.table.proofs.Counting.{same-true, same-refl, same-eq, ne-same, same-ne, same-sym, count-select, count-split, count-ext, count-none, all-select, select-map, Same-select, same-length}
+use Rattle.table.proofs.Counting.{same-true, ne-same, same-sym, count-select, count-split, count-ext, count-none, all-select, select-map, Same-select, same-length}
 use Rattle.table.proofs.Distinct.{without}
 use Rattle.table.proofs.Rows.{placed-same, free-at-none, Held, place-held, free-one-length, free-one-other, held-other}
 use Rattle.scheme.specs.Store.{countedRow, anchorRow}
-use Rattle.scheme.specs.Reading.{numbersAt, limit}
-use Rattle.scheme.specs.Compaction.{heldPlaces, Anchored}
-use Rattle.scheme.specs.Ledger.{Pair, samePair}
+use Rattle.scheme.specs.Compaction.{heldPlaces, Anchored, freedCounters, nextAnchor}
+use Rattle.scheme.specs.Ledger.{Pair}
 use Rattle.scheme.specs.Premise.{Kind, counter, anchor}
-use Rattle.scheme.proofs.Setting.{Setting, OK, clOf, ctag, ctags, CTags, cl-differ, tag-length, counted-used, counted-tag, numbers-found, counter≢anchor, samePair-true, samePair-refl}
-use Rattle.scheme.proofs.Counters.{runOf, PairCounter, Counters, Agree, unchanged, placed-pair, placed-number, placed-own, some-holds, same-holds}
+use Rattle.scheme.proofs.Setting.{Setting, OK, clOf, ctag, ctags, cl-differ, tag-length, counted-used, counted-tag, numbers-found, counter≢anchor, by-pair}
+use Rattle.scheme.proofs.Counters.{runOf, PairCounter, Counters, unchanged, placed-pair, placed-number, placed-own, some-holds, same-holds}
 
 module _ (x : Setting) (pr : Pair) (ok : OK x pr) (t : Table) where
   open Setting x using (suite, K, z, calls, premise)
@@ -83,20 +81,12 @@ module _ (x : Setting) where
       go y true e =
           let f : same y (clOf x pr) ≡ false = ne-same y (clOf x pr) (λ w. ne (cl-differ x q pr oq ok (same-true (clOf x q) y e ∙ w))) in
           rw f refl
-      go y false e = at (not (same y (clOf x pr)))
-        where
-          at : (c : Bool) → (c && false) ≡ false
-          at true = refl
-          at false = refl
+      go y false e = and-false (not (same y (clOf x pr)))
 
   run-gone : (L : List (List ℕ)) (pr : Pair) → runOf x (without (clOf x pr) L) pr ≡ 0
   run-gone L pr =
       count-select (λ y. not (same y (clOf x pr))) (same (clOf x pr)) L
-      ∙ count-none (λ y. not (same y (clOf x pr)) && same (clOf x pr) y) (λ y. rw (same-sym (clOf x pr) y) (go (same y (clOf x pr)))) L
-    where
-      go : (b : Bool) → (not b && b) ≡ false
-      go true = refl
-      go false = refl
+      ∙ count-none (λ y. not (same y (clOf x pr)) && same (clOf x pr) y) (λ y. rw (same-sym (clOf x pr) y) (not-and-self (same y (clOf x pr)))) L
 
   pub without-length : (L : List (List ℕ)) (pr : Pair) → length L ≡ runOf x L pr + length (without (clOf x pr) L)
   without-length L pr =
@@ -119,7 +109,7 @@ module _ (x : Setting) where
     row = countedRow suite (clOf x pr) (ctag x pr anchor (P .B + 1)) nonce (P .start + runOf x L pr) (made pr)
 
     placed : Placed t₁ row t′
-    unfolding anchorRow
+    unfolding anchorRow freedCounters nextAnchor
     placed = done .placed
 
     free : Freed x pr ok t (P .start) (runOf x L pr) t
@@ -192,7 +182,7 @@ module _ (x : Setting) where
 
     pub counters-treat : Counters x t′ (without (clOf x pr) L) (A + 1) i made
     counters-treat = record {
-      pairs = λ q oq. go q oq (samePair q pr) refl;
+      pairs = by-pair pr (λ q. OK x q → PairCounter x t′ (without (clOf x pr) L) (A + 1) i q (made q)) (λ oq. own) other;
       log = select (λ q. not (same (clOf x q) (clOf x pr))) (C .log);
       log-OK = all-select (OK x) (λ q. not (same (clOf x q) (clOf x pr))) (C .log) (C .log-OK);
       log-same = record {
@@ -208,10 +198,8 @@ module _ (x : Setting) where
           omega arith;
     }
       where
-        go : (q : Pair) → OK x q → (b : Bool) → samePair q pr ≡ b → PairCounter x t′ (without (clOf x pr) L) (A + 1) i q (made q)
-        go q oq true e = rw (samePair-true q pr e) own
-        go q oq false e =
-            let ne : q ≡ pr → ⊥ = λ w. true≢false (sym (samePair-refl pr) ∙ (rw w at e)) in
+        other : (q : Pair) → (q ≡ pr → ⊥) → OK x q → PairCounter x t′ (without (clOf x pr) L) (A + 1) i q (made q)
+        other q ne oq =
             let c = C .pairs pr ok .position-calls in
             unchanged x t t′ L (without (clOf x pr) L) A (A + 1) i i q (made q)
             (λ h a l u.

@@ -1,7 +1,8 @@
 -- Laws of the ordered refusals: two lists one after the other, and what holds where nothing refuses.
-use Prim.Native.Nat.{ℕ, _+_, _≤_, _<_}
+use Prim.Native.Nat.{ℕ, _+_, _≤_}
 use mathlib.Core.Path.{_≡_, refl, sym, ap, _∙_}
 use mathlib.Core.Bool.{Bool, true, false, cond, not, _||_}
+use mathlib.Core.Logic.{_⊎_, inl, inr}
 use mathlib.Core.Option.{Option, none, some}
 use mathlib.Core.List.{List, [], _∷_, _++_, map}
 use native.Mathlib.Omega.{arith}
@@ -10,7 +11,8 @@ use lib.ListN.{length}
 use borrow.Author.Tests.{eqb-true, eq-eqb, not-false, ltb-true, ltb-false, lt-ltb, le-ltb}
 use Rattle.answer.specs.Answer.{Answer, refused}
 use Rattle.table.specs.Lists.{anyOf, upTo}
-use Rattle.scheme.specs.Refusals.{Test, _⇒_, _⇒_carrying_, verdict, lengthNot}
+use Rattle.scheme.specs.Refusals.{lengthNot}
+use Rattle.answer.specs.Verdict.{Test, _⇒_, _⇒_carrying_, verdict}
 
 abbrev pub orElse : Option Answer → Option Answer → Option Answer
 orElse none o = o
@@ -44,6 +46,11 @@ both-none (some r) q e = absurd (let w : _≡_ {A = ℕ} 0 1 = cc in omega arith
 
 pub length-passed : (n : ℕ) (l : List ℕ) → lengthNot n l ≡ false → length l ≡ n
 length-passed n l e = eqb-true (length l) n (not-false (eqb (length l) n) e)
+
+-- a key in the list that 1 does not refuse is K
+pub key-is : (K key : List ℕ) → (key ≡ K) ⊎ (length key ≡ 32 → ⊥) → lengthNot 32 key ≡ false → key ≡ K
+key-is K key (inl p) e = p
+key-is K key (inr n) e = absurd (n (length-passed 32 key e))
 
 pub length-refused : (n : ℕ) (l : List ℕ) → length l ≡ n → lengthNot n l ≡ false
 length-refused n l e = ap not (eq-eqb (length l) n e)

@@ -12,7 +12,7 @@ pub data Call : Type 0 where
   count : (key : List ℕ) (f : Field) → Call
   compact : (key nonces : List ℕ) → Call
 
--- the answer, or the refusal's number with what it carries, and a find's whole output slice [01:LG14]
+-- the answer, or the refusal's number with what it carries, and a find's whole output slice; no row bytes [01:LG14 LG15]
 pub record Told : Type 0 where
   pub answer : Answer
   pub output : List ℕ

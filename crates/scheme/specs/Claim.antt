@@ -17,7 +17,7 @@ abbrev pub boundsOf : Sizes → Bounds
 boundsOf z = record { p = z .p; m = z .m; c = z .c; s = z .s }
 
 -- for every master key of 32 bytes, all sizes in range, every list of calls with that key or keys of a refused length, under the
--- premise on tags, and every run of it from a fresh store: what the run told is what the ledger tells [01:LG14 LG17 LG18 LG19]
+-- premise on tags, and every run of it from a fresh store: what the run told is what the ledger tells [01:KT1 LG14 LG17 LG18 LG19]
 unfoldable pub Claim : Suite → Type 0
 Claim suite =
     (K : List ℕ) (z : Sizes) (calls : List Call) (told : List Told) (after : List ℕ)

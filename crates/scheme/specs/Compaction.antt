@@ -1,18 +1,18 @@
 -- Document 01, "Operations": compaction. A relation for the row placing alone.
 use Prim.Native.Nat.{ℕ, zero, suc, _+_, _/_}
 use mathlib.Core.Path.{_≡_}
-use mathlib.Core.Bool.{Bool}
 use mathlib.Core.Option.{Option, none, some}
 use mathlib.Core.List.{List, [], _∷_, _++_, map}
 use lib.Dec.{ltb}
 use lib.ListN.{length, take, drop}
 use Rattle.table.specs.Lists.{same, distinct}
-use Rattle.table.specs.Table.{Table, used, placeOf, freeAt, freeWhere, Placed}
+use Rattle.table.specs.Table.{Row, Table, used, placeOf, freeAt, freeWhere, Placed}
 use Rattle.answer.specs.Answer.{Answer, done, refused}
 use Rattle.scheme.specs.Suite.{Suite}
 use Rattle.scheme.specs.Store.{Store, sizesOf, cut, joined, headerBad, marksBad, counterTag, anchorRow, clIn}
-use Rattle.scheme.specs.Reading.{Reading, damage, counter, reading}
-use Rattle.scheme.specs.Refusals.{Test, _⇒_, verdict, compactionInputTests, tokenTests}
+use Rattle.scheme.specs.Reading.{damage, counter, reading}
+use Rattle.scheme.specs.Refusals.{compactionInputTests, tokenTests}
+use Rattle.answer.specs.Verdict.{_⇒_, verdict}
 
 module _ (suite : Suite) where
   -- the places of the rows held as counters start + 1 to start + k [01:OP11]
@@ -21,8 +21,14 @@ module _ (suite : Suite) where
   heldPlaces cl t start (suc k) = placeOf (counterTag suite cl (suc start)) t ∷ heldPlaces cl t (suc start) k
 
   -- one CL with k > 0: those rows are freed, anchor B + 1 is written with position and count [01:OP11]
+  unfoldable pub freedCounters : List ℕ → Table → ℕ → ℕ → Table
+  freedCounters cl t start k = freeAt 61 (heldPlaces cl t start k) t
+
+  unfoldable pub nextAnchor : List ℕ → List ℕ → ℕ → ℕ → ℕ → ℕ → Row
+  nextAnchor cl nonce B start k n = anchorRow suite cl (B + 1) nonce (start + k) n
+
   pub record Anchored (cl nonce : List ℕ) (t : Table) (B start k n : ℕ) (after : Table) : Type 0 where
-    pub placed : Placed (freeAt 61 (heldPlaces cl t start k) t) (anchorRow suite cl (B + 1) nonce (start + k) n) after
+    pub placed : Placed (freedCounters cl t start k) (nextAnchor cl nonce B start k n) after
 
   -- the CL in the used S rows, in order [01:ST12]
   unfoldable pub logOf : List ℕ → Table → List (List ℕ)
@@ -49,6 +55,14 @@ pub data Treats (suite : Suite) (c : ℕ) (ks : List ℕ) : List (List ℕ) → 
       → Treats suite c ks cls tC₁ (freeLog suite ks cl tS) (drop 12 nonces) (anchors + 1) (counters + suc k) answer tC′ tS′
       → Treats suite c ks (cl ∷ cls) tC tS nonces anchors counters answer tC′ tS′
 
+-- distinct CL of S in order of first row [01:OP10]
+unfoldable pub logged : Suite → List ℕ → List ℕ → List (List ℕ)
+logged suite before token = distinct (logOf suite token (cut before .tS))
+
+-- the store with its tables C and S after the treatment
+unfoldable pub compactedStore : List ℕ → Table → Table → Store
+compactedStore before tC tS = record { header = cut before .header; tM = cut before .tM; tV = cut before .tV; tC = tC; tS = tS }
+
 module _ (suite : Suite) (before nonces token : List ℕ) where
   -- 4, 6, 10, 11, 19 [01:RI5 RI7 RS2 RS3 RS5]
   unfoldable pub compactVerdict : Option Answer
@@ -58,12 +72,12 @@ module _ (suite : Suite) (before nonces token : List ℕ) where
       ∷ (ltb (length nonces / 12) (length (used (cut before .tS))) ⇒ 19)
       ∷ [])))
 
-  -- distinct CL of S in order of first row; answer: anchors written, counters freed [01:OP10 OP13]
+  -- answer: anchors written, counters freed [01:OP13]
   pub record Compacted (answer : Answer) (after : List ℕ) : Type 0 where
     pub tC′ : Table
     pub tS′ : Table
-    pub treats : Treats suite (sizesOf before .c) token (distinct (logOf suite token (cut before .tS))) (cut before .tC) (cut before .tS) nonces 0 0 answer tC′ tS′
-    pub written : after ≡ joined (record { header = cut before .header; tM = cut before .tM; tV = cut before .tV; tC = tC′; tS = tS′ })
+    pub treats : Treats suite (sizesOf before .c) token (logged suite before token) (cut before .tC) (cut before .tS) nonces 0 0 answer tC′ tS′
+    pub written : after ≡ joined (compactedStore before tC′ tS′)
 
   -- a refusal changes no byte, except 13, which Treats tells [01:RS13]
   pub record Compact (answer : Answer) (after : List ℕ) : Type 0 where

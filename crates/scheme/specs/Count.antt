@@ -7,7 +7,8 @@ use Rattle.answer.specs.Answer.{Answer, done}
 use Rattle.scheme.specs.Suite.{Suite}
 use Rattle.scheme.specs.Store.{sizesOf, cut, headerBad, marksBad}
 use Rattle.scheme.specs.Reading.{damaged, countOf}
-use Rattle.scheme.specs.Refusals.{Test, _⇒_, verdict, answerOr, Result, tokenTests}
+use Rattle.scheme.specs.Refusals.{Result, tokenTests}
+use Rattle.answer.specs.Verdict.{_⇒_, verdict, answerOr}
 use Rattle.scheme.specs.Find.{shareReading}
 
 module _ (suite : Suite) (before token : List ℕ) where
@@ -23,5 +24,5 @@ module _ (suite : Suite) (before token : List ℕ) where
   unfoldable pub sumOfCounts : ℕ
   sumOfCounts = sum (map (λ u. countOf (shareReading suite before token u)) (upTo (sizesOf before .p)))
 
-  unfoldable pub countCall : Result
-  countCall = record { answer = answerOr countVerdict (done (sumOfCounts ∷ [])); store = before; output = [] }
+  unfoldable pub count : Result
+  count = record { answer = answerOr countVerdict (done (sumOfCounts ∷ [])); store = before; output = [] }

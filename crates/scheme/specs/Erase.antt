@@ -5,10 +5,11 @@ use mathlib.Core.Option.{Option}
 use mathlib.Core.List.{List, [], _∷_, _++_, map}
 use lib.ListN.{take}
 use Rattle.table.specs.Lists.{same, select, count, anyOf}
-use Rattle.table.specs.Table.{Table, used, freeWhere}
+use Rattle.table.specs.Table.{used, freeWhere}
 use Rattle.answer.specs.Answer.{Answer, done}
 use Rattle.scheme.specs.Store.{Store, cut, joined, headerBad, marksBad, reverseId, reverseTag}
-use Rattle.scheme.specs.Refusals.{Test, _⇒_, verdict, answerOr, unlessRefused, Result, eraseInputTests}
+use Rattle.scheme.specs.Refusals.{Result, eraseInputTests}
+use Rattle.answer.specs.Verdict.{_⇒_, verdict, answerOr, unlessRefused}
 
 module _ (before id : List ℕ) where
   -- 5, 10, 11 [01:RI6 RS2 RS3]

@@ -1,6 +1,5 @@
 -- Document 01, "Operations": find.
 use Prim.Native.Nat.{ℕ, zero, suc, _*_}
-use mathlib.Core.Bool.{Bool}
 use mathlib.Core.Option.{Option, none, some}
 use mathlib.Core.List.{List, [], _∷_, _++_, map}
 use lib.Dec.{ltb}
@@ -12,7 +11,8 @@ use Rattle.scheme.specs.Suite.{Suite}
 use Rattle.scheme.specs.Keys.{share, findMT, findME, findCL}
 use Rattle.scheme.specs.Store.{sizesOf, cut, headerBad, marksBad, entryTag, idIn}
 use Rattle.scheme.specs.Reading.{Reading, damaged, countOf, reading}
-use Rattle.scheme.specs.Refusals.{Test, _⇒_, _⇒_carrying_, verdict, answerOr, unlessRefused, Result, tokenTests}
+use Rattle.scheme.specs.Refusals.{Result, tokenTests}
+use Rattle.answer.specs.Verdict.{_⇒_, _⇒_carrying_, verdict, answerOr, unlessRefused}
 
 module _ (suite : Suite) where
   -- a missing address is skipped, a held one gives its id [01:OP6]
@@ -29,7 +29,7 @@ module _ (suite : Suite) where
   unfoldable pub shareReading : List ℕ → List ℕ → ℕ → Reading
   shareReading before clx u = reading suite (sizesOf before .c) (share suite clx u) (cut before .tC)
 
-module _ (suite : Suite) (before token output : List ℕ) where
+module _ (suite : Suite) (before token : List ℕ) where
   -- for u = 0 to p, addresses 1 to the count [01:OP6]
   unfoldable pub idsOfShare : ℕ → List (List ℕ)
   idsOfShare u =
@@ -38,19 +38,20 @@ module _ (suite : Suite) (before token output : List ℕ) where
   unfoldable pub idsFound : List (List ℕ)
   idsFound = flat (map idsOfShare (upTo (sizesOf before .p)))
 
+module _ (suite : Suite) (before token output : List ℕ) where
   -- 6, 10, 11, 13 with every share read first, 18 [01:RI7 RS2 RS3 RS6 RS11]
   unfoldable pub findVerdict : Option Answer
   findVerdict = verdict (tokenTests 96 token ++
       ((headerBad before ⇒ 10)
       ∷ (marksBad (cut before) ⇒ 11)
       ∷ (anyOf (λ u. damaged (shareReading suite before (findCL token) u)) (upTo (sizesOf before .p)) ⇒ 13)
-      ∷ (ltb (length output) (16 * length idsFound) ⇒ 18 carrying (length idsFound ∷ []))
+      ∷ (ltb (length output) (16 * length (idsFound suite before token)) ⇒ 18 carrying (length (idsFound suite before token) ∷ []))
       ∷ []))
 
   -- ids go to the start of the output, later bytes stay; answer: how many [01:OP7 OP8]
   unfoldable pub find : Result
   find = record {
-    answer = answerOr findVerdict (done (length idsFound ∷ []));
+    answer = answerOr findVerdict (done (length (idsFound suite before token) ∷ []));
     store = before;
-    output = unlessRefused findVerdict (flat idsFound ++ drop (16 * length idsFound) output) output;
+    output = unlessRefused findVerdict (flat (idsFound suite before token) ++ drop (16 * length (idsFound suite before token)) output) output;
   }

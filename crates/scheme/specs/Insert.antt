@@ -1,7 +1,7 @@
 -- Document 01, "Operations": insert. A relation for the row placing alone.
-use Prim.Native.Nat.{ℕ, zero, suc, _+_, _*_}
+use Prim.Native.Nat.{ℕ, suc, _+_, _*_}
 use mathlib.Core.Path.{_≡_}
-use mathlib.Core.Bool.{Bool, not, _||_}
+use mathlib.Core.Bool.{not, _||_}
 use mathlib.Core.Option.{Option, none, some}
 use mathlib.Core.List.{List, [], _∷_, _++_}
 use lib.Dec.{ltb, eqb}
@@ -12,7 +12,8 @@ use Rattle.scheme.specs.Suite.{Suite}
 use Rattle.scheme.specs.Keys.{tokenP, tokenMT, tokenME, tokenCL, tokenLog}
 use Rattle.scheme.specs.Store.{Store, sizesOf, cut, joined, headerBad, marksBad, entryRow, reverseRow, counterRow, logRow}
 use Rattle.scheme.specs.Reading.{Reading, limit, damaged, countOf, positionOf, reading}
-use Rattle.scheme.specs.Refusals.{Test, _⇒_, verdict, answerOr, idCount, idsIn, insertInputTests, tokenTests}
+use Rattle.scheme.specs.Refusals.{idCount, idsIn, insertInputTests, tokenTests}
+use Rattle.answer.specs.Verdict.{Test, _⇒_, verdict, answerOr}
 
 module _ (suite : Suite) where
   -- the rows of M and of V for ids at addresses g + 1 onward, one nonce per id [01:OP1 OP2]
@@ -24,22 +25,26 @@ module _ (suite : Suite) where
   reverseRows mt g [] = []
   reverseRows mt g (id ∷ ids) = reverseRow suite mt (suc g) id ∷ reverseRows mt (suc g) ids
 
+-- the reading of the token's CL, and the new count [01:OP3]
+unfoldable pub insertReading : Suite → List ℕ → List ℕ → Reading
+insertReading suite before token = reading suite (sizesOf before .c) (tokenCL token) (cut before .tC)
+
+unfoldable pub newCount : Suite → List ℕ → List ℕ → List ℕ → ℕ
+newCount suite before ids token = countOf (insertReading suite before token) + idCount ids
+
+-- the store with its four tables after the writing
+unfoldable pub insertedStore : List ℕ → Table → Table → Table → Table → Store
+insertedStore before tM tV tC tS = record { header = cut before .header; tM = tM; tV = tV; tC = tC; tS = tS }
+
 module _ (suite : Suite) (before ids nonces token : List ℕ) where
-  unfoldable pub insertReading : Reading
-  insertReading = reading suite (sizesOf before .c) (tokenCL token) (cut before .tC)
-
-  -- the new count [01:OP3]
-  unfoldable pub newCount : ℕ
-  newCount = countOf insertReading + idCount ids
-
   -- 10 to 17 [01:RS2 RS3 RS4 RS6 RS7 RS8 RS9 RS10]
   unfoldable pub insertStateTests : List Test
   insertStateTests =
       (headerBad before ⇒ 10)
       ∷ (marksBad (cut before) ⇒ 11)
       ∷ (not (eqb (tokenP token) (sizesOf before .p)) ⇒ 12)
-      ∷ (damaged insertReading ⇒ 13)
-      ∷ (ltb limit newCount ⇒ 14)
+      ∷ (damaged (insertReading suite before token) ⇒ 13)
+      ∷ (ltb limit (newCount suite before ids token) ⇒ 14)
       ∷ (ltb (freeRows (cut before .tM)) (idCount ids) || ltb (freeRows (cut before .tV)) (idCount ids) ⇒ 15)
       ∷ (ltb (freeRows (cut before .tC)) 1 ⇒ 16)
       ∷ (ltb (freeRows (cut before .tS)) 1 ⇒ 17)
@@ -48,20 +53,34 @@ module _ (suite : Suite) (before ids nonces token : List ℕ) where
   unfoldable pub insertVerdict : Option Answer
   insertVerdict = verdict (insertInputTests ids nonces ++ (tokenTests 141 token ++ insertStateTests))
 
-  -- the rows written: entries in M and V, the counter at the next position, the token's last 44 bytes in S [01:OP1 OP2]
+  -- the rows to be written: entries in M and V, the counter at the next position, the token's last 44 bytes in S [01:OP1 OP2]
+  unfoldable pub newEntries : List Row
+  newEntries = entryRows suite (tokenMT token) (tokenME token) (countOf (insertReading suite before token)) (idsIn ids) nonces
+
+  unfoldable pub newReverses : List Row
+  newReverses = reverseRows suite (tokenMT token) (countOf (insertReading suite before token)) (idsIn ids)
+
+  unfoldable pub newCounter : Row
+  newCounter =
+      counterRow suite (tokenCL token) (positionOf (insertReading suite before token) + 1) (drop (12 * idCount ids) nonces) (newCount suite before ids token)
+
+  unfoldable pub newLog : Row
+  newLog = logRow (tokenLog token)
+
+  -- each row in a free row of its table
   pub record Inserted (after : List ℕ) : Type 0 where
     pub tM′ : Table
     pub tV′ : Table
     pub tC′ : Table
     pub tS′ : Table
-    pub entries : PlacedAll (cut before .tM) (entryRows suite (tokenMT token) (tokenME token) (countOf insertReading) (idsIn ids) nonces) tM′
-    pub reverses : PlacedAll (cut before .tV) (reverseRows suite (tokenMT token) (countOf insertReading) (idsIn ids)) tV′
-    pub counter : Placed (cut before .tC) (counterRow suite (tokenCL token) (positionOf insertReading + 1) (drop (12 * idCount ids) nonces) newCount) tC′
-    pub log : Placed (cut before .tS) (logRow (tokenLog token)) tS′
-    pub written : after ≡ joined (record { header = cut before .header; tM = tM′; tV = tV′; tC = tC′; tS = tS′ })
+    pub entries : PlacedAll (cut before .tM) newEntries tM′
+    pub reverses : PlacedAll (cut before .tV) newReverses tV′
+    pub counter : Placed (cut before .tC) newCounter tC′
+    pub log : Placed (cut before .tS) newLog tS′
+    pub written : after ≡ joined (insertedStore before tM′ tV′ tC′ tS′)
 
   -- a refusal changes no byte [01:RS13]; otherwise the rows are written and the answer is the new count [01:OP3 OP14 OP15]
   pub record Insert (answer : Answer) (after : List ℕ) : Type 0 where
-    pub answered : answer ≡ answerOr insertVerdict (done (newCount ∷ []))
+    pub answered : answer ≡ answerOr insertVerdict (done (newCount suite before ids token ∷ []))
     pub kept : (r : Answer) → insertVerdict ≡ some r → after ≡ before
     pub wrote : insertVerdict ≡ none → Inserted after

@@ -1,6 +1,6 @@
 -- Document 01, "Keys and tokens".
 use Prim.Native.Nat.{ℕ}
-use mathlib.Core.List.{List, [], _∷_, _++_}
+use mathlib.Core.List.{List, _∷_, _++_}
 use lib.ListN.{getD, take, drop}
 use Rattle.scheme.specs.Suite.{Suite, number8}
 use Rattle.scheme.specs.Labels.{Field, label}
@@ -8,7 +8,7 @@ use Rattle.scheme.specs.Labels.{Field, label}
 module _ (suite : Suite) where
   open Suite suite using (F, E)
 
-  -- KM, KC, KS from the master key K [01:KT2]
+  -- KM, KC, KS from the master key K of 32 bytes; KS is the same for all compactions [01:KT1 KT2 KT11]
   unfoldable pub KM : List ℕ → List ℕ
   KM K = F K (number8 1)
 
@@ -18,7 +18,7 @@ module _ (suite : Suite) where
   unfoldable pub KS : List ℕ → List ℕ
   KS K = F K (number8 3)
 
-  -- the parts of a find token, with label x, before the share [01:KT8]
+  -- with label x, before the share: the parts of a find token [01:KT4 KT8]
   unfoldable pub MTof : List ℕ → Field → List ℕ
   MTof K f = F (F (KM K) (number8 1)) (label f)
 

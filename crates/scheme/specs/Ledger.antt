@@ -9,7 +9,8 @@ use lib.ListN.{length, drop}
 use Rattle.table.specs.Lists.{same, select, count, anyOf, flat, sum, upTo}
 use Rattle.answer.specs.Answer.{Answer, done}
 use Rattle.scheme.specs.Labels.{Field, sameField}
-use Rattle.scheme.specs.Refusals.{Test, _⇒_, _⇒_carrying_, verdict, answerOr, unlessRefused, idCount, idsIn, insertTokenTests, fieldTokenTests, keyTests, insertInputTests, eraseInputTests, compactionInputTests}
+use Rattle.scheme.specs.Refusals.{idCount, idsIn, insertTokenTests, fieldTokenTests, keyTests, insertInputTests, eraseInputTests, compactionInputTests}
+use Rattle.answer.specs.Verdict.{_⇒_, _⇒_carrying_, verdict, answerOr, unlessRefused}
 use Rattle.scheme.specs.Call
 use Rattle.scheme.specs.Call.{Call, Told}
 

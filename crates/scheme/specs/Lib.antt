@@ -16,3 +16,4 @@ pub mod Lowest
 pub mod Premise
 pub mod Claim
 pub mod Examples
+pub mod Corollaries

@@ -8,19 +8,20 @@ use Rattle.answer.specs.Answer.{Answer}
 use Rattle.scheme.specs.Suite.{Suite}
 use Rattle.scheme.specs.Labels.{Field}
 use Rattle.scheme.specs.Keys.{insertToken, findToken, countToken, compactionToken}
-use Rattle.scheme.specs.Refusals.{verdict, Result, insertTokenTests, fieldTokenTests, keyTests}
+use Rattle.scheme.specs.Refusals.{Result, insertTokenTests, fieldTokenTests, keyTests}
+use Rattle.answer.specs.Verdict.{verdict}
 use Rattle.scheme.specs.Insert.{Insert}
 use Rattle.scheme.specs.Erase
 use Rattle.scheme.specs.Find
-use Rattle.scheme.specs.Count.{countCall}
+use Rattle.scheme.specs.Count
 use Rattle.scheme.specs.Compaction.{Compact}
 use Rattle.scheme.specs.Call
 use Rattle.scheme.specs.Call.{Call, Told}
 
 -- a token's making that is refused ends the call and changes nothing
-abbrev pub madeOr : Option Answer → Result → Result → Result
-madeOr none go stop = go
-madeOr (some r) go stop = record { answer = r; store = stop .store; output = stop .output }
+abbrev pub madeOr : Option Answer → Result → List ℕ → List ℕ → Result
+madeOr none result before output = result
+madeOr (some r) result before output = record { answer = r; store = before; output = output }
 
 module _ (suite : Suite) (before : List ℕ) where
   -- the making of its token, then the operation with it [01:LG16]
@@ -34,13 +35,11 @@ module _ (suite : Suite) (before : List ℕ) where
 
   unfoldable pub findCall : List ℕ → Field → List ℕ → Result
   findCall key f output =
-      madeOr (verdict (fieldTokenTests key f)) (Find.find suite before (findToken suite key f) output)
-      (record { answer = Answer.done []; store = before; output = output })
+      madeOr (verdict (fieldTokenTests key f)) (Find.find suite before (findToken suite key f) output) before output
 
-  unfoldable pub countTokenCall : List ℕ → Field → Result
-  countTokenCall key f =
-      madeOr (verdict (fieldTokenTests key f)) (countCall suite before (countToken suite key f))
-      (record { answer = Answer.done []; store = before; output = [] })
+  unfoldable pub countCall : List ℕ → Field → Result
+  countCall key f =
+      madeOr (verdict (fieldTokenTests key f)) (Count.count suite before (countToken suite key f)) before []
 
 -- a call that is a function gives its result
 pub record Gives (result : Result) (told : Told) (after : List ℕ) : Type 0 where
@@ -48,13 +47,13 @@ pub record Gives (result : Result) (told : Told) (after : List ℕ) : Type 0 whe
   pub output : told .output ≡ result .output
   pub store : after ≡ result .store
 
--- one call: the store before it, what it tells, the store after it
+-- one call of the five: the store before it, what it tells, the store after it [01:LG20]
 abbrev pub Step : Suite → Call → List ℕ → Told → List ℕ → Type 0
 Step suite (Call.insert key f p u nonce ids nonces) before told after =
     InsertCall suite before key f p u nonce ids nonces (told .answer) after × (told .output ≡ [])
 Step suite (Call.erase id) before told after = Gives (Erase.erase before id) told after
 Step suite (Call.find key f output) before told after = Gives (findCall suite before key f output) told after
-Step suite (Call.count key f) before told after = Gives (countTokenCall suite before key f) told after
+Step suite (Call.count key f) before told after = Gives (countCall suite before key f) told after
 Step suite (Call.compact key nonces) before told after = CompactCall suite before key nonces (told .answer) after × (told .output ≡ [])
 
 -- call after call

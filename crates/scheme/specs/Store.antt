@@ -6,9 +6,10 @@ use lib.Dec.{ltb, eqb}
 use lib.ListN.{length, getD, take, drop, replicate}
 use Rattle.table.specs.Lists.{flat}
 use Rattle.table.specs.Table.{Row, Table, rows, markBad}
-use Rattle.answer.specs.Answer.{Answer, done}
+use Rattle.answer.specs.Answer.{done}
 use Rattle.scheme.specs.Suite.{Suite, number8}
-use Rattle.scheme.specs.Refusals.{Test, _⇒_, verdict, answerOr, unlessRefused}
+use Rattle.scheme.specs.Refusals.{Result}
+use Rattle.answer.specs.Verdict.{Test, _⇒_, verdict, answerOr, unlessRefused}
 use Rattle.scheme.specs.Keys.{CT, CE}
 
 -- p, m, c, s of a header [01:ST2]
@@ -49,7 +50,7 @@ pub record Store : Type 0 where
   pub tC : Table
   pub tS : Table
 
--- each table is the part of the store that holds it [01:ST3 ST4]
+-- each table is the part of the one slice that holds it [01:ST1 ST3 ST4]
 unfoldable pub cut : List ℕ → Store
 cut b = record {
   header = take 8 b;
@@ -79,11 +80,12 @@ unfoldable pub makeTests : Sizes → List ℕ → List Test
 makeTests z slice = (sizesBad z ⇒ 7) ∷ (not (eqb (length slice) (lengthFor z)) ⇒ 8) ∷ []
 
 -- the answer, and the slice after it [01:RI8 RI9]
-unfoldable pub makeAnswer : Sizes → List ℕ → Answer
-makeAnswer z slice = answerOr (verdict (makeTests z slice)) (done [])
-
-unfoldable pub makeStore : Sizes → List ℕ → List ℕ
-makeStore z slice = unlessRefused (verdict (makeTests z slice)) (fresh z) slice
+unfoldable pub make : Sizes → List ℕ → Result
+make z slice = record {
+  answer = answerOr (verdict (makeTests z slice)) (done []);
+  store = unlessRefused (verdict (makeTests z slice)) (fresh z) slice;
+  output = [];
+}
 
 module _ (suite : Suite) where
   open Suite suite using (F, E)

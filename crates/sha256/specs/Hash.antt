@@ -1,10 +1,10 @@
 -- The hash of a message (FIPS 180-4, 6.2), and what the public call answers and leaves.
 use Prim.Native.Nat.{ℕ, zero, suc, _+_, _*_, _/_}
-use mathlib.Core.Bool.{Bool, true, false}
 use mathlib.Core.List.{List, [], _∷_, _++_}
 use lib.ListN.{length, take, drop}
-use lib.Dec.{leb}
-use Rattle.answer.specs.Answer.{Answer, done, refused}
+use lib.Dec.{ltb}
+use Rattle.answer.specs.Answer.{Answer, done}
+use Rattle.answer.specs.Verdict.{Test, _⇒_, verdict, answerOr, unlessRefused}
 use Rattle.sha256.specs.Constants.{H0}
 use Rattle.sha256.specs.Compression.{Compress}
 use Rattle.sha256.specs.Padding.{padding}
@@ -31,17 +31,17 @@ Digest (w ∷ ws) = bytes 4 w ++ Digest ws
 unfoldable pub Hash : List ℕ → List ℕ
 Hash m = Digest (Final H0 0 m)
 
--- the longest message, key or text that a call takes [01:RI10]
+-- the longest message, key or text that a call takes
 abbrev pub longest : ℕ
 longest = 65536
 
-abbrev pub pick {ℓ} : {A : Type ℓ} → Bool → A → A → A
-pick true a b = a
-pick false a b = b
+-- a message above that: 9 [01:RI10]
+unfoldable pub hashTests : List ℕ → List Test
+hashTests m = (ltb longest (length m) ⇒ 9) ∷ []
 
 unfoldable pub hashAnswer : List ℕ → Answer
-hashAnswer m = pick (leb (length m) longest) (done []) (refused 9 [])
+hashAnswer m = answerOr (verdict (hashTests m)) (done [])
 
 -- the digest after the call: the hash, or as lent where the call is refused
 unfoldable pub hashDigest : List ℕ → List ℕ → List ℕ
-hashDigest m d = pick (leb (length m) longest) (Hash m) d
+hashDigest m d = unlessRefused (verdict (hashTests m)) (Hash m) d

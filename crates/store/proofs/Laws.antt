@@ -15,8 +15,8 @@ use Rattle.table.proofs.Counting.{neither}
 use Rattle.answer.specs.Answer.{done, refused, refusal}
 use Rattle.answer.specs.declared.Refusal.{Refusal}
 use Rattle.answer.specs.declared.Refusal.the-variants.{Header, Mark}
-use Rattle.scheme.specs.Refusals.{Test, _⇒_, verdict}
-use Rattle.scheme.specs.Store.{Sizes, rowsBad, sizesBad, lengthFor, headerOf, sizesOf, cut, headerBad, marksBad, fresh, makeTests, makeAnswer, makeStore}
+use Rattle.answer.specs.Verdict.{Test, _⇒_, verdict}
+use Rattle.scheme.specs.Store.{Sizes, rowsBad, sizesBad, lengthFor, headerOf, sizesOf, cut, headerBad, marksBad, fresh, makeTests, make}
 use Rattle.store.specs.declared.Shape.{Shape}
 use Rattle.store.specs.declared.Surveyed.{Surveyed}
 use Rattle.store.specs.declared.Checked.the-variants.{Fit, Refused}
@@ -89,16 +89,16 @@ header-read b z k range r l e f g h =
 -- ---- making
 
 module _ (z : Sizes) (b : List ℕ) where
-  pub make-range : sizesBad z ≡ true → (refused 7 [] ≡ makeAnswer z b) × (b ≡ makeStore z b)
-  unfolding makeAnswer makeStore makeTests
+  pub make-range : sizesBad z ≡ true → (refused 7 [] ≡ make z b .answer) × (b ≡ make z b .store)
+  unfolding make makeTests
   make-range e = (rw e, rw e)
 
-  pub make-length : sizesBad z ≡ false → (length b ≡ lengthFor z → ⊥) → (refused 8 [] ≡ makeAnswer z b) × (b ≡ makeStore z b)
-  unfolding makeAnswer makeStore makeTests
+  pub make-length : sizesBad z ≡ false → (length b ≡ lengthFor z → ⊥) → (refused 8 [] ≡ make z b .answer) × (b ≡ make z b .store)
+  unfolding make makeTests
   make-length e f = let n = ne-eqb (length b) (lengthFor z) f in (rw (e, n), rw (e, n))
 
-  pub make-done : sizesBad z ≡ false → length b ≡ lengthFor z → (a : List ℕ) → a ≡ fresh z → (done [] ≡ makeAnswer z b) × (a ≡ makeStore z b)
-  unfolding makeAnswer makeStore makeTests
+  pub make-done : sizesBad z ≡ false → length b ≡ lengthFor z → (a : List ℕ) → a ≡ fresh z → (done [] ≡ make z b .answer) × (a ≡ make z b .store)
+  unfolding make makeTests
   make-done e f a g = let n = eq-eqb (length b) (lengthFor z) f in (rw (e, n), rw (e, n) g)
 
   -- the header over the first 8 bytes, then zeros over the rest

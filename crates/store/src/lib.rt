@@ -6,7 +6,7 @@ ghost use mathlib.Core.Bool.{false, _||_};
 ghost use Prim.Native.Nat.{_+_, _*_, _<_, _≤_};
 ghost use lib.ListN.{length, getD};
 ghost use Rattle.answer.specs.Answer.{completion};
-ghost use Rattle.scheme.specs.Store.{rowsBad, sizesBad, headerOf, headerBad, makeAnswer, makeStore};
+ghost use Rattle.scheme.specs.Store.{rowsBad, sizesBad, headerOf, headerBad, make as makeOf};
 ghost use Rattle.store.specs.Check.{Surveys, checkedOf};
 use answer::Completion;
 use answer::Refusal;
@@ -97,8 +97,8 @@ fn header(p: u64, m: u64, c: u64, s: u64) -> [u8; 8]
 
 // Makes a store: writes the header and zeroes the rest; refusals 7 and 8 leave the slice. [01:ST16 RI8 RI9]
 pub fn make(p: u64, m: u64, c: u64, s: u64, slice: &mut [u8]) -> Completion
-    ensures { λ r. ⌜ completion r ≡ makeAnswer (record { p = p; m = m; c = c; s = s }) (now (slice .entry)) ⌝ }
-    ensures { λ _. ⌜ now (slice .exit) ≡ makeStore (record { p = p; m = m; c = c; s = s }) (now (slice .entry)) ⌝ }
+    ensures { λ r. ⌜ completion r ≡ makeOf (record { p = p; m = m; c = c; s = s }) (now (slice .entry)) .answer ⌝ }
+    ensures { λ _. ⌜ now (slice .exit) ≡ makeOf (record { p = p; m = m; c = c; s = s }) (now (slice .entry)) .store ⌝ }
 {
     if bad_sizes(p, m, c, s) {
         return Completion::Refused(Refusal::SizeRange);

@@ -1,16 +1,15 @@
 -- Laws of the tests on lists. Order is set aside by counting: two lists are the same where every test counts alike in both.
-use Prim.Native.Nat.{ℕ, zero, suc, _+_, _≤_, _<_}
+use Prim.Native.Nat.{ℕ, suc, _+_, _≤_}
 use mathlib.Core.Path.{_≡_, refl, sym, ap, _∙_}
 use mathlib.Core.Bool.{Bool, true, false, cond, not, _&&_, _||_, true≢false}
-use mathlib.Core.Logic.{_≢_, _⊎_, inl, inr}
+use mathlib.Core.Logic.{_⊎_, inl, inr}
 use mathlib.Core.Option.{Option, none, some}
-use mathlib.Core.List.{List, [], _∷_, _++_, map, List·Memᴰ}
-use native.Mathlib.Nat.{zero-add, not-suc-le-zero}
+use mathlib.Core.List.{List, [], _∷_, _++_, map}
 use native.Mathlib.Omega.{arith}
 use lib.Dec.{eqb}
 use lib.ListN.{length}
 use borrow.Author.Tests.{eqb-true, eq-eqb}
-use Rattle.table.specs.Lists.{bit, same, select, count, first, anyOf, isSome, flat, All, Same, distinct, sum, upTo}
+use Rattle.table.specs.Lists.{bit, same, select, count, first, anyOf, All, Same}
 
 -- ---- tests
 

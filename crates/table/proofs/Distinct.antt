@@ -1,13 +1,13 @@
 -- The distinct elements of a list: taking one out, and how many there are, whatever the order.
-use Prim.Native.Nat.{ℕ, zero, suc, _+_, _≤_, _<_}
+use Prim.Native.Nat.{ℕ, zero, suc, _+_, _≤_}
 use mathlib.Core.Path.{_≡_, refl, sym, ap, _∙_}
-use mathlib.Core.Bool.{Bool, true, false, cond, not, _&&_, _||_, true≢false}
+use mathlib.Core.Bool.{Bool, true, false, cond, not, _&&_, _||_, true≢false, and-false, not-and-self}
 use mathlib.Core.List.{List, [], _∷_}
 use native.Mathlib.Nat.{zero-add}
 use native.Mathlib.Omega.{arith}
 use lib.ListN.{length}
 use Rattle.table.specs.Lists.{bit, same, select, count, anyOf, Same, distinct}
-use Rattle.table.proofs.Counting.{same-true, same-refl, ne-same, count-select, count-split, count-ext, count-none, any-count, count-any, none-any, Same-select, same-length}
+use Rattle.table.proofs.Counting.{same-true, same-refl, ne-same, count-select, count-split, count-ext, count-none, any-count, count-any, Same-select, same-length}
 
 abbrev pub without : List ℕ → List (List ℕ) → List (List ℕ)
 without x l = select (λ y. not (same y x)) l
@@ -53,13 +53,6 @@ distinct-once : (x : List ℕ) (l : List (List ℕ)) → count (λ y. same y x) 
 distinct-once x [] = refl
 distinct-once x (y ∷ ys) = go (same y x) refl (distinct-once x ys)
   where
-    none : (z : List ℕ) → (not (same z x) && same z x) ≡ false
-    none z = at (same z x)
-      where
-        at : (b : Bool) → (not b && b) ≡ false
-        at true = refl
-        at false = refl
-
     keep : same y x ≡ false → (z : List ℕ) → (not (same z y) && same z x) ≡ same z x
     keep h z = at (same z x) refl
       where
@@ -67,11 +60,7 @@ distinct-once x (y ∷ ys) = go (same y x) refl (distinct-once x ys)
         at true e =
             let f : same z y ≡ false = ne-same z y (λ w. true≢false (sym (rw (sym w ∙ same-true z x e) (same-refl x)) ∙ h)) in
             rw f refl
-        at false e = last (not (same z y))
-          where
-            last : (c : Bool) → (c && false) ≡ false
-            last true = refl
-            last false = refl
+        at false e = and-false (not (same z y))
 
     go : (b : Bool) → same y x ≡ b → count (λ z. same z x) (distinct ys) ≡ bit (anyOf (λ z. same z x) ys)
         → bit b + count (λ z. same z x) (without y (distinct ys)) ≡ bit (b || anyOf (λ z. same z x) ys)
@@ -79,7 +68,7 @@ distinct-once x (y ∷ ys) = go (same y x) refl (distinct-once x ys)
         let f : count (λ z. same z x) (without y (distinct ys)) ≡ 0 =
         ap (λ (w : List ℕ). count (λ z. same z x) (without w (distinct ys))) (same-true y x h)
         ∙ count-select (λ z. not (same z x)) (λ z. same z x) (distinct ys)
-        ∙ count-none (λ z. not (same z x) && same z x) none (distinct ys) in
+        ∙ count-none (λ z. not (same z x) && same z x) (λ z. not-and-self (same z x)) (distinct ys) in
         omega arith
     go false h e =
         let f : count (λ z. same z x) (without y (distinct ys)) ≡ count (λ z. same z x) (distinct ys) =

@@ -3,18 +3,17 @@
 use Prim.Native.Nat.{ℕ, zero, suc, _+_, _*_, _≤_, _<_}
 use mathlib.Core.Path.{_≡_, refl, sym, ap, ap₂, _∙_}
 use mathlib.Core.Bool.{Bool, true, false, cond, not, _&&_, _||_, true≢false}
-use mathlib.Core.Logic.{_≢_, _⊎_, inl, inr}
-use mathlib.Core.Option.{Option, none, some}
-use mathlib.Core.List.{List, [], _∷_, _++_, map, append-assoc}
-use native.Mathlib.Nat.{zero-add, not-suc-le-zero, le-of-suc-le-suc}
+use mathlib.Core.Logic.{_≢_}
+use mathlib.Core.Option.{none, some}
+use mathlib.Core.List.{List, [], _∷_, _++_, append-assoc}
+use native.Mathlib.Nat.{not-suc-le-zero, le-of-suc-le-suc}
 use native.Mathlib.Omega.{arith}
-use lib.Dec.{eqb, ltb}
-use lib.ListN.{length, getD, take, drop, set, replicate, length-append, length-replicate, length-set}
-use lib.Seq.{take-at, drop-at, getD-set-other, getD-set-same}
-use Rattle.table.specs.Lists.{bit, same, select, count, first, anyOf, isSome, flat, All, Same}
-use Rattle.table.specs.Table.{Row, Table, rows, markOf, isFree, body, used, freeRows, hasTag, lookup, holds, indexOf, placeOf, zeroRow, freeAt, freeWhere, Placed, PlacedAll}
+use lib.ListN.{length, getD, drop, set, replicate, length-append, length-set}
+use lib.Seq.{take-at, drop-at, getD-set-other}
+use Rattle.table.specs.Lists.{bit, select, count, first, isSome, flat, All, Same}
+use Rattle.table.specs.Table.{Row, Table, rows, isFree, body, used, freeRows, hasTag, lookup, holds, indexOf, placeOf, zeroRow, freeAt, freeWhere, Placed, PlacedAll}
 use Rattle.table.specs.Table.PlacedAll.{none-placed, one-placed}
-use Rattle.table.proofs.Counting.{both, neither, count-append, Same-refl, Same-trans, Same-cons, same-length, first-none, none-first}
+use Rattle.table.proofs.Counting.{both}
 
 -- a row of all zeros is free
 pub zero-free : (w : ℕ) → isFree (zeroRow w) ≡ true

@@ -50,22 +50,6 @@ pub fn survey(t: &[u8], w: usize, n: usize) -> Marks
     }
 }
 
-// Whether two texts of one length are equal. There is no early exit: that is what makes it fast.
-pub fn same(a: &[u8], b: &[u8]) -> bool
-    requires { ⌜ length (now a) ≡ length (now b) ⌝ }
-    ensures { λ r. ⌜ r ≡ sameBytes (now (a .entry)) (now (b .entry)) ⌝ }
-{
-    let mut agree = 0;
-    let mut i = 0;
-    while i < b.len() {
-        if a[i] == b[i] {
-            agree += 1;
-        }
-        i += 1;
-    }
-    agree == b.len()
-}
-
 // Whether a row is used and its body starts with a key.
 pub fn starts(row: &[u8], key: &[u8]) -> bool
     requires { ⌜ length (now key) < length (now row) ⌝ }
@@ -75,7 +59,7 @@ pub fn starts(row: &[u8], key: &[u8]) -> bool
     if row[0] == 0 {
         false
     } else {
-        same(&row[1..e], key)
+        octets::same(&row[1..e], key)
     }
 }
 

@@ -1,7 +1,7 @@
 -- Refused by the two lengths alone; a prepared key gives F.
 use Rattle.hmac.proofs.Laws.{prepared}
-use Rattle.hmac.specs.Hmac.{Tag, within, macAnswer, macTag}
-use borrow.Author.Tests.{lt-leb, le-leb}
+use Rattle.hmac.specs.Hmac.{Tag, macTests, macAnswer, macTag}
+use borrow.Author.Tests.{lt-ltb, le-ltb}
 use lib.ListN.{length}
 use Prim.Native.Nat.{ℕ}
 use mathlib.Core.List.{List}
@@ -11,15 +11,15 @@ use Rattle.hmac.proofs.mac.Statement.{statement}
 use Rattle.hmac.proofs.mac.Tie as tie
 
 returns : tie.Need-returns
-unfolding macAnswer macTag within
+unfolding macAnswer macTag macTests
 returns c =
-    let over = lt-leb (length (c .before .before .before .args .key .now)) 65536 (c .if1 .taken) in (simp over, simp over)
+    let over = lt-ltb 65536 (length (c .before .before .before .args .key .now)) (c .if1 .taken) in (simp over, simp over)
 
 returns-2 : tie.Need-returns-2
-unfolding macAnswer macTag within
+unfolding macAnswer macTag macTests
 returns-2 c =
-    let key = le-leb (length (c .before .before .before .before .args .key .now)) 65536 (c .before .if1 .left) in
-    let over = lt-leb (length (c .before .before .before .before .args .message .now)) 65536 (c .if2 .taken) in
+    let key = le-ltb 65536 (length (c .before .before .before .before .args .key .now)) (c .before .if1 .left) in
+    let over = lt-ltb 65536 (length (c .before .before .before .before .args .message .now)) (c .if2 .taken) in
     (simp (key, over), simp (key, over))
 
 prepare-requires : tie.Need-prepare-requires
@@ -29,10 +29,10 @@ tag-requires : tie.Need-tag-requires
 tag-requires c κs = search needs
 
 returns-3 : tie.Need-returns-3
-unfolding macAnswer macTag within
+unfolding macAnswer macTag macTests
 returns-3 c =
-    let key = le-leb (length (c .before .before .before .before .before .before .before .args .key .now)) 65536 (c .before .before .before .before .if1 .left) in
-    let message = le-leb (length (c .before .before .before .before .before .before .before .args .message .now)) 65536 (c .before .before .before .if2 .left) in (
+    let key = le-ltb 65536 (length (c .before .before .before .before .before .before .before .args .key .now)) (c .before .before .before .before .if1 .left) in
+    let message = le-ltb 65536 (length (c .before .before .before .before .before .before .before .args .message .now)) (c .before .before .before .if2 .left) in (
       simp (key, message),
       simp (key, message)
           (c .tag .ensures ∙ ap₂ (λ (i o : List ℕ). Tag i o (c .before .before .before .before .before .before .before .args .message .now)) (c .before .before .prepare .ensures .0) (c .before .before .prepare .ensures .1)

@@ -2,18 +2,18 @@
 use Prim.Native.Nat.{ℕ}
 use mathlib.Core.List.{List}
 use mathlib.Core.Path.{ap, _∙_}
-use Rattle.sha256.specs.Hash.{Hash, Final, Digest, hashAnswer, hashDigest}
+use Rattle.sha256.specs.Hash.{Hash, Final, Digest, hashTests, hashAnswer, hashDigest}
 use lib.ListN.{length}
-use borrow.Author.Tests.{lt-leb, le-leb}
+use borrow.Author.Tests.{lt-ltb, le-ltb}
 use native.Mathlib.Omega.{arith}
 use borrow.Author.Needs.{needs}
 use Rattle.sha256.proofs.hash.Statement.{statement}
 use Rattle.sha256.proofs.hash.Tie as tie
 
 returns : tie.Need-returns
-unfolding hashAnswer hashDigest
+unfolding hashAnswer hashDigest hashTests
 returns c =
-    let over = lt-leb (length (c .before .before .args .message .now)) 65536 (c .if1 .taken) in (simp over, simp over)
+    let over = lt-ltb 65536 (length (c .before .before .args .message .now)) (c .if1 .taken) in (simp over, simp over)
 
 initial-requires : tie.Need-initial-requires
 initial-requires c κs = search needs
@@ -25,9 +25,9 @@ digest-requires : tie.Need-digest-requires
 digest-requires c κs = search needs
 
 returns-2 : tie.Need-returns-2
-unfolding hashAnswer hashDigest Hash
+unfolding hashAnswer hashDigest hashTests Hash
 returns-2 c =
-    let within = le-leb (length (c .before .before .before .before .before .before .args .message .now)) 65536 (c .before .before .before .before .if1 .left) in (
+    let within = le-ltb 65536 (length (c .before .before .before .before .before .before .args .message .now)) (c .before .before .before .before .if1 .left) in (
       simp within,
       simp within
           (c .digest .ensures ∙ ap Digest (c .before .before .finish .ensures ∙ ap (λ (s : List ℕ). Final s 0 (c .before .before .before .before .before .before .args .message .now)) (c .before .before .before .initial .ensures))),

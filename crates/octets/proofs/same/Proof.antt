@@ -5,11 +5,11 @@ use native.Mathlib.Omega.{arith}
 use mathlib.Core.Logic.{⊎-elim}
 use borrow.Author.Tests.{eq-eqb, ne-eqb}
 use lib.ListN.{length, drop}
-use Rattle.table.specs.Lists.{bit}
-use Rattle.table.proofs.Walk.{agreed, agreed-next, agreed-end, same-agreed}
+use Rattle.octets.specs.Compare.{bit}
+use Rattle.octets.proofs.Compare.{agreed, agreed-next, agreed-end, same-agreed}
 use borrow.Author.Needs.{needs}
-use Rattle.table.proofs.same.Statement.{statement}
-use Rattle.table.proofs.same.Tie as tie
+use Rattle.octets.proofs.same.Statement.{statement}
+use Rattle.octets.proofs.same.Tie as tie
 
 abbrev Inv-loop : tie.InvT-loop
 Inv-loop a b agree₀ i₀ agree i = (i ≤ length b) × (agree ≤ i) × (agree + agreed (drop i a) (drop i b) ≡ agreed a b)

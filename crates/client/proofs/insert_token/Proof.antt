@@ -1,0 +1,87 @@
+-- Refused by the definition's tests, in its order.
+use Rattle.client.proofs.Laws.{in-range, share-range, token-is}
+use Rattle.client.specs.Making.{fieldOf}
+use Rattle.scheme.specs.Refusals.{insertTokenTests}
+use borrow.Author.Tests.{eq-eqb, ne-eqb}
+use native.Mathlib.Omega.{arith}
+use mathlib.Core.Path.{sym, _∙_}
+use borrow.Author.Needs.{needs}
+use Rattle.client.proofs.insert_token.Statement.{statement}
+use Rattle.client.proofs.insert_token.Tie as tie
+
+returns : tie.Need-returns
+unfolding insertTokenTests
+returns c = let key = ne-eqb _ _ (c .if1 .taken) in (simp key, simp key)
+
+outside-requires : tie.Need-outside-requires
+outside-requires c κs = search needs
+
+returns-2 : tie.Need-returns-2
+unfolding insertTokenTests
+returns-2 c =
+    let key = eq-eqb _ _ (c .before .before .if1 .left) in
+    let field = sym (c .before .outside .ensures) ∙ c .if2 .taken in
+    (simp (key, field), simp (key, field))
+
+shares-outside-requires : tie.Need-shares-outside-requires
+shares-outside-requires c κs = search needs
+
+returns-3 : tie.Need-returns-3
+unfolding insertTokenTests
+returns-3 c =
+    let key = eq-eqb _ _ (c .before .before .before .before .if1 .left) in
+    let field = sym (c .before .before .before .outside .ensures) ∙ c .before .before .if2 .left in
+    let shares = sym (c .before .shares-outside .ensures) ∙ c .if3 .taken in
+    (simp (key, field, shares), simp (key, field, shares))
+
+returns-4 : tie.Need-returns-4
+unfolding insertTokenTests
+returns-4 c =
+    let key = eq-eqb _ _ (c .before .before .before .before .before .if1 .left) in
+    let field = sym (c .before .before .before .before .outside .ensures) ∙ c .before .before .before .if2 .left in
+    let shares = sym (c .before .before .shares-outside .ensures) ∙ c .before .if3 .left in
+    let nonce = ne-eqb _ _ (c .if4 .taken) in
+    (simp (key, field, shares, nonce), simp (key, field, shares, nonce))
+
+parts-requires : tie.Need-parts-requires
+parts-requires c κs =
+    let field = in-range _ _ (sym (c .before .before .before .before .outside .ensures) ∙ c .before .before .before .if2 .left) in (c .before .before .before .before .before .if1 .left, (field .0, field .1))
+
+log-key-requires : tie.Need-log-key-requires
+log-key-requires c κs = search needs
+
+cast-write-insert : tie.Need-cast-write-insert
+cast-write-insert c =
+    omega (arith, share-range (c .before .before .before .before .before .before .before .before .before .before .before .before .before .args .p) (c .before .before .before .before .before .before .before .before .before .before .before .before .before .args .u) (sym (c .before .before .before .before .before .shares-outside .ensures) ∙ c .before .before .before .before .if3 .left))
+
+write-insert-requires : tie.Need-write-insert-requires
+write-insert-requires c κs = search needs
+
+returns-5 : tie.Need-returns-5
+unfolding insertTokenTests
+returns-5 c =
+    let key = eq-eqb _ _ (c .before .before .before .before .before .before .before .before .before .before .if1 .left) in
+    let field = sym (c .before .before .before .before .before .before .before .before .before .outside .ensures) ∙ c .before .before .before .before .before .before .before .before .if2 .left in
+    let shares = sym (c .before .before .before .before .before .before .before .shares-outside .ensures) ∙ c .before .before .before .before .before .before .if3 .left in
+    let nonce = eq-eqb _ _ (c .before .before .before .before .before .if4 .left) in (
+      simp (key, field, shares, nonce),
+      simp (key, field, shares, nonce)
+          (c .write-insert .ensures
+          ∙ token-is (c .before .before .before .before .before .before .before .before .before .before .before .before .before .before .before .args .key .now) (fieldOf (c .before .before .before .before .before .before .before .before .before .before .before .before .before .before .before .args .name .now) (c .before .before .before .before .before .before .before .before .before .before .before .before .before .before .before .args .value .now)) (c .before .before .before .before .parts .result) (c .before .before .before .log-key .result) (c .before .before .before .before .before .before .before .before .before .before .before .before .before .before .before .args .p) (c .before .before .before .before .before .before .before .before .before .before .before .before .before .before .before .args .u) (c .before .before .before .before .before .before .before .before .before .before .before .before .before .before .before .args .nonce .now) (c .before .before .before .before .parts .ensures) (c .before .before .before .log-key .ensures)),
+    )
+
+pub insert-token-spec : {M : Type 1} → statement M
+insert-token-spec =
+    tie.close
+    (tie.spec
+    returns
+    outside-requires
+    returns-2
+    shares-outside-requires
+    returns-3
+    returns-4
+    parts-requires
+    log-key-requires
+    cast-write-insert
+    write-insert-requires
+    returns-5)

@@ -1,0 +1,391 @@
+-- The corollaries: the claim turns each into a fact about the ledger alone.
+use Prim.Native.Nat.{ℕ, zero, suc, _+_, _*_, _≤_}
+use mathlib.Core.Path.{_≡_, refl, sym, ap, _∙_}
+use mathlib.Core.Bool.{Bool, true, false, cond, not, _||_, true≢false}
+use mathlib.Core.Logic.{_⊎_, inl, inr, ⊎-elim}
+use mathlib.Core.Option.{Option, none, some}
+use mathlib.Core.List.{List, [], _∷_, _++_, map, List·Memᴰ, List·Memᴰ·head, List·Memᴰ·tail, List·Memᴰ·cases-cons, List·Memᴰ·append-cases, List·Memᴰ·not-nil, Memᴰ·append-left, Memᴰ·append-right}
+use native.Mathlib.Omega.{arith}
+use lib.Dec.{eqb, ltb}
+use lib.ListN.{length}
+use borrow.Author.Tests.{eqb-true, not-false, ltb-false}
+use Rattle.answer.specs.Answer.{Answer, done, refused}
+use Rattle.table.specs.Lists.{same, select, flat, upTo, All}
+use Rattle.table.proofs.Counting.{ne-same, neither, select-append}
+use Rattle.scheme.specs.Suite.{Suite}
+use Rattle.scheme.specs.Labels.{Field, fieldLengthsBad}
+use Rattle.scheme.specs.Store.{Sizes}
+use Rattle.scheme.specs.Refusals.{idCount, idsIn, lengthNot, insertTokenTests, insertInputTests, eraseInputTests, fieldTokenTests}
+use Rattle.answer.specs.Verdict.{Test, verdict, answerOr}
+use Rattle.scheme.specs.Call
+use Rattle.scheme.specs.Call.{Call, Told}
+use Rattle.scheme.specs.Ledger.{Pair, Entry, Ledger, Bounds, empty, entryOf, removed, ledgerInsertVerdict, appended, afterInsert, afterErase, afterCompaction, ledgerIds, ledgerSum, ledgerFindVerdict, ledgerCompactVerdict, nextOr, ledgerStep, ledgerTells}
+use Rattle.scheme.specs.Claim.{Claim, boundsOf}
+use Rattle.scheme.specs.Corollaries.{Ran, toldAt, accepted, Finds, Keeps, NoIdLost, Query, finding, counting, callOf, CompactionHidden, EraseExact, BringsNot, ErasedGone, Made, ClientsAlike}
+use Rattle.scheme.proofs.Setting.{by-pair}
+use Rattle.scheme.proofs.LedgerLaws.{entry-own, entry-other, entry-removed}
+use Rattle.scheme.proofs.Verdicts.{both-none, verdict-append, passed, map-upTo}
+use Rattle.scheme.proofs.Claim.{claim}
+
+-- ---- the ledger along a list
+
+abbrev ledgerAfter : Bounds → Ledger → List Call → Ledger
+ledgerAfter z l [] = l
+ledgerAfter z l (call ∷ calls) = ledgerAfter z (ledgerStep z l call .next) calls
+
+-- what the ledger tells of the call after a first part
+told-at : (z : Bounds) (l : Ledger) (first : List Call) (call : Call) (rest : List Call)
+    → toldAt (ledgerTells z l (first ++ (call ∷ rest))) (length first) ≡ ledgerStep z (ledgerAfter z l first) call .told
+told-at z l [] call rest = refl
+told-at z l (c ∷ cs) call rest = told-at z (ledgerStep z l c .next) cs call rest
+
+told-later : (z : Bounds) (l : Ledger) (first : List Call) (call : Call) (rest : List Call) (n : ℕ)
+    → toldAt (ledgerTells z l (first ++ (call ∷ rest))) (length first + suc n) ≡ toldAt (ledgerTells z (ledgerStep z (ledgerAfter z l first) call .next) rest) n
+told-later z l [] call rest n = ap (λ (k : ℕ). toldAt (ledgerTells z l (call ∷ rest)) k) (native.Mathlib.Nat.zero-add (suc n))
+told-later z l (c ∷ cs) call rest n =
+    ap (λ (k : ℕ). toldAt (ledgerTells z l (c ∷ (cs ++ (call ∷ rest)))) k) (native.Mathlib.Nat.suc-add (length cs) (suc n))
+    ∙ told-later z (ledgerStep z l c .next) cs call rest n
+
+-- what a run told is what the ledger tells
+ran : (suite : Suite) (K : List ℕ) (z : Sizes) (calls : List Call) (told : List Told) → Ran suite K z calls told → told ≡ ledgerTells (boundsOf z) empty calls
+ran suite K z calls told r = unfold Claim in claim suite K z calls told (r .after) (r .key-length) (r .sizes) (r .keys) (r .premise) (r .run)
+
+-- (d)
+pub clients-alike : (suite : Suite) → ClientsAlike suite
+unfolding ClientsAlike
+clients-alike suite K z calls calls′ told told′ e r r′ =
+    ran suite K z (map (λ (m : Made). m .call) calls) told r
+    ∙ ap (ledgerTells (boundsOf z) empty) e
+    ∙ sym (ran suite K z (map (λ (m : Made). m .call) calls′) told′ r′)
+
+-- ---- (b)
+
+same-query : (z : Bounds) (l l′ : Ledger) (query : Query) → l′ .entries ≡ l .entries → ledgerStep z l′ (callOf query) .told ≡ ledgerStep z l (callOf query) .told
+unfolding ledgerStep ledgerFindVerdict ledgerIds ledgerSum
+same-query z l l′ (finding key f output) e = rw e refl
+same-query z l l′ (counting key f) e = rw e refl
+
+compaction-entries : (z : Bounds) (l : Ledger) (key nonces : List ℕ) → ledgerStep z l (Call.compact key nonces) .next .entries ≡ l .entries
+unfolding ledgerStep afterCompaction
+compaction-entries z l key nonces = go (ledgerCompactVerdict z l key nonces)
+  where
+    go : (o : Option Answer) → nextOr z l o (afterCompaction z l) .entries ≡ l .entries
+    go none = refl
+    go (some r) = refl
+
+pub compaction-hidden : (suite : Suite) → CompactionHidden suite
+unfolding CompactionHidden
+compaction-hidden suite K z first key nonces query told told′ r r′ =
+    let b = boundsOf z in
+    let l = ledgerAfter b empty first in
+    ap (λ (t : List Told). toldAt t (length first + 1)) (ran suite K z (first ++ (Call.compact key nonces ∷ callOf query ∷ [])) told r)
+    ∙ told-later b empty first (Call.compact key nonces) (callOf query ∷ []) 0
+    ∙ same-query b l (ledgerStep b l (Call.compact key nonces) .next) query (compaction-entries b l key nonces)
+    ∙ sym (told-at b empty first (callOf query) [])
+    ∙ sym (ap (λ (t : List Told). toldAt t (length first)) (ran suite K z (first ++ (callOf query ∷ [])) told′ r′))
+
+-- ---- a find's ids
+
+-- an accepted answer was not refused
+accepted-none : (o : Option Answer) (l : List ℕ) (rest : List ℕ) → ((r : Answer) → o ≡ some r → accepted (record { answer = r; output = rest }) ≡ false) → accepted (record { answer = answerOr o (done l); output = rest }) ≡ true → o ≡ none
+accepted-none none l rest h e = refl
+accepted-none (some r) l rest h e = absurd (true≢false (sym e ∙ h r refl))
+
+-- every refusal is one
+verdict-refuses : (ts : List Test) (r : Answer) (output : List ℕ) → verdict ts ≡ some r → accepted (record { answer = r; output = output }) ≡ false
+verdict-refuses [] r output e = absurd (let w : _≡_ {A = ℕ} 0 1 = cc in omega arith)
+verdict-refuses ((Test._⇒_ b n) ∷ ts) r output e = go b e (verdict-refuses ts r output)
+  where
+    go : (b : Bool) → cond b (some (refused n [])) (verdict ts) ≡ some r → (verdict ts ≡ some r → accepted (record { answer = r; output = output }) ≡ false) → accepted (record { answer = r; output = output }) ≡ false
+    go true e k = let q : refused n [] ≡ r = cc in rw (← q) refl
+    go false e k = k e
+verdict-refuses ((Test._⇒_carrying_ b n l) ∷ ts) r output e = go b e (verdict-refuses ts r output)
+  where
+    go : (b : Bool) → cond b (some (refused n l)) (verdict ts) ≡ some r → (verdict ts ≡ some r → accepted (record { answer = r; output = output }) ≡ false) → accepted (record { answer = r; output = output }) ≡ false
+    go true e k = let q : refused n l ≡ r = cc in rw (← q) refl
+    go false e k = k e
+
+find-tells : (z : Bounds) (l : Ledger) (key : List ℕ) (f : Field) (output : List ℕ) → accepted (ledgerStep z l (Call.find key f output) .told) ≡ true
+    → Finds (ledgerStep z l (Call.find key f output) .told) output (ledgerIds z l f)
+unfolding ledgerStep ledgerFindVerdict
+find-tells z l key f output a =
+    let v = accepted-none (ledgerFindVerdict z l key f output) (length (ledgerIds z l f) ∷ []) [] (λ r e. verdict-refuses (fieldTokenTests key f ++ (Test._⇒_carrying_ (ltb (length output) (16 * length (ledgerIds z l f))) 18 (length (ledgerIds z l f) ∷ []) ∷ [])) r [] e) a in
+    record { answer = rw v refl; output = rw v refl }
+
+-- ---- lists of ids
+
+flat-snoc : {A : Type 0} (l : List (List A)) (x : List A) → flat (l ++ (x ∷ [])) ≡ flat l ++ x
+flat-snoc [] x = mathlib.Core.List.append-nil x
+flat-snoc (y ∷ ys) x = ap (λ r. y ++ r) (flat-snoc ys x) ∙ sym (mathlib.Core.List.append-assoc y (flat ys) x)
+
+map-snoc : {A : Type 0} (g : ℕ → A) (l : List ℕ) (n : ℕ) → map g (l ++ (n ∷ [])) ≡ map g l ++ (g n ∷ [])
+map-snoc g [] n = refl
+map-snoc g (y ∷ ys) n = ap (λ r. g y ∷ r) (map-snoc g ys n)
+
+flat-upTo : (g : ℕ → List (List ℕ)) (n : ℕ) → flat (map g (upTo (suc n))) ≡ flat (map g (upTo n)) ++ g (suc n)
+flat-upTo g n = ap flat (map-snoc g (upTo n) (suc n)) ∙ flat-snoc (map g (upTo n)) (g (suc n))
+
+flat-select : (p : List ℕ → Bool) (g : ℕ → List (List ℕ)) (n : ℕ) → flat (map (λ u. select p (g u)) (upTo n)) ≡ select p (flat (map g (upTo n)))
+flat-select p g zero =
+    mathlib.Core.List.append-nil (select p (g 0)) ∙ ap (select p) (sym (mathlib.Core.List.append-nil (g 0)))
+flat-select p g (suc n) =
+    flat-upTo (λ u. select p (g u)) n
+    ∙ ap (λ (r : List (List ℕ)). r ++ select p (g (suc n))) (flat-select p g n)
+    ∙ sym (select-append p (flat (map g (upTo n))) (g (suc n)))
+    ∙ ap (select p) (sym (flat-upTo g n))
+
+mem-upTo : (g : ℕ → List (List ℕ)) (id : List ℕ) (n u : ℕ) → u ≤ n → List·Memᴰ id (g u) → List·Memᴰ id (flat (map g (upTo n)))
+mem-upTo g id zero u h m =
+    let e : u ≡ 0 = omega arith in
+    let k : List·Memᴰ id (g 0) = rw e at m in
+    Memᴰ·append-left [] k
+mem-upTo g id (suc n) u h m = rw (flat-upTo g n) (go (eqb u (suc n)) refl (mem-upTo g id n u))
+  where
+    go : (b : Bool) → eqb u (suc n) ≡ b → (u ≤ n → List·Memᴰ id (g u) → List·Memᴰ id (flat (map g (upTo n)))) → List·Memᴰ id (flat (map g (upTo n)) ++ g (suc n))
+    go true e k = let q = eqb-true u (suc n) e in Memᴰ·append-right (flat (map g (upTo n))) (rw q at m)
+    go false e k =
+        let ne : u ≡ suc n → ⊥ = borrow.Author.Tests.eqb-false u (suc n) e in
+        Memᴰ·append-left (g (suc n)) (k (omega (arith, ne)) m)
+
+mem-select : (p : List ℕ → Bool) (id : List ℕ) → p id ≡ true → (l : List (List ℕ)) → List·Memᴰ id l → List·Memᴰ id (select p l)
+mem-select p id e [] m = absurd (mathlib.Core.List.List·Memᴰ·not-nil m)
+mem-select p id e (y ∷ ys) m = go (p y) refl (List·Memᴰ·cases-cons m) (mem-select p id e ys)
+  where
+    go : (b : Bool) → p y ≡ b → (id ≡ y) ⊎ List·Memᴰ id ys → (List·Memᴰ id ys → List·Memᴰ id (select p ys)) → List·Memᴰ id (cond b (y ∷ select p ys) (select p ys))
+    go true h (inl q) k = List·Memᴰ·head q
+    go true h (inr r) k = List·Memᴰ·tail (k r)
+    go false h (inl q) k = absurd (true≢false (sym e ∙ ap p q ∙ h))
+    go false h (inr r) k = k r
+
+-- ---- (c)
+
+erased-ids : (z : Bounds) (l : Ledger) (id : List ℕ) (f : Field) → ledgerIds z (afterErase z l id) f ≡ select (λ y. not (same y id)) (ledgerIds z l f)
+unfolding ledgerIds afterErase
+erased-ids z l id f =
+    ap flat (map-upTo (z .p) (λ u. entryOf (record { field = f; u = u }) (map (removed id) (l .entries)) .ids) (λ u. select (λ y. not (same y id)) (entryOf (record { field = f; u = u }) (l .entries) .ids))
+    (λ u h. unfold removed in ap (λ (e : Entry). e .ids) (entry-removed id (record { field = f; u = u }) (l .entries))))
+    ∙ flat-select (λ y. not (same y id)) (λ u. entryOf (record { field = f; u = u }) (l .entries) .ids) (z .p)
+
+erase-next : (z : Bounds) (l : Ledger) (id : List ℕ) → accepted (ledgerStep z l (Call.erase id) .told) ≡ true → ledgerStep z l (Call.erase id) .next ≡ afterErase z l id
+unfolding ledgerStep
+erase-next z l id a =
+    let v = accepted-none (verdict (eraseInputTests id)) _ [] (λ r e. verdict-refuses (eraseInputTests id) r [] e) a in
+    rw v refl
+
+finds-as : (t t′ : Told) (lent : List ℕ) (found found′ : List (List ℕ)) → t ≡ t′ → found′ ≡ found → Finds t′ lent found′ → Finds t lent found
+finds-as t t′ lent found found′ e q h = record { answer = rw (e, ← q) (h .answer); output = rw (e, ← q) (h .output) }
+
+pub erase-exact : (suite : Suite) → EraseExact suite
+unfolding EraseExact
+erase-exact suite K z first id key key′ f output output′ told told′ r r′ a b c =
+    let w = boundsOf z in
+    let l = ledgerAfter w empty first in
+    let e : toldAt told (length first) ≡ ledgerStep w l (Call.find key f output) .told =
+    ap (λ (t : List Told). toldAt t (length first)) (ran suite K z (first ++ (Call.find key f output ∷ [])) told r) ∙ told-at w empty first (Call.find key f output) [] in
+    let q = ran suite K z (first ++ (Call.erase id ∷ Call.find key′ f output′ ∷ [])) told′ r′ in
+    let d : toldAt told′ (length first) ≡ ledgerStep w l (Call.erase id) .told =
+    ap (λ (t : List Told). toldAt t (length first)) q ∙ told-at w empty first (Call.erase id) (Call.find key′ f output′ ∷ []) in
+    let n : ledgerStep w l (Call.erase id) .next ≡ afterErase w l id = erase-next w l id (sym (ap accepted d) ∙ b) in
+    let g : toldAt told′ (length first + 1) ≡ ledgerStep w (afterErase w l id) (Call.find key′ f output′) .told =
+    ap (λ (t : List Told). toldAt t (length first + 1)) q ∙ told-later w empty first (Call.erase id) (Call.find key′ f output′ ∷ []) 0
+    ∙ ap (λ (k : Ledger). ledgerStep w k (Call.find key′ f output′) .told) n in
+    record {
+      found = ledgerIds w l f;
+      finds = finds-as _ _ output (ledgerIds w l f) (ledgerIds w l f) e refl (find-tells w l key f output (sym (ap accepted e) ∙ a));
+      finds-rest = finds-as _ _ output′ _ _ g (erased-ids w l id f) (find-tells w (afterErase w l id) key′ f output′ (sym (ap accepted g) ∙ c));
+    }
+
+-- ---- (a)
+
+abbrev Has : Ledger → Pair → List ℕ → Type 0
+Has l pr id = List·Memᴰ id (entryOf pr (l .entries) .ids)
+
+-- an id in a pair's list stays there, unless it is erased
+has-insert : (z : Bounds) (l : Ledger) (id : List ℕ) (f : Field) (u : ℕ) (ids : List ℕ) (pr : Pair) → Has l pr id → Has (afterInsert z l f u ids) pr id
+unfolding afterInsert appended
+has-insert z l id f u ids = by-pair (record { field = f; u = u }) (λ pr. Has l pr id → Has (afterInsert z l f u ids) pr id)
+    (λ m. rw (entry-own (appended z l f u ids) (l .entries)) (Memᴰ·append-left (idsIn ids) m))
+    (λ pr ne m. rw (entry-other (appended z l f u ids) (l .entries) pr ne) m)
+
+has-step : (z : Bounds) (l : Ledger) (pr : Pair) (id : List ℕ) (call : Call) → Keeps id call → Has l pr id → Has (ledgerStep z l call .next) pr id
+unfolding ledgerStep
+has-step z l pr id (Call.insert key f p u nonce ids nonces) k m = go (ledgerInsertVerdict z l key f p u nonce ids nonces)
+  where
+    go : (o : Option Answer) → Has (nextOr z l o (afterInsert z l f u ids)) pr id
+    go none = has-insert z l id f u ids pr m
+    go (some r) = m
+has-step z l pr id (Call.erase other) k m = go (verdict (eraseInputTests other))
+  where
+    go : (o : Option Answer) → Has (nextOr z l o (afterErase z l other)) pr id
+    go none = unfold afterErase removed in
+        (rw (entry-removed other pr (l .entries)) (mem-select (λ y. not (same y other)) id (ap not (ne-same id other (λ e. k (sym e)))) (entryOf pr (l .entries) .ids) m))
+    go (some r) = m
+has-step z l pr id (Call.find key f output) k m = m
+has-step z l pr id (Call.count key f) k m = m
+has-step z l pr id (Call.compact key nonces) k m = go (ledgerCompactVerdict z l key nonces)
+  where
+    go : (o : Option Answer) → Has (nextOr z l o (afterCompaction z l)) pr id
+    go none = unfold afterCompaction in m
+    go (some r) = m
+
+has-calls : (z : Bounds) (l : Ledger) (pr : Pair) (id : List ℕ) (calls : List Call) → All (Keeps id) calls → Has l pr id → Has (ledgerAfter z l calls) pr id
+has-calls z l pr id [] k m = m
+has-calls z l pr id (call ∷ calls) k m = has-calls z (ledgerStep z l call .next) pr id calls (k .1) (has-step z l pr id call (k .0) m)
+
+share-within : (key : List ℕ) (f : Field) (p u : ℕ) (nonce : List ℕ) → verdict (insertTokenTests key f p u nonce) ≡ none → u ≤ p
+unfolding insertTokenTests
+share-within key f p u nonce e =
+    let a = passed (lengthNot 32 key) _ _ e in
+    let b = passed (fieldLengthsBad f) _ _ (a .1) in
+    let c = passed (ltb 15 p || ltb p u) _ _ (b .1) in
+    ltb-false p u (neither (ltb 15 p) (ltb p u) (c .0) .1)
+
+record Entered (z : Bounds) (l : Ledger) (key : List ℕ) (f : Field) (p u : ℕ) (nonce ids nonces : List ℕ) : Type 0 where
+  next : ledgerStep z l (Call.insert key f p u nonce ids nonces) .next ≡ afterInsert z l f u ids
+  share : u ≤ z .p
+
+entered : (z : Bounds) (l : Ledger) (key : List ℕ) (f : Field) (p u : ℕ) (nonce ids nonces : List ℕ) → accepted (ledgerStep z l (Call.insert key f p u nonce ids nonces) .told) ≡ true
+    → Entered z l key f p u nonce ids nonces
+unfolding ledgerStep ledgerInsertVerdict
+entered z l key f p u nonce ids nonces a =
+    let ts = (insertTokenTests key f p u nonce ++ (insertInputTests ids nonces ++ rest)) in
+    let v : verdict ts ≡ none = accepted-none (verdict ts) _ [] (λ r e. verdict-refuses ts r [] e) a in
+    let b = both-none (verdict (insertTokenTests key f p u nonce)) _ (sym (verdict-append (insertTokenTests key f p u nonce) (insertInputTests ids nonces ++ rest)) ∙ v) in
+    let c = both-none (verdict (insertInputTests ids nonces)) _ (sym (verdict-append (insertInputTests ids nonces) rest) ∙ b .1) in
+    let d = passed (not (eqb p (z .p))) _ _ (c .1) in
+    let pz : p ≡ z .p = eqb-true p (z .p) (not-false (eqb p (z .p)) (d .0)) in
+    let up : u ≤ p = share-within key f p u nonce (b .0) in
+    record { next = rw v refl; share = omega arith }
+  where
+    rest : List Test
+    rest =
+        Test._⇒_ (not (eqb p (z .p))) 12
+        ∷ Test._⇒_ (ltb 4294967295 (entryOf (record { field = f; u = u }) (l .entries) .made + idCount ids)) 14
+        ∷ Test._⇒_ (ltb (z .m) (Rattle.scheme.specs.Ledger.H l + idCount ids)) 15
+        ∷ Test._⇒_ (ltb (z .c) (l .A + l .W + 1)) 16
+        ∷ Test._⇒_ (ltb (z .s) (l .W + 1)) 17
+        ∷ []
+
+has-new : (z : Bounds) (l : Ledger) (f : Field) (u : ℕ) (ids id : List ℕ) → List·Memᴰ id (idsIn ids) → Has (afterInsert z l f u ids) (record { field = f; u = u }) id
+unfolding afterInsert appended
+has-new z l f u ids id m = rw (entry-own (appended z l f u ids) (l .entries)) (Memᴰ·append-right (entryOf (record { field = f; u = u }) (l .entries) .ids) m)
+
+found-has : (z : Bounds) (l : Ledger) (f : Field) (u : ℕ) (id : List ℕ) → u ≤ z .p → Has l (record { field = f; u = u }) id → List·Memᴰ id (ledgerIds z l f)
+unfolding ledgerIds
+found-has z l f u id h m = mem-upTo (λ u. entryOf (record { field = f; u = u }) (l .entries) .ids) id (z .p) u h m
+
+pub no-id-lost : (suite : Suite) → NoIdLost suite
+unfolding NoIdLost
+no-id-lost suite K z first second third key key′ f p u nonce ids nonces output id told r a m k b =
+    let w = boundsOf z in
+    let l = ledgerAfter w empty first in
+    let rest = second ++ (Call.find key′ f output ∷ third) in
+    let q = ran suite K z (first ++ (Call.insert key f p u nonce ids nonces ∷ rest)) told r in
+    let d : toldAt told (length first) ≡ ledgerStep w l (Call.insert key f p u nonce ids nonces) .told =
+    ap (λ (t : List Told). toldAt t (length first)) q ∙ told-at w empty first (Call.insert key f p u nonce ids nonces) rest in
+    let n = entered w l key f p u nonce ids nonces (sym (ap accepted d) ∙ a) in
+    let l₁ = ledgerStep w l (Call.insert key f p u nonce ids nonces) .next in
+    let h₁ : Has l₁ (record { field = f; u = u }) id = rw (n .next) (has-new w l f u ids id m) in
+    let l₂ = ledgerAfter w l₁ second in
+    let h₂ : Has l₂ (record { field = f; u = u }) id = has-calls w l₁ (record { field = f; u = u }) id second k h₁ in
+    let g : toldAt told (length first + suc (length second)) ≡ ledgerStep w l₂ (Call.find key′ f output) .told =
+    ap (λ (t : List Told). toldAt t (length first + suc (length second))) q
+    ∙ told-later w empty first (Call.insert key f p u nonce ids nonces) rest (length second)
+    ∙ told-at w l₁ second (Call.find key′ f output) third in
+    record {
+      found = ledgerIds w l₂ f;
+      finds = finds-as _ _ output (ledgerIds w l₂ f) (ledgerIds w l₂ f) g refl (find-tells w l₂ key′ f output (sym (ap accepted g) ∙ b));
+      has = found-has w l₂ f u id (n .share) h₂;
+    }
+
+-- ---- (c), later finds
+
+not-selected : (p : List ℕ → Bool) (id : List ℕ) → p id ≡ false → (l : List (List ℕ)) → List·Memᴰ id (select p l) → ⊥
+not-selected p id e [] m = List·Memᴰ·not-nil m
+not-selected p id e (y ∷ ys) m = go (p y) refl m (not-selected p id e ys)
+  where
+    go : (b : Bool) → p y ≡ b → List·Memᴰ id (cond b (y ∷ select p ys) (select p ys)) → (List·Memᴰ id (select p ys) → ⊥) → ⊥
+    go true h m k = ⊎-elim (λ q. true≢false (sym h ∙ ap p (sym q) ∙ e)) k (List·Memᴰ·cases-cons m)
+    go false h m k = k m
+
+abbrev Lacks : Ledger → List ℕ → Type 0
+Lacks l id = (pr : Pair) → Has l pr id → ⊥
+
+lacks-erased : (z : Bounds) (l : Ledger) (id : List ℕ) → Lacks (afterErase z l id) id
+unfolding afterErase removed
+lacks-erased z l id pr m =
+    not-selected (λ y. not (same y id)) id (ap not (Rattle.table.proofs.Counting.same-refl id)) (entryOf pr (l .entries) .ids)
+    (rw (entry-removed id pr (l .entries)) at m)
+
+lacks-insert : (z : Bounds) (l : Ledger) (id : List ℕ) (f : Field) (u : ℕ) (ids : List ℕ) → (List·Memᴰ id (idsIn ids) → ⊥) → Lacks l id → Lacks (afterInsert z l f u ids) id
+unfolding afterInsert appended
+lacks-insert z l id f u ids k h = by-pair (record { field = f; u = u }) (λ pr. Has (afterInsert z l f u ids) pr id → ⊥)
+    (λ m.
+    let n : List·Memᴰ id (entryOf (record { field = f; u = u }) (l .entries) .ids ++ idsIn ids) = rw (entry-own (appended z l f u ids) (l .entries)) at m in
+    ⊎-elim (h (record { field = f; u = u })) k (List·Memᴰ·append-cases (entryOf (record { field = f; u = u }) (l .entries) .ids) n))
+    (λ pr ne m. h pr (rw (entry-other (appended z l f u ids) (l .entries) pr ne) at m))
+
+select-mem : (p : List ℕ → Bool) (id : List ℕ) (l : List (List ℕ)) → List·Memᴰ id (select p l) → List·Memᴰ id l
+select-mem p id [] m = m
+select-mem p id (y ∷ ys) m = go (p y) m (select-mem p id ys)
+  where
+    go : (b : Bool) → List·Memᴰ id (cond b (y ∷ select p ys) (select p ys)) → (List·Memᴰ id (select p ys) → List·Memᴰ id ys) → List·Memᴰ id (y ∷ ys)
+    go true m k = ⊎-elim (λ q. List·Memᴰ·head q) (λ n. List·Memᴰ·tail (k n)) (List·Memᴰ·cases-cons m)
+    go false m k = List·Memᴰ·tail (k m)
+
+lacks-step : (z : Bounds) (l : Ledger) (id : List ℕ) (call : Call) → BringsNot id call → Lacks l id → Lacks (ledgerStep z l call .next) id
+unfolding ledgerStep
+lacks-step z l id (Call.insert key f p u nonce ids nonces) k h = go (ledgerInsertVerdict z l key f p u nonce ids nonces)
+  where
+    go : (o : Option Answer) → Lacks (nextOr z l o (afterInsert z l f u ids)) id
+    go none = lacks-insert z l id f u ids k h
+    go (some r) = h
+lacks-step z l id (Call.erase other) k h = go (verdict (eraseInputTests other))
+  where
+    go : (o : Option Answer) → Lacks (nextOr z l o (afterErase z l other)) id
+    go none pr m = h pr (unfold afterErase removed in
+        (select-mem (λ y. not (same y other)) id (entryOf pr (l .entries) .ids) (rw (entry-removed other pr (l .entries)) at m)))
+    go (some r) pr m = h pr m
+lacks-step z l id (Call.find key f output) k h = h
+lacks-step z l id (Call.count key f) k h = h
+lacks-step z l id (Call.compact key nonces) k h = go (ledgerCompactVerdict z l key nonces)
+  where
+    go : (o : Option Answer) → Lacks (nextOr z l o (afterCompaction z l)) id
+    go none = unfold afterCompaction in h
+    go (some r) = h
+
+lacks-calls : (z : Bounds) (l : Ledger) (id : List ℕ) (calls : List Call) → All (BringsNot id) calls → Lacks l id → Lacks (ledgerAfter z l calls) id
+lacks-calls z l id [] k h = h
+lacks-calls z l id (call ∷ calls) k h = lacks-calls z (ledgerStep z l call .next) id calls (k .1) (lacks-step z l id call (k .0) h)
+
+none-upTo-mem : (g : ℕ → List (List ℕ)) (id : List ℕ) → ((u : ℕ) → List·Memᴰ id (g u) → ⊥) → (n : ℕ) → List·Memᴰ id (flat (map g (upTo n))) → ⊥
+none-upTo-mem g id h zero m = ⊎-elim (h 0) List·Memᴰ·not-nil (List·Memᴰ·append-cases (g 0) m)
+none-upTo-mem g id h (suc n) m =
+    ⊎-elim (none-upTo-mem g id h n) (h (suc n)) (List·Memᴰ·append-cases (flat (map g (upTo n))) (rw (flat-upTo g n) at m))
+
+found-lacks : (z : Bounds) (l : Ledger) (f : Field) (id : List ℕ) → Lacks l id → List·Memᴰ id (ledgerIds z l f) → ⊥
+unfolding ledgerIds
+found-lacks z l f id h m = none-upTo-mem (λ u. entryOf (record { field = f; u = u }) (l .entries) .ids) id (λ u. h (record { field = f; u = u })) (z .p) m
+
+pub erased-gone : (suite : Suite) → ErasedGone suite
+unfolding ErasedGone
+erased-gone suite K z first second third id key f output told r a k b =
+    let w = boundsOf z in
+    let l = ledgerAfter w empty first in
+    let rest = second ++ (Call.find key f output ∷ third) in
+    let q = ran suite K z (first ++ (Call.erase id ∷ rest)) told r in
+    let d : toldAt told (length first) ≡ ledgerStep w l (Call.erase id) .told =
+    ap (λ (t : List Told). toldAt t (length first)) q ∙ told-at w empty first (Call.erase id) rest in
+    let n : ledgerStep w l (Call.erase id) .next ≡ afterErase w l id = erase-next w l id (sym (ap accepted d) ∙ a) in
+    let l₁ = ledgerStep w l (Call.erase id) .next in
+    let h₁ : Lacks l₁ id = rw n (lacks-erased w l id) in
+    let l₂ = ledgerAfter w l₁ second in
+    let g : toldAt told (length first + suc (length second)) ≡ ledgerStep w l₂ (Call.find key f output) .told =
+    ap (λ (t : List Told). toldAt t (length first + suc (length second))) q
+    ∙ told-later w empty first (Call.erase id) rest (length second)
+    ∙ told-at w l₁ second (Call.find key f output) third in
+    record {
+      found = ledgerIds w l₂ f;
+      finds = finds-as _ _ output (ledgerIds w l₂ f) (ledgerIds w l₂ f) g refl (find-tells w l₂ key f output (sym (ap accepted g) ∙ b));
+      lacks = found-lacks w l₂ f id (lacks-calls w l₁ id second k h₁);
+    }

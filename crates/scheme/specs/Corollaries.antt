@@ -1,0 +1,136 @@
+-- What callers rely on, as consequences of the claim, each for every list of calls under the premise.
+use Prim.Native.Nat.{ℕ, suc, _+_, _*_}
+use mathlib.Core.Path.{_≡_}
+use mathlib.Core.Bool.{Bool, true, false, not}
+use mathlib.Core.List.{List, [], _∷_, _++_, map, List·Memᴰ}
+use lib.ListN.{length, getD, drop}
+use Rattle.answer.specs.Answer.{Answer, done, refused}
+use Rattle.table.specs.Lists.{same, select, flat, All}
+use Rattle.scheme.specs.Suite.{Suite}
+use Rattle.scheme.specs.Labels.{Field}
+use Rattle.scheme.specs.Store.{Sizes, sizesBad, fresh}
+use Rattle.scheme.specs.Refusals.{idsIn}
+use Rattle.scheme.specs.Call
+use Rattle.scheme.specs.Call.{Call, Told}
+use Rattle.scheme.specs.Run.{Run}
+use Rattle.scheme.specs.Premise.{Premise, KeyFits}
+
+-- a list of calls that ran from a fresh store, and what it told
+pub record Ran (suite : Suite) (K : List ℕ) (z : Sizes) (calls : List Call) (told : List Told) : Type 0 where
+  pub after : List ℕ
+  pub key-length : length K ≡ 32
+  pub sizes : sizesBad z ≡ false
+  pub keys : All (KeyFits K) calls
+  pub premise : Premise suite K (z .p) calls
+  pub run : Run suite calls (fresh z) told after
+
+-- what the call of an index told
+abbrev pub toldAt : List Told → ℕ → Told
+toldAt told i = getD told i (record { answer = done []; output = [] })
+
+abbrev pub isDone : Answer → Bool
+isDone (done l) = true
+isDone (refused n l) = false
+
+abbrev pub accepted : Told → Bool
+accepted t = isDone (t .answer)
+
+-- a find told these ids
+pub record Finds (t : Told) (lent : List ℕ) (found : List (List ℕ)) : Type 0 where
+  pub answer : t .answer ≡ done (length found ∷ [])
+  pub output : t .output ≡ flat found ++ drop (16 * length found) lent
+
+pub record FindsId (t : Told) (lent id : List ℕ) : Type 0 where
+  pub found : List (List ℕ)
+  pub finds : Finds t lent found
+  pub has : List·Memᴰ id found
+
+-- the call does not erase the id
+abbrev pub Keeps : List ℕ → Call → Type 0
+Keeps id (Call.insert key f p u nonce ids nonces) = Unit {0}
+Keeps id (Call.erase other) = other ≡ id → ⊥
+Keeps id (Call.find key f output) = Unit {0}
+Keeps id (Call.count key f) = Unit {0}
+Keeps id (Call.compact key nonces) = Unit {0}
+
+-- (a) no id is lost: one of an accepted insert that no later erase names is in every later accepted find of its field and value
+unfoldable pub NoIdLost : Suite → Type 0
+NoIdLost suite =
+    (K : List ℕ) (z : Sizes) (first second third : List Call) (key key′ : List ℕ) (f : Field) (p u : ℕ) (nonce ids nonces output id : List ℕ) (told : List Told)
+    → Ran suite K z (first ++ (Call.insert key f p u nonce ids nonces ∷ (second ++ (Call.find key′ f output ∷ third)))) told
+    → accepted (toldAt told (length first)) ≡ true
+    → List·Memᴰ id (idsIn ids)
+    → All (Keeps id) second
+    → accepted (toldAt told (length first + suc (length second))) ≡ true
+    → FindsId (toldAt told (length first + suc (length second))) output id
+
+-- a find or a count
+pub data Query : Type 0 where
+  finding : (key : List ℕ) (f : Field) (output : List ℕ) → Query
+  counting : (key : List ℕ) (f : Field) → Query
+
+abbrev pub callOf : Query → Call
+callOf (finding key f output) = Call.find key f output
+callOf (counting key f) = Call.count key f
+
+-- (b) compaction changes no find and no count: right after it they tell what they would have told right before it
+unfoldable pub CompactionHidden : Suite → Type 0
+CompactionHidden suite =
+    (K : List ℕ) (z : Sizes) (first : List Call) (key nonces : List ℕ) (query : Query) (told told′ : List Told)
+    → Ran suite K z (first ++ (Call.compact key nonces ∷ callOf query ∷ [])) told
+    → Ran suite K z (first ++ (callOf query ∷ [])) told′
+    → toldAt told (length first + 1) ≡ toldAt told′ (length first)
+
+-- a find before and one after an erase: the same ids in the same order, the erased one taken out
+pub record Without (id : List ℕ) (before after : Told) (lent lent′ : List ℕ) : Type 0 where
+  pub found : List (List ℕ)
+  pub finds : Finds before lent found
+  pub finds-rest : Finds after lent′ (select (λ y. not (same y id)) found)
+
+-- (c) erase takes exactly the named id
+unfoldable pub EraseExact : Suite → Type 0
+EraseExact suite =
+    (K : List ℕ) (z : Sizes) (first : List Call) (id key key′ : List ℕ) (f : Field) (output output′ : List ℕ) (told told′ : List Told)
+    → Ran suite K z (first ++ (Call.find key f output ∷ [])) told
+    → Ran suite K z (first ++ (Call.erase id ∷ Call.find key′ f output′ ∷ [])) told′
+    → accepted (toldAt told (length first)) ≡ true
+    → accepted (toldAt told′ (length first)) ≡ true
+    → accepted (toldAt told′ (length first + 1)) ≡ true
+    → Without id (toldAt told (length first)) (toldAt told′ (length first + 1)) output output′
+
+-- the call does not insert the id
+abbrev pub BringsNot : List ℕ → Call → Type 0
+BringsNot id (Call.insert key f p u nonce ids nonces) = List·Memᴰ id (idsIn ids) → ⊥
+BringsNot id (Call.erase other) = Unit {0}
+BringsNot id (Call.find key f output) = Unit {0}
+BringsNot id (Call.count key f) = Unit {0}
+BringsNot id (Call.compact key nonces) = Unit {0}
+
+pub record FindsNoId (t : Told) (lent id : List ℕ) : Type 0 where
+  pub found : List (List ℕ)
+  pub finds : Finds t lent found
+  pub lacks : List·Memᴰ id found → ⊥
+
+-- (c) and no later find has it, of whatever field, until an insert brings it again
+unfoldable pub ErasedGone : Suite → Type 0
+ErasedGone suite =
+    (K : List ℕ) (z : Sizes) (first second third : List Call) (id key : List ℕ) (f : Field) (output : List ℕ) (told : List Told)
+    → Ran suite K z (first ++ (Call.erase id ∷ (second ++ (Call.find key f output ∷ third)))) told
+    → accepted (toldAt told (length first)) ≡ true
+    → All (BringsNot id) second
+    → accepted (toldAt told (length first + suc (length second))) ≡ true
+    → FindsNoId (toldAt told (length first + suc (length second))) output id
+
+-- a call made by a client
+pub record Made : Type 0 where
+  pub client : ℕ
+  pub call : Call
+
+-- (d) the answers do not depend on which client makes a call, nor on the row placing
+unfoldable pub ClientsAlike : Suite → Type 0
+ClientsAlike suite =
+    (K : List ℕ) (z : Sizes) (calls calls′ : List Made) (told told′ : List Told)
+    → map (λ (m : Made). m .call) calls ≡ map (λ (m : Made). m .call) calls′
+    → Ran suite K z (map (λ (m : Made). m .call) calls) told
+    → Ran suite K z (map (λ (m : Made). m .call) calls′) told′
+    → told ≡ told′

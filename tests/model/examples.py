@@ -1,0 +1,311 @@
+"""Fixed examples: document 01's L1 to L6 and its day G1 to G8, on store and ledger both;
+and refusals 7 to 19 on made and forged stores, in the paper's order.
+"""
+import scheme
+from calls import Compact, Count, Done, Erase, Find, Insert, Refused
+from ledger import Ledger
+from primitives import Cheap, Real, chacha20_block, number
+
+KEY = bytes(range(32))
+NONCE = bytes(12)
+HUE = (b"hue", b"red")
+SIZE = (b"size", b"L")
+GREATEST = scheme.GREATEST
+
+
+def expect(what, got, wanted):
+    if got != wanted:
+        raise AssertionError("%s: got %r, expected %r" % (what, got, wanted))
+
+
+def cipher():
+    """RFC 8439, 2.3.2 and 2.4.2: the model's own ChaCha20."""
+    block = chacha20_block(KEY, 1, bytes.fromhex("000000090000004a00000000"))
+    expect("RFC 8439 2.3.2", block.hex(),
+           "10f1e7e4d13b5915500fdd1fa32071c4c7d1f4c733c068030422aa9ac3d46c4e"
+           "d2826446079faa0914c2d705d98b02a2b5129cd1de164eb9cbd083e8a2503c4e")
+    text = (b"Ladies and Gentlemen of the class of '99: If I could offer you only one tip for "
+            b"the future, sunscreen would be it.")
+    expect("RFC 8439 2.4.2", Real.E(KEY, bytes.fromhex("000000000000004a00000000"), text).hex(),
+           "6e2e359a2568f98041ba0728dd0d6981e97e7aec1d4360c20a27afccfd9fae0b"
+           "f91b65c5524733ab8f593dabcd62b3571639d624e65152ab8f530c359f0861d8"
+           "07ca0dbf500d6a6156a38e088a22b65e52bc514d16ccf806818ce91ab7793736"
+           "5af90bbf74a35be6b40b8eedf2785e42874d")
+
+
+def labels(build):
+    """L1 to L6 [01:LB3 to LB8]."""
+    label = build(Cheap).label
+    expect("L1", label(b"a", b"").hex(), "0161")
+    expect("L2", label(b"ab", b"c").hex(), "02616263")
+    expect("L3", label(b"a", b"bc").hex(), "01616263")
+    expect("L4", label(bytes(127), b"")[:1].hex(), "7f")
+    expect("L5", label(bytes(128), b"")[:2].hex(), "8001")
+    expect("L6", label(bytes(255), b"")[:2].hex(), "ff01")
+    expect("label of the longest", len(label(bytes(255), bytes(1024))), 2 + 255 + 1024)
+
+
+def id_of(letter):
+    return letter.encode() * 16
+
+
+def insert(field, u, letters, p=1):
+    ids = b"".join(id_of(x) for x in letters)
+    return Insert(KEY, *field, p, u, NONCE, bytes(12 * (len(letters) + 1)), ids)
+
+
+def day():
+    """G1 to G8 as calls with what each tells [01:DY1 to DY9]."""
+    lent = bytes([255]) * 80
+
+    def find(letters):
+        ids = b"".join(id_of(x) for x in letters)
+        return Find(KEY, *HUE, lent), (Done((len(letters),)), ids + lent[len(ids):])
+
+    def told(*values):
+        return Done(values), None
+
+    compact = Compact(KEY, bytes(12 * 4))
+    count = Count(KEY, *HUE)
+    return [
+        ("G1", insert(HUE, 0, "AB"), told(2)), ("G1", insert(HUE, 1, "C"), told(1)),
+        ("G1", *find("ABC")), ("G1", count, told(3)),
+        ("G2", Erase(id_of("B")), told(1)), ("G2", *find("AC")), ("G2", count, told(3)),
+        ("G3", compact, told(2, 2)), ("G3", *find("AC")),
+        ("G4", insert(HUE, 0, "D"), told(3)), ("G4", *find("ADC")),
+        ("G5", insert(HUE, 0, "EF"), (Refused(15, ()), None)),
+        ("G6", Erase(id_of("A")), told(1)), ("G6", insert(HUE, 0, "EF"), told(5)),
+        ("G6", *find("DEFC")),
+        ("G7", Erase(id_of("C")), told(1)),
+        ("G7", insert(SIZE, 0, "G"), (Refused(16, ()), None)),
+        ("G8", compact, told(1, 2)), ("G8", insert(SIZE, 0, "G"), told(1)),
+    ]
+
+
+def made(build, suite, p, m, c, s):
+    model = build(suite)
+    store = bytearray(scheme.length_of(m, c, s))
+    expect("making", model.make(store, p, m, c, s), Done(()))
+    return model, store
+
+
+def run_day(build, build_ledger):
+    for suite in (Cheap, Real):
+        model, store = made(build, suite, 1, 4, 4, 4)
+        ledger = build_ledger(1, 4, 4, 4)
+        for name, call, wanted in day():
+            expect(name + " in the ledger", ledger.call(call), wanted)
+            expect(name + " in the store", model.call(store, call), wanted)
+
+
+def making():
+    """7 before 8, and the lengths that the paper names [01:ST3], [01:RI8], [01:RI9]."""
+    expect("224", scheme.length_of(1, 1, 1), 224)
+    expect("872", scheme.length_of(4, 4, 4), 872)
+    model = scheme.Scheme(Cheap)
+    for length, p, m, c, s, wanted in (
+            (224, 16, 1, 1, 1, 7), (224, 0, 0, 1, 1, 7), (224, 0, 1, 4097, 1, 7),
+            (224, 257, 1, 1, 1, 7), (0, 16, 1, 1, 1, 7), (223, 15, 1, 1, 1, 8), (0, 0, 1, 1, 1, 8)):
+        store = bytearray(b"x" * length)
+        expect("making", model.make(store, p, m, c, s), Refused(wanted, ()))
+        expect("making refused leaves the slice", store, bytearray(b"x" * length))
+    store = bytearray(b"x" * 224)
+    expect("making", model.make(store, 15, 1, 1, 1), Done(()))
+    expect("a fresh store", store.hex(), "010f000100010001" + "00" * 216)
+
+
+def every_call(model, store, p):
+    """The five operations on a store, with tokens that are right for p."""
+    token = model.insert_token(KEY, *HUE, p, 0, NONCE)
+    return [("insert", lambda: model.insert(store, token, bytes(24), id_of("A"))),
+            ("erase", lambda: model.erase(store, id_of("A"))),
+            ("find", lambda: model.find(store, model.find_token(KEY, *HUE), bytearray(64))),
+            ("count", lambda: model.count(store, model.count_token(KEY, *HUE))),
+            ("compact", lambda: model.compact(store, model.compact_token(KEY), bytes(48)))]
+
+
+def all_refuse(model, store, number_wanted, names=None):
+    before = bytes(store)
+    for name, call in every_call(model, store, 1):
+        if names is None or name in names:
+            expect(name, call(), Refused(number_wanted, ()))
+            expect(name + " refused leaves the store", bytes(store), before)
+
+
+def headers():
+    """10 before 11 before 12 [01:RS2 to RS4]."""
+    for at, byte in ((0, 0), (0, 2), (1, 16), (2, 17), (3, 0), (5, 5), (7, 0)):
+        model, store = made(scheme.Scheme, Cheap, 1, 4, 4, 4)
+        store[8] = 2
+        store[at] = byte
+        all_refuse(model, store, 10)
+    for length in (0, 7, 8, 871, 873):
+        model, store = made(scheme.Scheme, Cheap, 1, 4, 4, 4)
+        all_refuse(model, (store + bytes(1))[:length], 10)
+    for name, t in scheme.tables(store).items():
+        for mark in (2, 255):
+            model, store = made(scheme.Scheme, Cheap, 1, 4, 4, 4)
+            store[t.start + t.width * 3] = mark
+            all_refuse(model, store, 11)
+            token = model.insert_token(KEY, *HUE, 0, 0, NONCE)
+            answer = model.insert(store, token, bytes(24), id_of("A"))
+            expect("11 before 12", answer, Refused(11, ()))
+
+
+def input_order():
+    """Refusals of the input by number, before those of the state [01:RI1]."""
+    model, store = made(scheme.Scheme, Cheap, 1, 4, 4, 4)
+    store[0] = 9
+    token = model.insert_token(KEY, *HUE, 1, 0, NONCE)
+    for call, wanted in (
+            (lambda: model.insert_token(b"", b"", b"", 16, 0, b""), 1),
+            (lambda: model.insert_token(KEY, b"", b"", 16, 0, b""), 2),
+            (lambda: model.insert_token(KEY, bytes(256), b"", 1, 0, NONCE), 2),
+            (lambda: model.insert_token(KEY, b"a", bytes(1025), 1, 0, NONCE), 2),
+            (lambda: model.insert_token(KEY, b"a", b"", 16, 0, b""), 3),
+            (lambda: model.insert_token(KEY, b"a", b"", 1, 2, b""), 3),
+            (lambda: model.insert_token(KEY, b"a", b"", 1, 1, b""), 4),
+            (lambda: model.insert(store, b"", b"", b""), 4),
+            (lambda: model.insert(store, b"", bytes(12), b""), 5),
+            (lambda: model.insert(store, b"", bytes(24), bytes(17)), 5),
+            (lambda: model.insert(store, b"", bytes(12 * 66), bytes(16 * 65)), 5),
+            (lambda: model.insert(store, b"", bytes(24), bytes(16)), 6),
+            (lambda: model.insert(store, token, bytes(24), bytes(16)), 10),
+            (lambda: model.erase(store, bytes(15)), 5),
+            (lambda: model.find(store, bytes(95), bytearray()), 6),
+            (lambda: model.count(store, bytes(33)), 6),
+            (lambda: model.compact(store, b"", bytes(13)), 4),
+            (lambda: model.compact(store, b"", bytes(24)), 6)):
+        expect("order of the input's refusals", call(), Refused(wanted, ()))
+
+
+def forged(build_rows, p=1, sizes=(4, 4, 4)):
+    """A fresh store with C rows of hue=red, share 0, written as `build_rows` names them."""
+    model, store = made(scheme.Scheme, Cheap, p, *sizes)
+    cl = model.insert_token(KEY, *HUE, p, 0, NONCE)[65:97]
+    for kind, n, one, two in build_rows:
+        tag = model.counter_tag(cl, n) if kind == "counter" else model.anchor_tag(cl, n)
+        model.put_c(store, cl, tag, NONCE, one, two)
+    return model, store
+
+
+def damage():
+    """13 comes under its condition and no other [01:RS6]."""
+    reads = ("insert", "find", "count")
+    for rows in ([("counter", 1, 1, 1)], [("counter", 1, 0, GREATEST + 1)],
+                 [("anchor", 1, GREATEST + 1, 0)], [("anchor", 1, 0, GREATEST + 1)],
+                 [("anchor", 1, 3, GREATEST + 1), ("counter", 4, 0, 1)],
+                 [("anchor", 1, 2 ** 64 - 1, 1)],
+                 [("counter", 1, 0, 1), ("counter", 2, 1, 1)]):
+        model, store = forged(rows)
+        all_refuse(model, store, 13, reads)
+        expect("a reading without its CL in S", every_call(model, store, 1)[4][1](), Done((0, 0)))
+    # Only anchor B and counter Start+k are decrypted [01:RC6].
+    for rows, count in (([("counter", 1, 7, 9), ("counter", 2, 0, 2)], 2),
+                        ([("anchor", 1, 2 ** 40, 2 ** 40), ("anchor", 2, 5, 3)], 3),
+                        ([("anchor", 1, 2, 3), ("counter", 1, 9, 9), ("counter", 3, 0, 4)], 4),
+                        ([("anchor", 2, 2 ** 40, 1), ("counter", 2, 1, 1)], 0)):
+        model, store = forged(rows)
+        expect("a count", model.count(store, model.count_token(KEY, *HUE)), Done((count,)))
+
+
+def limits():
+    """14 before 15 before 16 before 17; 19 before 13 [01:RS5 to RS10]."""
+    def insert_one(model, store, n=1):
+        token = model.insert_token(KEY, *HUE, 1, 0, NONCE)
+        return model.insert(store, token, bytes(12 * n + 12), bytes(16 * n))
+
+    model, store = forged([("anchor", 1, 1, GREATEST)], sizes=(1, 1, 1))
+    expect("14", insert_one(model, store), Refused(14, ()))
+    expect("14 before 15", insert_one(model, store, 2), Refused(14, ()))
+    model, store = forged([("anchor", 1, 1, GREATEST - 1)])
+    expect("the greatest count", insert_one(model, store), Done((GREATEST,)))
+    model, store = forged([("anchor", 1, 1, 1)], sizes=(1, 1, 1))
+    store[-45] = 1
+    expect("15 before 16", insert_one(model, store, 2), Refused(15, ()))
+    expect("16 before 17", insert_one(model, store), Refused(16, ()))
+    model, store = forged([("anchor", 1, 1, 1)], sizes=(1, 2, 1))
+    store[-45] = 1
+    expect("17", insert_one(model, store), Refused(17, ()))
+    for table in ("M", "V"):
+        model, store = forged([])
+        t = scheme.tables(store)[table]
+        for i in range(3):
+            store[t.start + t.width * i] = 1
+        expect("15 in " + table, insert_one(model, store, 2), Refused(15, ()))
+        expect("room in " + table, insert_one(model, store), Done((1,)))
+    model, store = forged([("counter", 1, 1, 1)])
+    model.put(store, "S", b"\1" + model.insert_token(KEY, *HUE, 1, 0, NONCE)[97:])
+    token = model.compact_token(KEY)
+    expect("19 before 13", model.compact(store, token, b""), Refused(19, ()))
+    expect("13", model.compact(store, token, NONCE), Refused(13, (0, 0)))
+
+
+def compactions():
+    """13 in compaction keeps what was treated [01:RS13]; k = 0 writes nothing [01:OP11]."""
+    model, store = made(scheme.Scheme, Cheap, 1, 4, 4, 4)
+    for call in (insert(SIZE, 0, "A"), insert(SIZE, 0, "B"), insert(HUE, 0, "C")):
+        model.call(store, call)
+    c, s = scheme.tables(store)["C"], scheme.tables(store)["S"]
+    store[c.start + 2 * c.width + 52] ^= 1  # the first number of the third row, hue's counter
+    third = scheme.row(store, s, 2)
+    expect("13", model.call(store, Compact(KEY, bytes(36))), (Refused(13, (1, 2)), None))
+    expect("C rows left", scheme.used(store, c), [0, 2])
+    expect("S rows left", [scheme.row(store, s, i) for i in scheme.used(store, s)], [third])
+    expect("count", model.call(store, Count(KEY, *SIZE)), (Done((2,)), None))
+
+    model, store = forged([])
+    model.put(store, "S", b"\1" + model.insert_token(KEY, *HUE, 1, 0, NONCE)[97:])
+    model.call(store, insert(SIZE, 0, "A"))
+    nonces = b"1" * 12 + b"2" * 12
+    expect("k = 0", model.call(store, Compact(KEY, nonces)), (Done((1, 1)), None))
+    expect("the next nonce is the next unused one", scheme.row(store, c, 0)[33:45], b"1" * 12)
+    expect("S", scheme.used(store, s), [])
+
+    # A position above the greatest number may be written; the next reading is 13.
+    model, store = forged([("anchor", 1, GREATEST, 5), ("counter", GREATEST + 1, 0, 6)])
+    model.put(store, "S", b"\1" + model.insert_token(KEY, *HUE, 1, 0, NONCE)[97:])
+    expect("a position", model.call(store, Compact(KEY, NONCE)), (Done((1, 1)), None))
+    expect("after it", model.call(store, Count(KEY, *HUE)), (Refused(13, ()), None))
+
+
+def rows():
+    """Lookup, freeing and free rows' bytes [01:ST5], [01:ST13], [01:ST14], [01:ST15]."""
+    model, store = made(scheme.Scheme, Cheap, 0, 4, 4, 4)
+    for i in range(8, len(store)):
+        store[i] = 7
+    for t in scheme.tables(store).values():
+        for i in range(t.rows):
+            store[t.start + t.width * i] = 0
+    before = bytes(store)
+    model.call(store, insert(HUE, 0, "AB", p=0))
+    for name, t in scheme.tables(store).items():
+        for i in scheme.free(store, t):
+            at = t.start + t.width * i
+            expect("a free row keeps its bytes", bytes(store[at:at + t.width]),
+                   before[at:at + t.width])
+    m, v = scheme.tables(store)["M"], scheme.tables(store)["V"]
+    # A third M row repeats A's tag and a third V row names A with B's tag.
+    a, b = scheme.row(store, m, 0), scheme.row(store, m, 1)
+    scheme.set_row(store, m, 2, a[:60] + bytes([a[60] ^ 1]))
+    scheme.set_row(store, v, 2, b"\1" + id_of("A") + b[1:33])
+    found, output = model.call(store, Find(KEY, *HUE, bytes(64)))
+    expect("the lowest row with the tag", output[:32], id_of("A") + id_of("B"))
+    expect("erase counts V rows", model.erase(store, id_of("A")), Done((2,)))
+    expect("M rows freed", scheme.used(store, m), [])
+    expect("V rows freed", scheme.used(store, v), [1])
+    expect("freed rows are zero", scheme.row(store, m, 2), bytes(61))
+    expect("no V row", model.erase(store, id_of("A")), Done((0,)))
+
+
+def shared(build, build_ledger):
+    """The examples that a wrong version of store or ledger is held against."""
+    labels(build)
+    run_day(build, build_ledger)
+
+
+def all_examples():
+    cipher()
+    shared(scheme.Scheme, Ledger)
+    for example in (making, headers, input_order, damage, limits, compactions, rows):
+        example()

@@ -1,0 +1,457 @@
+"""Labels, tokens, the store and the five operations on its bytes: document 01, 'Labels' to
+'Refusals from the state', for all inputs, hostile stores among them. Written from the paper.
+
+The row placing is a parameter: `lowest`, `random_place(generator)`, or `follow(after)`.
+"""
+import struct
+from collections import namedtuple
+from functools import lru_cache
+
+import calls
+from calls import Done, Refused, first
+from primitives import number
+
+GREATEST = 4294967295
+WIDTH = {"M": 61, "V": 49, "C": 61, "S": 45}
+
+Header = namedtuple("Header", "p m c s")
+Table = namedtuple("Table", "start width rows")
+# A counter read: B, Start, k, the count, and the C rows held as counters Start+1 to Start+k.
+Counter = namedtuple("Counter", "anchors start k count held")
+
+
+# A row placing picks among the free rows of a table the one that takes the new row.
+
+
+def lowest(table, rows, content):
+    """The free row of lowest index."""
+    return rows[0]
+
+
+def random_place(generator):
+    """Any free row: the placing is left open [01:ST15]."""
+    return lambda table, rows, content: generator.choice(rows)
+
+
+def follow(after):
+    """The placing of another program, read off the store that it left behind.
+
+    Where none of the free rows holds the content there, the lowest is taken; the
+    stores then differ. Used rows are not compared up to order alone because the
+    order of S rows decides which anchor takes which nonce.
+    """
+    def place(table, rows, content):
+        return next((i for i in rows if row(after, table, i) == content), rows[0])
+    return place
+
+
+def label(name, value):
+    """The name's length in groups of seven bits, the name, the value [01:LB2]."""
+    length, groups = len(name), []
+    while length > 127:
+        groups.append(128 | length % 128)
+        length //= 128
+    return bytes(groups + [length]) + name + value
+
+
+def length_of(m, c, s):
+    return 8 + 110 * m + 61 * c + 45 * s
+
+
+def header(store):
+    """The header's numbers, or None where refusal 10 applies [01:RS2]."""
+    if len(store) < 8 or store[0] != 1:
+        return None
+    h = Header(*struct.unpack(">B3H", store[1:8]))
+    if h.p > 15 or min(h.m, h.c, h.s) < 1 or max(h.m, h.c, h.s) > 4096:
+        return None
+    return h if len(store) == length_of(h.m, h.c, h.s) else None
+
+
+def tables(store):
+    """Where the four tables stand [01:ST3]; for a store whose header is accepted."""
+    h = header(store)
+    return tables_of(h.m, h.c, h.s)
+
+
+@lru_cache(maxsize=None)
+def tables_of(m, c, s):
+    result, start = {}, 8
+    for name, rows in (("M", m), ("V", m), ("C", c), ("S", s)):
+        result[name] = Table(start, WIDTH[name], rows)
+        start += WIDTH[name] * rows
+    return result
+
+
+def row(store, t, i):
+    at = t.start + t.width * i
+    return bytes(store[at:at + t.width])
+
+
+def set_row(store, t, i, content):
+    at = t.start + t.width * i
+    assert len(content) == t.width
+    store[at:at + t.width] = content
+
+
+def used(store, t):
+    return [i for i in range(t.rows) if store[t.start + t.width * i] == 1]
+
+
+def free(store, t):
+    return [i for i in range(t.rows) if store[t.start + t.width * i] == 0]
+
+
+def free_row(store, t, i):
+    """Freeing a row zeroes all of it [01:ST14]."""
+    set_row(store, t, i, bytes(t.width))
+
+
+def lookup(store, t, tag):
+    """The used row of lowest index with the tag [01:ST13], or None. For M and C."""
+    for i in used(store, t):
+        at = t.start + t.width * i
+        if store[at + 1:at + 33] == tag:
+            return i
+    return None
+
+
+def marks_wrong(store):
+    return any(store[t.start + t.width * i] > 1
+               for t in tables(store).values() for i in range(t.rows))
+
+
+def used_rows(store):
+    """Each table's used rows, sorted: what two placings of the same calls agree on.
+
+    Of a C row the mark and the tag: an anchor's nonce depends on the order of S rows.
+    """
+    return {name: sorted(row(store, t, i)[:33 if name == "C" else t.width]
+                         for i in used(store, t))
+            for name, t in tables(store).items()}
+
+
+def state_conditions(store):
+    yield 10, header(store) is None
+    yield 11, marks_wrong(store)
+
+
+def parts(text, width):
+    return [text[i:i + width] for i in range(0, len(text), width)]
+
+
+class Scheme:
+    """The tokens and the operations over one suite and one row placing."""
+
+    def __init__(self, suite, place=lowest):
+        self.F = suite.F
+        self.E = suite.E
+        self.place = place
+
+    # Keys and tokens
+
+    def label(self, name, value):
+        return label(name, value)
+
+    def master(self, key, n):
+        """KM, KC, KS for n = 1, 2, 3 [01:KT2]."""
+        return self.F(key, number(n))
+
+    def address_key(self, key, name, value):
+        return self.F(self.F(self.master(key, 1), number(1)), self.label(name, value))
+
+    def entry_key(self, key, name, value):
+        return self.F(self.F(self.master(key, 1), number(2)), self.label(name, value))
+
+    def counter_key(self, key, name, value):
+        return self.F(self.master(key, 2), self.label(name, value))
+
+    def insert_token(self, key, name, value, p, u, nonce):
+        """p, MT, ME, CL, a nonce, E(KS, nonce, CL) [01:KT7]."""
+        refused = first(calls.insert_token_conditions(key, name, value, p, u, nonce))
+        if refused:
+            return refused
+        mt = self.F(self.address_key(key, name, value), number(u))
+        me = self.F(self.entry_key(key, name, value), number(u))
+        cl = self.F(self.counter_key(key, name, value), number(u))
+        return bytes([p]) + mt + me + cl + nonce + self.E(self.master(key, 3), nonce, cl)
+
+    def find_token(self, key, name, value):
+        refused = first(calls.field_token_conditions(key, name, value))
+        if refused:
+            return refused
+        return (self.address_key(key, name, value) + self.entry_key(key, name, value)
+                + self.counter_key(key, name, value))
+
+    def count_token(self, key, name, value):
+        refused = first(calls.field_token_conditions(key, name, value))
+        return refused or self.counter_key(key, name, value)
+
+    def compact_token(self, key):
+        refused = first(calls.compact_token_conditions(key))
+        return refused or self.master(key, 3)
+
+    # Making a store
+
+    def make(self, store, p, m, c, s):
+        """Writes the header and zeroes the rest [01:ST16]."""
+        refused = first(self.make_conditions(store, p, m, c, s))
+        if refused:
+            return refused
+        store[:] = bytes([1, p]) + b"".join(n.to_bytes(2, "big") for n in (m, c, s)) \
+            + bytes(len(store) - 8)
+        return Done(())
+
+    def make_conditions(self, store, p, m, c, s):
+        yield 7, p > 15 or not all(1 <= n <= 4096 for n in (m, c, s))
+        yield 8, len(store) != length_of(m, c, s)
+
+    # Tags
+
+    def entry_tag(self, mt, address):
+        return self.F(mt, number(address))
+
+    def counter_tag(self, cl, position):
+        return self.F(self.F(cl, number(1)), b"\1" + number(position))
+
+    def anchor_tag(self, cl, anchor):
+        return self.F(self.F(cl, number(1)), b"\2" + number(anchor))
+
+    # Rows
+
+    def put(self, store, name, content):
+        t = tables(store)[name]
+        set_row(store, t, self.place(t, free(store, t), content), content)
+
+    def put_c(self, store, cl, tag, nonce, one, two):
+        """A C row: mark, tag, nonce, two numbers under CE [01:ST9]."""
+        ce = self.F(cl, number(2))
+        self.put(store, "C", b"\1" + tag + nonce + self.E(ce, nonce, number(one) + number(two)))
+
+    def open_c(self, store, cl, i):
+        r = row(store, tables(store)["C"], i)
+        plain = self.E(self.F(cl, number(2)), r[33:45], r[45:61])
+        return int.from_bytes(plain[:8], "big"), int.from_bytes(plain[8:], "big")
+
+    # Reading a counter
+
+    def read(self, store, cl):
+        """The counter of CL, or None for damage [01:RC1 to RC6].
+
+        Anchor B is tested before the counters are walked: damage there is damage
+        even where a counter follows it.
+        """
+        t = tables(store)["C"]
+        anchors, start, count, held = 0, 0, 0, []
+        while anchors < t.rows and lookup(store, t, self.anchor_tag(cl, anchors + 1)) is not None:
+            anchors += 1
+        if anchors > 0:
+            at = lookup(store, t, self.anchor_tag(cl, anchors))
+            start, count = self.open_c(store, cl, at)
+            if start > GREATEST or count > GREATEST:
+                return None
+        while len(held) < t.rows:
+            at = lookup(store, t, self.counter_tag(cl, start + len(held) + 1))
+            if at is None:
+                break
+            held.append(at)
+        if held:
+            zero, count = self.open_c(store, cl, held[-1])
+            if zero != 0 or count > GREATEST:
+                return None
+        return Counter(anchors, start, len(held), count, held)
+
+    # Insert
+
+    def insert(self, store, token, nonces, ids):
+        refused = first(self.insert_all_conditions(store, token, nonces, ids))
+        if refused:
+            return refused
+        mt, me, cl = token[1:33], token[33:65], token[65:97]
+        counter = self.read(store, cl)
+        ids, nonces = parts(ids, 16), parts(nonces, 12)
+        for i, (id, nonce) in enumerate(zip(ids, nonces)):
+            tag = self.entry_tag(mt, self.next_address(store, mt, counter) + i)
+            self.put(store, "M", b"\1" + tag + nonce + self.E(me, nonce, id))
+            self.put(store, "V", b"\1" + id + tag)
+        new = counter.count + len(ids)
+        self.put_counter(store, cl, counter, nonces[-1], new)
+        self.put(store, "S", b"\1" + token[97:])
+        return Done((new,))
+
+    def next_address(self, store, mt, counter):
+        return counter.count + 1
+
+    def put_counter(self, store, cl, counter, nonce, new):
+        position = counter.start + counter.k + 1
+        self.put_c(store, cl, self.counter_tag(cl, position), nonce, 0, new)
+
+    def insert_all_conditions(self, store, token, nonces, ids):
+        yield from calls.insert_conditions(len(token), nonces, ids)
+        yield from state_conditions(store)
+        yield 12, token[0] != header(store).p
+        counter = self.read(store, token[65:97])
+        yield 13, counter is None
+        yield from self.room_conditions(store, counter.count, len(ids) // 16)
+
+    def room_conditions(self, store, count, j):
+        t = tables(store)
+        yield 14, count + j > GREATEST
+        yield 15, len(free(store, t["M"])) < j or len(free(store, t["V"])) < j
+        yield 16, not free(store, t["C"])
+        yield 17, not free(store, t["S"])
+
+    # Erase
+
+    def erase(self, store, id):
+        """Frees all V rows of the id and each M row with a tag of theirs [01:OP4]."""
+        refused = first(self.erase_all_conditions(store, id))
+        if refused:
+            return refused
+        v = tables(store)["V"]
+        of_id = [i for i in used(store, v) if row(store, v, i)[1:17] == id]
+        self.free_entries(store, {row(store, v, i)[17:] for i in of_id})
+        for i in of_id:
+            free_row(store, v, i)
+        return Done((len(of_id),))
+
+    def free_entries(self, store, tags):
+        m = tables(store)["M"]
+        for i in used(store, m):
+            if row(store, m, i)[1:33] in tags:
+                free_row(store, m, i)
+
+    def erase_all_conditions(self, store, id):
+        yield from calls.erase_conditions(id)
+        yield from state_conditions(store)
+
+    # Find and count
+
+    def find(self, store, token, output):
+        """Ids go to the start of the output, later bytes stay [01:OP7].
+
+        The walk is as long as the count: a forged count makes it long, so tests
+        with forged stores keep an accepted count small.
+        """
+        refused = first(self.find_all_conditions(store, token))
+        if refused:
+            return refused
+        found = []
+        for u, count in enumerate(self.counts(store, token[64:])):
+            mt = self.F(token[:32], number(u))
+            me = self.F(token[32:64], number(u))
+            found += self.share(store, mt, me, count)
+        if len(output) < 16 * len(found):
+            return Refused(18, (len(found),))
+        output[:16 * len(found)] = b"".join(found)
+        return Done((len(found),))
+
+    def share(self, store, mt, me, count):
+        """The ids at addresses 1 to the count; a missing one is skipped [01:OP6]."""
+        m, found = tables(store)["M"], []
+        for address in range(1, count + 1):
+            i = lookup(store, m, self.entry_tag(mt, address))
+            if i is not None:
+                r = row(store, m, i)
+                found.append(self.E(me, r[33:45], r[45:61]))
+        return found
+
+    def find_all_conditions(self, store, token):
+        yield from calls.find_conditions(len(token))
+        yield from state_conditions(store)
+        yield 13, self.counts(store, token[64:]) is None
+
+    def counts(self, store, counter_key):
+        """The counts of shares 0 to p, or None where one of the readings is damage."""
+        readings = [self.read(store, self.F(counter_key, number(u)))
+                    for u in range(header(store).p + 1)]
+        return None if None in readings else [r.count for r in readings]
+
+    def count(self, store, token):
+        refused = first(self.count_all_conditions(store, token))
+        return refused or Done((sum(self.counts(store, token)),))
+
+    def count_all_conditions(self, store, token):
+        yield from calls.count_conditions(len(token))
+        yield from state_conditions(store)
+        yield 13, self.counts(store, token) is None
+
+    # Compaction
+
+    def compact(self, store, token, nonces):
+        """Distinct CL of S in order of first row [01:OP10]; each uses a nonce only if k > 0."""
+        refused = first(self.compact_all_conditions(store, token, nonces))
+        if refused:
+            return refused
+        anchors, freed, nonces = 0, 0, parts(nonces, 12)
+        for cl in self.to_treat(self.labels_of_s(store, token)):
+            counter = self.read(store, cl)
+            if counter is None:
+                return Refused(13, (anchors, freed))
+            if self.writes_anchor(counter):
+                self.treat(store, cl, counter, nonces[anchors])
+                anchors += 1
+                freed += counter.k
+            self.free_s(store, token, cl)
+        return Done((anchors, freed))
+
+    def compact_all_conditions(self, store, token, nonces):
+        yield from calls.compact_conditions(len(token), nonces)
+        yield from state_conditions(store)
+        yield 19, len(nonces) // 12 < len(used(store, tables(store)["S"]))
+
+    def labels_of_s(self, store, token):
+        """The CL of each used S row, in order of the rows."""
+        s = tables(store)["S"]
+        rows = [row(store, s, i) for i in used(store, s)]
+        return [self.E(token, r[1:13], r[13:45]) for r in rows]
+
+    def to_treat(self, labels):
+        return list(dict.fromkeys(labels))
+
+    def writes_anchor(self, counter):
+        return counter.k > 0
+
+    def treat(self, store, cl, counter, nonce):
+        """Frees the rows that the reading held, then writes anchor B+1 [01:OP11]."""
+        for i in counter.held:
+            free_row(store, tables(store)["C"], i)
+        self.put_c(store, cl, self.anchor_tag(cl, counter.anchors + 1), nonce,
+                   counter.start + counter.k, counter.count)
+
+    def free_s(self, store, token, cl):
+        s = tables(store)["S"]
+        for i in used(store, s):
+            r = row(store, s, i)
+            if self.E(token, r[1:13], r[13:45]) == cl:
+                free_row(store, s, i)
+
+    # A call of a list: its token, then the operation
+
+    def call(self, store, call):
+        """What the call tells: its answer, and a find's whole output or None."""
+        output = bytearray(call.output) if isinstance(call, calls.Find) else None
+        token = self.token(call)
+        if isinstance(token, Refused):
+            return token, bytes(output) if output is not None else None
+        if isinstance(call, calls.Insert):
+            return self.insert(store, token, call.nonces, call.ids), None
+        if isinstance(call, calls.Erase):
+            return self.erase(store, call.id), None
+        if isinstance(call, calls.Find):
+            answer = self.find(store, token, output)
+            return answer, bytes(output)
+        if isinstance(call, calls.Count):
+            return self.count(store, token), None
+        return self.compact(store, token, call.nonces), None
+
+    def token(self, call):
+        if isinstance(call, calls.Insert):
+            return self.insert_token(call.key, call.name, call.value, call.p, call.u, call.nonce)
+        if isinstance(call, calls.Erase):
+            return None
+        if isinstance(call, calls.Find):
+            return self.find_token(call.key, call.name, call.value)
+        if isinstance(call, calls.Count):
+            return self.count_token(call.key, call.name, call.value)
+        return self.compact_token(call.key)

@@ -1,0 +1,233 @@
+"""The records and lines of the program crates/vectors: document 01, 'Keyed function and cipher'
+[01:KF7]. The lines come from published files and from other implementations (Python's hashlib
+and hmac, the openssl command) and never from our own program.
+
+  vectors.py            compares crates/vectors/stdin and stdout with what is derived here
+  vectors.py --write    writes them
+
+The published files are those of Debian's package python3-cryptography-vectors, and tests/data
+where it has none.
+"""
+import hashlib
+import hmac
+import pathlib
+import subprocess
+import sys
+
+HERE = pathlib.Path(__file__).resolve().parent
+PROGRAM = HERE.parent / "crates" / "vectors"
+PACKAGE = "python3-cryptography-vectors"
+
+HASH, MAC, CIPHER = 1, 2, 3
+EDGES = [319, 320, 321, 1023, 1024, 1025, 4095, 4096, 65535, 65536]
+LONGEST = 65536
+
+
+class Literal:
+    """A byte string that stands in the input."""
+
+    def __init__(self, content):
+        self.bytes = content
+
+    def encoded(self):
+        return b"\0" + len(self.bytes).to_bytes(4, "big") + self.bytes
+
+
+class Generated:
+    """A byte string that program and script both make of a seed (specs/Pattern.antt)."""
+
+    def __init__(self, length, seed):
+        self.seed = seed
+        x, made = seed, bytearray()
+        for _ in range(length):
+            x = (x * 1103515245 + 12345) % 2 ** 31
+            made.append(x // 65536 % 256)
+        self.bytes = bytes(made)
+
+    def encoded(self):
+        return b"\1" + len(self.bytes).to_bytes(4, "big") + self.seed.to_bytes(4, "big")
+
+
+def told(output):
+    """The line of an output: in hexadecimal, above 1,024 bytes by its hash."""
+    if len(output) <= 1024:
+        return output.hex()
+    return "sha256 " + hashlib.sha256(output).hexdigest()
+
+
+def refused(number):
+    return "refused %d, output as lent" % number
+
+
+# Other implementations
+
+
+def hash_line(message):
+    if len(message.bytes) > LONGEST:
+        return refused(9)
+    return told(hashlib.sha256(message.bytes).digest())
+
+
+def mac_line(key, message):
+    if max(len(key.bytes), len(message.bytes)) > LONGEST:
+        return refused(9)
+    return told(hmac.new(key.bytes, message.bytes, "sha256").digest())
+
+
+def openssl_cipher(key, nonce, text):
+    """The openssl command's initial vector is the first block counter, here 1, and the nonce."""
+    run = subprocess.run(["openssl", "enc", "-chacha20", "-K", key.hex(), "-iv",
+                          "01000000" + nonce.hex()], input=text, capture_output=True, check=True)
+    assert len(run.stdout) == len(text)
+    return run.stdout
+
+
+def cipher_line(key, nonce, text):
+    """Refusals in order: 1, 4, 9 [01:RI2] [01:RI5] [01:RI10]."""
+    if len(key.bytes) != 32:
+        return refused(1)
+    if len(nonce.bytes) != 12:
+        return refused(4)
+    if len(text.bytes) > LONGEST:
+        return refused(9)
+    return told(openssl_cipher(key.bytes, nonce.bytes, text.bytes))
+
+
+# Published files
+
+
+def package_file(end):
+    files = subprocess.run(["dpkg", "-L", PACKAGE], capture_output=True, text=True)
+    found = [f for f in files.stdout.split("\n") if f.endswith(end)]
+    if not found:
+        sys.exit("vectors.py: %s is not there: install the package %s" % (end, PACKAGE))
+    return pathlib.Path(found[0])
+
+
+def entries(path):
+    """The entries of a file of lines 'name = value': a dictionary for each."""
+    result, entry = [], {}
+    for line in path.read_text().split("\n") + [""]:
+        name, equals, value = line.partition(" = ")
+        if line.startswith(("#", "[")):
+            continue
+        if equals:
+            entry[name.strip()] = value.strip()
+        elif entry and not line.strip():
+            result.append(entry)
+            entry = {}
+    return result
+
+
+def agree(what, published, ours):
+    """What is published and the other implementation have to say the same."""
+    if published != ours:
+        sys.exit("vectors.py: %s: published %s, computed %s" % (what, published, ours))
+
+
+def published_hashes():
+    """NIST's files of short and long messages for SHA-256, all of them."""
+    for name in ("SHA256ShortMsg.rsp", "SHA256LongMsg.rsp"):
+        for entry in entries(package_file("/SHA2/" + name)):
+            length = int(entry["Len"])
+            message = Literal(bytes.fromhex(entry["Msg"])[:length // 8])
+            agree(name, entry["MD"], hash_line(message))
+            yield HASH, (message,), entry["MD"]
+
+
+def published_macs():
+    """RFC 4231, test cases 1 to 7; of case 5 the first 16 bytes are published."""
+    for path in (package_file("/HMAC/rfc-4231-sha256.txt"), HERE / "data" / "rfc4231.txt"):
+        for entry in entries(path):
+            key = Literal(bytes.fromhex(entry["Key"]))
+            message = Literal(bytes.fromhex(entry["Msg"]))
+            line = mac_line(key, message)
+            agree("RFC 4231", entry["MD"], line[:len(entry["MD"])])
+            yield MAC, (key, message), line
+
+
+def published_ciphers():
+    """RFC 8439's examples, both ways. Our first block counter is 1, so an example that starts at
+    a later block follows on as many blocks of zeros; one that starts at 0 has no counterpart."""
+    for path in (package_file("/ChaCha20/rfc7539.txt"), HERE / "data" / "rfc8439.txt"):
+        for entry in entries(path):
+            blocks = int(entry["INITIAL_BLOCK_COUNTER"]) - 1
+            if blocks < 0:
+                continue
+            key = Literal(bytes.fromhex(entry["KEY"]))
+            nonce = Literal(bytes.fromhex(entry["NONCE"]))
+            plain = bytes(64 * blocks) + bytes.fromhex(entry["PLAINTEXT"])
+            crypt = openssl_cipher(key.bytes, nonce.bytes, plain)
+            agree("RFC 8439", entry["CIPHERTEXT"], crypt[64 * blocks:].hex())
+            yield CIPHER, (key, nonce, Literal(plain)), told(crypt)
+            yield CIPHER, (key, nonce, Literal(crypt)), told(plain)
+
+
+# Other implementations on many inputs
+
+
+def many_hashes():
+    for length in list(range(301)) + EDGES + [LONGEST + 1]:
+        message = Generated(length, 1000 + length)
+        yield HASH, (message,), hash_line(message)
+
+
+def many_macs():
+    for length in list(range(301)) + EDGES + [LONGEST + 1]:
+        key, message = Generated(32, 2000 + length), Generated(length, 3000 + length)
+        yield MAC, (key, message), mac_line(key, message)
+    for length in (0, 1, 31, 33, 63, 64, 65, 66, 127, 128, 129, 131, 65535, 65536, 65537):
+        for size in (0, 8, 9, 64, 65535, 65536, 65537):
+            key, message = Generated(length, 4000 + length), Generated(size, 5000 + size)
+            yield MAC, (key, message), mac_line(key, message)
+
+
+def many_ciphers():
+    """Encrypting a generated text, and decrypting what openssl made of it."""
+    for length in list(range(301)) + EDGES:
+        key, nonce = Generated(32, 6000 + length), Generated(12, 7000 + length)
+        text = Generated(length, 8000 + length)
+        crypt = openssl_cipher(key.bytes, nonce.bytes, text.bytes)
+        yield CIPHER, (key, nonce, text), told(crypt)
+        yield CIPHER, (key, nonce, Literal(crypt)), told(text.bytes)
+    for keys in (0, 12, 31, 32, 33, 64):
+        for nonces in (0, 8, 11, 12, 13, 32):
+            for length in (0, 1, 65, 65536, 65537):
+                key, nonce = Generated(keys, 9000 + keys), Generated(nonces, 9100 + nonces)
+                text = Generated(length, 9200 + length)
+                yield CIPHER, (key, nonce, text), cipher_line(key, nonce, text)
+
+
+def all_records():
+    for part in (published_hashes, published_macs, published_ciphers, many_hashes, many_macs,
+                 many_ciphers):
+        records = list(part())
+        print("%s: %d records" % (part.__name__.replace("_", " "), len(records)), flush=True)
+        yield from records
+
+
+def main():
+    records = list(all_records())
+    stdin = len(records).to_bytes(4, "big")
+    for kind, strings, _ in records:
+        stdin += bytes([kind]) + b"".join(s.encoded() for s in strings)
+    stdout = "".join(line + "\n" for _, _, line in records).encode()
+    derived = {PROGRAM / "stdin": stdin, PROGRAM / "stdout": stdout}
+    if sys.argv[1:] == ["--write"]:
+        for path, content in derived.items():
+            path.write_bytes(content)
+        print("written: %d records, %d and %d bytes" % (len(records), len(stdin), len(stdout)))
+        return 0
+    if sys.argv[1:]:
+        print(__doc__)
+        return 2
+    for path, content in derived.items():
+        if not path.is_file() or path.read_bytes() != content:
+            print("vectors.py: %s/%s differs from what is derived" % (PROGRAM.name, path.name))
+            return 1
+    print("crates/vectors: the %d records and lines are those derived" % len(records))
+    return 0
+
+
+if __name__ == "__main__":
+    sys.exit(main())
