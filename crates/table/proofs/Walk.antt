@@ -8,13 +8,13 @@ use mathlib.Core.List.{List, [], _∷_, _++_, append-assoc}
 use native.Mathlib.Nat.{mul-zero, mul-suc, add-zero, mul-le-mul-left, add-sub-cancel-left, not-suc-le-zero, le-of-suc-le-suc}
 use native.Mathlib.Numerals.{add-one}
 use native.Mathlib.Omega.{arith}
-use lib.Dec.{eqb, ltb}
+use lib.Dec.{ltb}
 use lib.ListN.{length, getD, take, drop, set, length-drop, drop-of-length-le, take-append-drop}
 use lib.Seq.{take-at, drop-at, take-add, take-take, drop-drop, drop-cons, getD-take, getD-drop, take-nil, length-take-le}
-use borrow.Author.Tests.{lt-ltb, le-ltb, ltb-true, ltb-false, eq-eqb, ne-eqb}
+use borrow.Author.Tests.{lt-ltb, le-ltb, ltb-true, ltb-false}
 use Rattle.octets.specs.Part.{back}
 use Rattle.octets.proofs.Parts.{length-part}
-use Rattle.table.specs.Lists.{bit, same, count, first, isSome, flat}
+use Rattle.table.specs.Lists.{bit, count, first, isSome, flat}
 use Rattle.table.specs.Table.{Row, Table, rows, markOf, markBad, isFree, body, used, freeRows, hasTag, lookup, holds, indexOf, placeOf, zeroRow, freeWhere, Placed}
 use Rattle.table.proofs.Counting.{any-count, any-none}
 use Rattle.table.proofs.Rows.{rows-length, index-holds, place-held}
