@@ -54,7 +54,7 @@ def insert(field, u, letters, p=1):
     return Insert(KEY, *field, p, u, NONCE, bytes(12 * (len(letters) + 1)), ids)
 
 
-def day():
+def worked():
     """G1 to G8 as calls with what each tells [01:DY1 to DY9]."""
     lent = bytes([255]) * 80
 
@@ -93,7 +93,7 @@ def run_day(build, build_ledger):
     for suite in (Cheap, Real):
         model, store = made(build, suite, 1, 4, 4, 4)
         ledger = build_ledger(1, 4, 4, 4)
-        for name, call, wanted in day():
+        for name, call, wanted in worked():
             expect(name + " in the ledger", ledger.call(call), wanted)
             expect(name + " in the store", model.call(store, call), wanted)
 

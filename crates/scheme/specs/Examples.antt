@@ -44,11 +44,11 @@ labelExamples =
     ∷ (startOfLabel 255 2 yields (0xff ∷ 0x01 ∷ []))
     ∷ []
 
--- ---- the day
+-- ---- the worked list of calls
 
 -- p = 1, m = c = s = 4 [01:DY1]
-abbrev pub daySizes : Sizes
-daySizes = record { p = 1; m = 4; c = 4; s = 4 }
+abbrev pub workedSizes : Sizes
+workedSizes = record { p = 1; m = 4; c = 4; s = 4 }
 
 abbrev pub key : List ℕ
 key = replicate 32 0x4b
@@ -95,8 +95,8 @@ pub record Block : Type 0 where
   pub calls : List Call
   pub told : List Told
 
-abbrev pub day : List Block
-day =
+abbrev pub worked : List Block
+worked =
     -- G1 [01:DY2]
     record {
       calls = inserts hueRed 0 (65 ∷ 66 ∷ []) 36 ∷ inserts hueRed 1 (67 ∷ []) 24 ∷ finds ∷ counts ∷ [];
@@ -121,16 +121,16 @@ day =
     ∷ record { calls = compacts ∷ inserts sizeL 0 (71 ∷ []) 24 ∷ []; told = says (done (1 ∷ 2 ∷ [])) ∷ number 1 ∷ [] }
     ∷ []
 
-abbrev pub dayCalls : List Call
-dayCalls = flat (map (λ (b : Block). b .calls) day)
+abbrev pub workedCalls : List Call
+workedCalls = flat (map (λ (b : Block). b .calls) worked)
 
-abbrev pub dayTold : List Told
-dayTold = flat (map (λ (b : Block). b .told) day)
+abbrev pub workedTold : List Told
+workedTold = flat (map (λ (b : Block). b .told) worked)
 
--- the labels, the day on the ledger, the day on the store [01:DY10]
+-- the labels, the worked list on the ledger and on the store [01:DY10]
 abbrev pub examples : Suite → List Example
 examples suite =
     labelExamples ++
-    ((ledgerTells (boundsOf daySizes) empty dayCalls tells dayTold)
-    ∷ (tellsLowest suite dayCalls (fresh daySizes) tells dayTold)
+    ((ledgerTells (boundsOf workedSizes) empty workedCalls tells workedTold)
+    ∷ (tellsLowest suite workedCalls (fresh workedSizes) tells workedTold)
     ∷ [])
