@@ -235,16 +235,30 @@ fn next_state(s: State) -> State
     t
 }
 
-// At most a block of text, XORed with the stream of a state.
+// A text of n bytes XORed with bytes of the stream.
+fn xor_bytes(text: &mut [u8], ks: &[u8], n: usize)
+    requires { ⌜ (length (now text) ≡ n) × (n ≤ length (now ks)) ⌝ }
+    ensures { λ r. ⌜ now (text .exit) ≡ xored (now (text .entry)) (now (ks .entry)) ⌝ }
+{
+    let mut i: usize = 0;
+    while i < n {
+        text[i] = text[i] ^ ks[i];
+        i += 1;
+    }
+}
+
+// At most a block of text, XORed with the stream of a state. An id's 16 bytes, the most frequent
+// length, have a call of their own, so that the compiler knows it.
 fn xor_block(s: State, text: &mut [u8])
     requires { ⌜ length (now text) ≤ 64 ⌝ }
     ensures { λ r. ⌜ now (text .exit) ≡ xored (now (text .entry)) (blockOf (words s)) ⌝ }
 {
     let ks = block(s);
-    let mut i: usize = 0;
-    while i < text.len() {
-        text[i] = text[i] ^ ks[i];
-        i += 1;
+    let n = text.len();
+    if n == 16 {
+        xor_bytes(text, &ks, 16);
+    } else {
+        xor_bytes(text, &ks, n);
     }
 }
 

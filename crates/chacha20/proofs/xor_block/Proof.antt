@@ -1,58 +1,47 @@
--- `chacha20::xor_block` meets its contract. The invariant: the first i bytes are done, and the others, XORed with what is left of the
--- block, make the text that is asked.
-use Prim.Native.Nat.{_-_, _≤_}
-use mathlib.Core.Path.{_≡_, refl, sym, ap, _∙_}
-use mathlib.Core.List.{_++_}
-use native.Mathlib.Omega.{arith}
-use borrow.Author.Needs.{needs}
-use lib.ListN.{length, take, drop, length-set}
-use Rattle.chacha20.specs.Rounds.{words}
+-- One block of the stream, whatever the length.
 use Rattle.chacha20.specs.Cipher.{xored}
-use Rattle.chacha20.proofs.Lists.{xored-more, all-done}
-use Rattle.chacha20.proofs.Stream.{length-block}
+use mathlib.Core.Path.{ap, _∙_}
+use borrow.Author.Needs.{needs}
 use Rattle.chacha20.proofs.xor_block.Statement.{statement}
 use Rattle.chacha20.proofs.xor_block.Tie as tie
 
-abbrev Inv-loop : tie.InvT-loop
-Inv-loop text₀ ks i₀ text i =
-    (length text ≡ length text₀) × (length ks ≡ 64) × (i ≤ length text)
-    × (take i text ++ xored (drop i text) (drop i ks) ≡ xored text₀ ks)
+block-requires : tie.Need-block-requires
+block-requires c κs = search needs
 
-abbrev μ-loop : tie.MeasureT-loop
-μ-loop text₀ ks i₀ text i = length text - i
+slice-aggregate-xor-bytes : tie.Need-slice-aggregate-xor-bytes
+slice-aggregate-xor-bytes c = search needs
 
-loop-holds : tie.Need-loop-holds Inv-loop μ-loop
-loop-holds c = (refl, ap length (c .block .ensures) ∙ length-block (words (c .before .before .args .s)) refl, omega arith, refl)
+xor-bytes-requires : tie.Need-xor-bytes-requires
+xor-bytes-requires c κs = search needs
 
-loop-again : tie.Need-loop-again Inv-loop μ-loop
-loop-again c =
-    let d = c .before .before in (
-      simp length-set (d .loop .inv .0),
-      d .loop .inv .1,
-      simp length-set (omega arith),
-      xored-more (d .loop .text) (d .before .block .result) (d .loop .i) (omega arith) (omega arith) ∙ d .loop .inv .3,
-    )
+slice-aggregate-xor-bytes-2 : tie.Need-slice-aggregate-xor-bytes-2
+slice-aggregate-xor-bytes-2 c = search needs
 
-returns : tie.Need-returns Inv-loop μ-loop
-returns c =
-    let d = c .before in
-    sym (all-done (d .loop .text) (drop (d .loop .i) (d .before .block .result)) (d .loop .i) (omega arith))
-    ∙ d .loop .inv .3
-    ∙ ap (xored (d .before .before .before .args .text .now)) (d .before .block .ensures)
+xor-bytes-requires-2 : tie.Need-xor-bytes-requires-2
+xor-bytes-requires-2 c κs = search needs
+
+same-length : tie.Need-same-length
+same-length c = search needs
+
+returns : tie.Need-returns
+returns c = c .before .before .xor-bytes .ensures ∙ ap (xored (c .before .before .before .before .before .before .before .before .args .text .now)) (c .before .before .before .before .before .before .block .ensures)
+
+same-length-2 : tie.Need-same-length-2
+same-length-2 c = search needs
+
+returns-2 : tie.Need-returns-2
+returns-2 c = c .before .before .xor-bytes2 .ensures ∙ ap (xored (c .before .before .before .before .before .before .before .before .args .text .now)) (c .before .before .before .before .before .before .block .ensures)
 
 pub xor-block-spec : {M : Type 1} → statement M
 xor-block-spec =
     tie.close
     (tie.spec
-    Inv-loop
-    μ-loop
-    (λ c κs. tt)
-    loop-holds
-    (λ c. search needs)
-    (λ c. omega arith)
-    (λ c. search needs)
-    (λ c. omega arith)
-    (λ c. simp length-set (omega arith))
-    loop-again
-    (λ c. search needs)
-    returns)
+    block-requires
+    slice-aggregate-xor-bytes
+    xor-bytes-requires
+    slice-aggregate-xor-bytes-2
+    xor-bytes-requires-2
+    same-length
+    returns
+    same-length-2
+    returns-2)
