@@ -1,4 +1,4 @@
--- Label bytes by the name's length, a label put together piece by piece, and F from a prepared key.
+-- Label bytes by the name's length, labels and tokens put together piece by piece, and what valid lengths tell.
 use mathlib.Core.Path.{_≡_, refl, sym, ap, ap₂, _∙_}
 use mathlib.Core.Bool.{Bool, true, false, _||_, true≢false}
 use mathlib.Core.List.{List, [], _∷_, _++_, append-assoc}
@@ -10,8 +10,6 @@ use lib.ListN.{length, length-append, drop, set}
 use lib.Seq.{drop-drop}
 use Rattle.octets.specs.Part.{written}
 use Rattle.octets.proofs.Parts.{written-next}
-use Rattle.hmac.specs.Hmac.{F, Inner, Outer, Tag}
-use Rattle.hmac.proofs.Laws.{prepared}
 use Rattle.scheme.specs.Suite.{Suite, number8}
 use Rattle.scheme.specs.Labels.{Field, fieldLengthsBad, groups, sevens, label}
 use Rattle.scheme.specs.Keys.{KM, KC, KS, share, MTof, MEof, CLof, MT, ME, CL, insertToken}
@@ -96,10 +94,6 @@ module _ (name value to : List ℕ) where
 
 pub label-short : (name value : List ℕ) → length name ≤ 255 → length value ≤ 1024 → length (label (record { name = name; value = value })) ≤ 1281
 label-short name value h k = omega (arith, length-label name value [], length-sevens (length name) (omega arith))
-
--- F from the two hash values of a key
-pub from-prepared : (i o key m : List ℕ) → i ≡ Inner key → o ≡ Outer key → Tag i o m ≡ F key m
-from-prepared i o key m e f = ap₂ (λ (x y : List ℕ). Tag x y m) e f ∙ prepared key m
 
 -- what a field of valid lengths tells
 pub in-range : (name value : List ℕ) → fieldLengthsBad (fieldOf name value) ≡ false → (length name ≤ 255) × (length value ≤ 1024)

@@ -1,10 +1,11 @@
 -- Tags under a prepared key are the scheme's tags at the program's suite.
 use Prim.Native.Nat.{ℕ}
-use mathlib.Core.Path.{_≡_, ap₂, _∙_}
+use mathlib.Core.Path.{_≡_}
 use mathlib.Core.List.{List, _∷_}
 use Rattle.hmac.specs.declared.Keyed.{Keyed}
-use Rattle.hmac.specs.Hmac.{F, Tag}
-use Rattle.hmac.proofs.Laws.{prepared}
+use Rattle.sha256.specs.Compression.{words}
+use Rattle.hmac.specs.Hmac.{F}
+use Rattle.hmac.proofs.Laws.{from-prepared}
 use Rattle.scheme.specs.Suite.{number8}
 use Rattle.scheme.specs.Keys.{CT}
 use Rattle.scheme.specs.Store.{entryTag, counterTag, anchorTag}
@@ -16,7 +17,7 @@ use Rattle.counter.specs.Tags.{tagBy, entryTagBy, counterTagBy, anchorTa
 use Rattle.counter.specs.Walks.{counterTags, anchorTags}
 
 pub tag-by : (k : Keyed) (key m : List ℕ) → Prepared k key → tagBy k m ≡ F key m
-tag-by k key m p = ap₂ (λ (i o : List ℕ). Tag i o m) (p .inner) (p .outer) ∙ prepared key m
+tag-by k key m p = from-prepared (words (k .inner)) (words (k .outer)) key m (p .inner) (p .outer)
 
 -- [01:ST6 ST10 ST11]
 pub entry-tag-is : (k : Keyed) (mt : List ℕ) (a : Address) → Prepared k mt → entryTagBy k a ≡ entryTag program mt (a .0)

@@ -58,6 +58,10 @@ prepared key m =
     ap (λ (l : List ℕ). Digest (Final (Compress H0 (Pad 0x5c key)) 64 l)) (sym (after-block (Pad 0x36 key) m (length-pad 0x36 key)))
     ∙ sym (after-block (Pad 0x5c key) (Hash (Pad 0x36 key ++ m)) (length-pad 0x5c key))
 
+-- F from the two hash values of a key
+pub from-prepared : (i o key m : List ℕ) → i ≡ Inner key → o ≡ Outer key → Tag i o m ≡ F key m
+from-prepared i o key m e f = ap₂ (λ (x y : List ℕ). Tag x y m) e f ∙ prepared key m
+
 pub length-F : (key m : List ℕ) → length (F key m) ≡ 32
 unfolding F
 length-F key m = length-hash (Pad 0x5c key ++ Hash (Pad 0x36 key ++ m))

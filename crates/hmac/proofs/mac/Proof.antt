@@ -1,11 +1,9 @@
 -- Refused by the two lengths alone; a prepared key gives F.
-use Rattle.hmac.proofs.Laws.{prepared}
-use Rattle.hmac.specs.Hmac.{Tag, macTests, macAnswer, macTag}
+use Rattle.hmac.proofs.Laws.{from-prepared}
+use Rattle.hmac.specs.Hmac.{macTests, macAnswer, macTag}
 use borrow.Author.Tests.{lt-ltb, le-ltb}
 use lib.ListN.{length}
-use Prim.Native.Nat.{ℕ}
-use mathlib.Core.List.{List}
-use mathlib.Core.Path.{_≡_, ap₂, sym, _∙_}
+use mathlib.Core.Path.{_∙_}
 use borrow.Author.Needs.{needs}
 use Rattle.hmac.proofs.mac.Statement.{statement}
 use Rattle.hmac.proofs.mac.Tie as tie
@@ -35,8 +33,7 @@ returns-3 c =
     let message = le-ltb 65536 (length (c .before .before .before .before .before .before .before .args .message .now)) (c .before .before .before .if2 .left) in (
       simp (key, message),
       simp (key, message)
-          (c .tag .ensures ∙ ap₂ (λ (i o : List ℕ). Tag i o (c .before .before .before .before .before .before .before .args .message .now)) (c .before .before .prepare .ensures .0) (c .before .before .prepare .ensures .1)
-          ∙ prepared (c .before .before .before .before .before .before .before .args .key .now) (c .before .before .before .before .before .before .before .args .message .now)),
+          (c .tag .ensures ∙ from-prepared _ _ (c .before .before .before .before .before .before .before .args .key .now) (c .before .before .before .before .before .before .before .args .message .now) (c .before .before .prepare .ensures .0) (c .before .before .prepare .ensures .1)),
     )
 
 pub mac-spec : {M : Type 1} → statement M

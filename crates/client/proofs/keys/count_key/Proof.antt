@@ -3,7 +3,7 @@ use Rattle.suite.specs.Program.{program}
 use Rattle.scheme.specs.Keys.{KC}
 use Rattle.hmac.specs.Hmac.{F}
 use Rattle.scheme.specs.Suite.{number8}
-use Rattle.client.proofs.Laws.{from-prepared}
+use Rattle.hmac.proofs.Laws.{from-prepared}
 use Prim.Native.Nat.{ℕ}
 use mathlib.Core.List.{List}
 use mathlib.Core.Path.{ap, _∙_}

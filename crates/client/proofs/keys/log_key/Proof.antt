@@ -2,7 +2,7 @@
 use Rattle.suite.specs.Program.{program}
 use Rattle.scheme.specs.Keys.{KS}
 use Rattle.scheme.specs.Suite.{number8}
-use Rattle.client.proofs.Laws.{from-prepared}
+use Rattle.hmac.proofs.Laws.{from-prepared}
 use mathlib.Core.Path.{_∙_}
 use borrow.Author.Needs.{needs}
 use Rattle.client.proofs.keys.log_key.Statement.{statement}

@@ -1,6 +1,6 @@
 -- A prepared key gives F.
 use Rattle.scheme.specs.Suite.{number8}
-use Rattle.client.proofs.Laws.{from-prepared}
+use Rattle.hmac.proofs.Laws.{from-prepared}
 use mathlib.Core.Path.{_∙_}
 use borrow.Author.Needs.{needs}
 use Rattle.client.proofs.keys.number_once.Statement.{statement}

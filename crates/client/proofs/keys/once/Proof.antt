@@ -1,5 +1,5 @@
 -- A prepared key gives F.
-use Rattle.client.proofs.Laws.{from-prepared}
+use Rattle.hmac.proofs.Laws.{from-prepared}
 use mathlib.Core.Path.{_∙_}
 use borrow.Author.Needs.{needs}
 use Rattle.client.proofs.keys.once.Statement.{statement}
