@@ -1,0 +1,3 @@
+pub mod Log
+pub mod Treatment
+pub mod Outcome

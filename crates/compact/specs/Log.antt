@@ -1,0 +1,40 @@
+-- The CL of table S, decrypted once (document 01, "Operations", compaction): a log of 32 bytes per row of S, which is read only
+-- where that row is used, and the freeing of rows by it.
+use Prim.Native.Nat.{ℕ}
+use mathlib.Core.Path.{_≡_}
+use mathlib.Core.Bool.{Bool, false, cond, not, _&&_}
+use mathlib.Core.List.{List, [], _∷_}
+use Rattle.table.specs.Lists.{same}
+use Rattle.table.specs.Table.{Row, Table, isFree, body, zeroRow}
+use Rattle.scheme.specs.Store.{clIn}
+use Rattle.suite.specs.Program.{program}
+
+-- each element changed by the element at its index in a second list
+abbrev pub zipped : (List ℕ → List ℕ → List ℕ) → List (List ℕ) → List (List ℕ) → List (List ℕ)
+zipped f [] ys = []
+zipped f (x ∷ xs) [] = x ∷ xs
+zipped f (x ∷ xs) (y ∷ ys) = f x y ∷ zipped f xs ys
+
+-- the log after every used row was decrypted into it [01:ST12]
+abbrev pub openRow : List ℕ → List ℕ → Row → List ℕ
+openRow ks l r = cond (isFree r) l (clIn program ks (body r))
+
+abbrev pub opened : List ℕ → Table → List (List ℕ) → List (List ℕ)
+opened ks t log = zipped (openRow ks) log t
+
+-- the log holds the CL of every used row
+abbrev pub Opened : List ℕ → Table → List (List ℕ) → Type 0
+Opened ks [] log = Unit {0}
+Opened ks (r ∷ rs) [] = _≡_ {A = ℕ} 0 1
+Opened ks (r ∷ rs) (l ∷ ls) = (isFree r ≡ false → l ≡ clIn program ks (body r)) × Opened ks rs ls
+
+-- whether a row is used and its CL is the one given
+abbrev pub logs : List ℕ → Row → List ℕ → Bool
+logs cl r l = not (isFree r) && same l cl
+
+-- free the used rows whose CL is the one given [01:OP12]
+abbrev pub freeRow : List ℕ → Row → List ℕ → Row
+freeRow cl r l = cond (logs cl r l) (zeroRow 45) r
+
+abbrev pub freeLogged : List ℕ → List (List ℕ) → Table → Table
+freeLogged cl log t = zipped (freeRow cl) t log

@@ -1,0 +1,58 @@
+-- The treatment of one CL (document 01, "Operations", compaction), by what the reading gave, and the store after it.
+use Prim.Native.Nat.{ℕ, zero, _<_}
+use mathlib.Core.Path.{_≡_}
+use mathlib.Core.List.{List}
+use Rattle.table.specs.Table.{Table}
+use Rattle.scheme.specs.Reading.{reading}
+use Rattle.scheme.specs.Reading.Reading.{counter, damage}
+use Rattle.scheme.specs.Compaction.{Anchored}
+use Rattle.scheme.specs.Store.{Store}
+use Rattle.suite.specs.Program.{program}
+use Rattle.store.proofs.Tables.{Laid}
+use Rattle.compact.specs.declared.Treated.{Treated}
+use Rattle.compact.specs.declared.Treated.the-variants.{Damage, Skipped, Anchored as Written}
+use Rattle.compact.specs.Log.{freeLogged}
+
+module _ (c : ℕ) (cl nonce : List ℕ) (t after : Table) where
+  -- the reading was damage: nothing is written [01:RS13]
+  pub record Stops : Type 0 where
+    pub read : reading program c cl t ≡ damage
+    pub same : after ≡ t
+
+  -- k = 0: nothing is written [01:OP11]
+  pub record Skips : Type 0 where
+    pub B : ℕ
+    pub start : ℕ
+    pub n : ℕ
+    pub read : reading program c cl t ≡ counter B start zero n
+    pub same : after ≡ t
+
+  -- k > 0: the counters are freed and anchor B + 1 is written [01:OP11]
+  pub record Anchors (k : ℕ) : Type 0 where
+    pub B : ℕ
+    pub start : ℕ
+    pub n : ℕ
+    pub some : 0 < k
+    pub read : reading program c cl t ≡ counter B start k n
+    pub anchored : Anchored program cl nonce t B start k n after
+
+  abbrev pub Treatment : Treated → Type 0
+  Treatment Damage = Stops
+  Treatment Skipped = Skips
+  Treatment (Written k) = Anchors k
+
+-- table S after it: all rows of the CL are freed, unless damage stopped it [01:OP12 RS13]
+abbrev pub logAfter : Treated → List ℕ → List (List ℕ) → Table → Table
+logAfter Damage cl log t = t
+logAfter Skipped cl log t = freeLogged cl log t
+logAfter (Written k) cl log t = freeLogged cl log t
+
+-- the store with other tables C and S
+abbrev pub withTables : Store → Table → Table → Store
+withTables st tC tS = record { header = st .header; tM = st .tM; tV = st .tV; tC = tC; tS = tS }
+
+-- one CL treated in the store st: its table C, and the bytes after it
+pub record Stepped (m c s : ℕ) (cl nonce : List ℕ) (log : List (List ℕ)) (st : Store) (r : Treated) (after : List ℕ) : Type 0 where
+  pub tC′ : Table
+  pub treated : Treatment c cl nonce (st .tC) tC′ r
+  pub laid : Laid m c s after (withTables st tC′ (logAfter r cl log (st .tS)))
