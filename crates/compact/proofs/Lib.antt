@@ -1,2 +1,3 @@
 pub mod Logs
 pub mod Places
+pub mod Sealing

@@ -2,15 +2,25 @@
 use Prim.Native.Nat.{ℕ, zero, suc, _+_, _≤_, _<_}
 use mathlib.Core.Path.{_≡_, refl, sym, ap, ap₂, _∙_}
 use mathlib.Core.Bool.{Bool, true, false, cond}
-use mathlib.Core.List.{List, [], _∷_}
+use mathlib.Core.List.{List, [], _∷_, _++_}
 use native.Mathlib.Nat.{not-suc-le-zero, le-of-suc-le-suc}
 use native.Mathlib.Numerals.{add-one}
 use native.Mathlib.Omega.{arith}
 use lib.ListN.{length, getD, take, drop, set, drop-of-length-le}
 use lib.Seq.{drop-cons, getD-take, length-take-le}
+use Rattle.octets.proofs.Parts.{front-is}
 use Rattle.table.specs.Lists.{All}
-use Rattle.table.specs.Table.{Table, isFree, zeroRow, freeAt}
-use Rattle.table.proofs.Rows.{zero-free, place-held}
+use Rattle.table.specs.Table.{Row, Table, isFree, holds, zeroRow, freeAt}
+use Rattle.table.proofs.Rows.{zero-free, place-held, free-at-length}
+use Rattle.scheme.specs.Store.{counterTag}
+use Rattle.scheme.specs.Reading.{walk, isDamage, anchorsHeld, startOf, countersHeld, counterNumbers, reading}
+use Rattle.scheme.specs.Reading.Reading.{counter, damage}
+use Rattle.scheme.specs.Compaction.{heldPlaces, freedCounters, nextAnchor, Anchored}
+use Rattle.suite.specs.Program.{program}
+use Rattle.counter.specs.declared.Counter.{Counter}
+use Rattle.counter.specs.Outcome.{placesNoted}
+use Rattle.counter.proofs.Readings.{Bounds, reading-bounds, places-held}
+use Rattle.compact.specs.Treatment.{Noted}
 
 -- what holds of all elements holds of one
 pub all-at : (P : ℕ → Type 0) (l : List ℕ) (i : ℕ) → All P l → i < length l → P (getD l i 0)
@@ -55,3 +65,78 @@ freed-free w i is t h = go is (set t i (zeroRow w)) (set-free w t i h)
     go : (is : List ℕ) (t : Table) → isFree (getD t i []) ≡ true → isFree (getD (freeAt w is t) i []) ≡ true
     go [] t e = e
     go (j ∷ js) t e = go js (set t j (zeroRow w)) (stays-free w t i j e)
+
+-- ---- the counters that a reading held
+
+-- every number of a walk is held
+module _ (cl : List ℕ) (t : Table) where
+  abbrev held : ℕ → Bool
+  held = λ i. holds (counterTag program cl i) t
+
+  walk-inside : (bound start k : ℕ) → k ≡ walk held bound start → All (λ i. i < length t) (heldPlaces program cl t start k)
+  walk-inside bound start zero e = tt
+  walk-inside zero start (suc k) e = absurd (omega arith)
+  walk-inside (suc bound) start (suc k) e = go (held (suc start)) refl e (walk-inside bound (suc start) k)
+    where
+      go : (b : Bool) → held (suc start) ≡ b → suc k ≡ cond b (suc (walk held bound (suc start))) zero
+          → (k ≡ walk held bound (suc start) → All (λ i. i < length t) (heldPlaces program cl t (suc start) k)) → All (λ i. i < length t) (heldPlaces program cl t start (suc k))
+      go true h e f = (place-held (counterTag program cl (suc start)) t h .inside, f (omega arith))
+      go false h e f = absurd (omega arith)
+
+  held-length : (start k : ℕ) → length (heldPlaces program cl t start k) ≡ k
+  held-length start zero = refl
+  held-length start (suc k) = ap suc (held-length (suc start) k)
+
+  module _ (c b start k n : ℕ) (e : reading program c cl t ≡ counter b start k n) where
+    pub held-inside : All (λ i. i < length t) (heldPlaces program cl t start k)
+    unfolding reading countersHeld
+    held-inside = go (isDamage program c cl t) e
+      where
+        go : (d : Bool)
+            → cond d damage (counter (anchorsHeld program c cl t) (startOf program c cl t) (walk held c (startOf program c cl t)) (counterNumbers program c cl t .n)) ≡ counter b start k n
+            → All (λ i. i < length t) (heldPlaces program cl t start k)
+        go true e = absurd (let z : _≡_ {A = ℕ} 0 1 = cc in omega arith)
+        go false e =
+            let s : startOf program c cl t ≡ start = cc in
+            let w : walk held c (startOf program c cl t) ≡ k = cc in
+            walk-inside c start k (sym w ∙ ap (walk held c) s)
+
+    -- the places that the reading noted
+    pub noted-held : (old list : List ℕ) → list ≡ placesNoted c cl t old → take k list ≡ heldPlaces program cl t start k
+    noted-held old list f =
+        front-is k (heldPlaces program cl t start k) (drop k old) list (sym (held-length start k)) (f ∙ places-held c cl t b start k n old (sym e))
+
+-- ---- the anchor
+
+module _ (c : ℕ) (cl : List ℕ) (t : Table) (z : Counter) (places : List ℕ) (h : Noted c cl t z places) where
+  pub noted-bounds : Bounds c (z .b .0) (z .start .0) (z .k) (z .count)
+  noted-bounds = reading-bounds c cl t (z .b .0) (z .start .0) (z .k) (z .count) (sym (h .read))
+
+  pub noted-inside : (n : ℕ) → length t ≡ n → All (λ i. i < n) (take (z .k) places)
+  noted-inside n l = rw (h .held, ← l) (held-inside cl t c (z .b .0) (z .start .0) (z .k) (z .count) (h .read))
+
+  pub noted-first : (n : ℕ) → length t ≡ n → getD places 0 0 < n
+  noted-first n l = place-at 61 places (z .k) 0 (h .long) n (h .some) (noted-inside n l)
+
+  first-freed : isFree (getD (freedCounters program cl t (z .start .0) (z .k)) (getD places 0 0) []) ≡ true
+  unfolding freedCounters
+  first-freed =
+      ap (λ (l : List ℕ). isFree (getD (freeAt 61 l t) (getD places 0 0) [])) (sym (h .held)) ∙ go (z .k) places (h .some) (h .long) (noted-first (length t) refl)
+    where
+      go : (k : ℕ) (l : List ℕ) → 0 < k → k ≤ length l → getD l 0 0 < length t → isFree (getD (freeAt 61 (take k l) t) (getD l 0 0) []) ≡ true
+      go zero l s m i = absurd (not-suc-le-zero s)
+      go (suc k) [] s m i = absurd (not-suc-le-zero m)
+      go (suc k) (x ∷ xs) s m i = freed-free 61 x (take k xs) t i
+
+  -- the counters freed, then the anchor put where the first of them stood [01:OP11]
+  pub anchored-is : (nonce : List ℕ) (freed after : Table) (row : Row) → freed ≡ freeAt 61 (take (z .k) places) t → row ≡ nextAnchor program cl nonce (z .b .0) (z .start .0) (z .k) (z .count)
+      → after ≡ set freed (getD places 0 0) row → Anchored program cl nonce t (z .b .0) (z .start .0) (z .k) (z .count) after
+  unfolding freedCounters
+  anchored-is nonce freed after row f r p = record {
+    placed = record {
+      at = getD places 0 0;
+      inside = rw (free-at-length 61 (heldPlaces program cl t (z .start .0) (z .k)) t) (noted-first (length t) refl);
+      free = first-freed;
+      put = p ∙ ap₂ (λ (l : Table) (x : Row). set l (getD places 0 0) x) (f ∙ ap (λ (l : List ℕ). freeAt 61 l t) (h .held)) r;
+    };
+  }

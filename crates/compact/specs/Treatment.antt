@@ -1,17 +1,26 @@
 -- The treatment of one CL (document 01, "Operations", compaction), by what the reading gave, and the store after it.
-use Prim.Native.Nat.{ℕ, zero, _<_}
+use Prim.Native.Nat.{ℕ, zero, _≤_, _<_}
 use mathlib.Core.Path.{_≡_}
 use mathlib.Core.List.{List}
+use lib.ListN.{length, take}
 use Rattle.table.specs.Table.{Table}
 use Rattle.scheme.specs.Reading.{reading}
 use Rattle.scheme.specs.Reading.Reading.{counter, damage}
-use Rattle.scheme.specs.Compaction.{Anchored}
+use Rattle.scheme.specs.Compaction.{Anchored, heldPlaces}
 use Rattle.scheme.specs.Store.{Store}
 use Rattle.suite.specs.Program.{program}
 use Rattle.store.proofs.Tables.{Laid}
+use Rattle.counter.specs.declared.Counter.{Counter}
 use Rattle.compact.specs.declared.Treated.{Treated}
 use Rattle.compact.specs.declared.Treated.the-variants.{Damage, Skipped, Anchored as Written}
 use Rattle.compact.specs.Log.{freeLogged}
+
+-- what a reading of table C gave, with k > 0, and the places of the counters that it held
+pub record Noted (c : ℕ) (cl : List ℕ) (t : Table) (z : Counter) (places : List ℕ) : Type 0 where
+  pub read : reading program c cl t ≡ counter (z .b .0) (z .start .0) (z .k) (z .count)
+  pub some : 0 < z .k
+  pub long : z .k ≤ length places
+  pub held : take (z .k) places ≡ heldPlaces program cl t (z .start .0) (z .k)
 
 module _ (c : ℕ) (cl nonce : List ℕ) (t after : Table) where
   -- the reading was damage: nothing is written [01:RS13]

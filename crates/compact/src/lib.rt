@@ -2,15 +2,27 @@
 // 01, "Operations"). The store's tables C and S alone are changed.
 ghost use mathlib.Core.Path.{_≡_};
 ghost use mathlib.Core.Bool.{not};
-ghost use mathlib.Core.List.{List, []};
+ghost use mathlib.Core.List.{List, [], _∷_, _++_};
 ghost use Prim.Native.Nat.{ℕ, _+_, _*_, _≤_, _<_};
 ghost use lib.ListN.{length, getD, take};
+ghost use Rattle.chacha20.specs.Cipher.{E};
 ghost use Rattle.table.specs.Lists.{All};
 ghost use Rattle.table.specs.Table.{rows, isFree, body, freeAt};
-ghost use Rattle.scheme.specs.Store.{clIn};
+ghost use Rattle.scheme.specs.Suite.{number8};
+ghost use Rattle.scheme.specs.Store.{Store, clIn, anchorRow};
+ghost use Rattle.scheme.specs.Compaction.{Anchored};
 ghost use Rattle.suite.specs.Program.{program};
+ghost use Rattle.store.proofs.Tables.{Laid};
+ghost use Rattle.counter.specs.Tags.{KeysOf};
+ghost use Rattle.counter.specs.Outcome.{placesNoted};
 ghost use Rattle.compact.specs.Log.{opened, logs, freeLogged};
+ghost use Rattle.compact.specs.Treatment.{Noted, Treatment, Stepped};
 use answer::Refusal;
+use counter::AnchorNumber;
+use counter::Counter;
+use counter::Keys;
+use counter::Position;
+use counter::Reading;
 
 // How many anchors were written and counters freed. [01:OP13]
 pub struct Tally {
@@ -121,4 +133,87 @@ fn free_places(t: &mut [u8], c: usize, places: &[u16], k: usize)
         table::clear_row(t, 61, c, places[j] as usize);
         j += 1;
     }
+}
+
+// A row of C: mark, tag, nonce, and 16 bytes under a key. [01:ST9]
+fn sealed_row(tag: &[u8], key: &[u8], nonce: &[u8], plain: &[u8]) -> [u8; 61]
+    requires { ⌜ ((length (now tag) ≡ 32) × (length (now key) ≡ 32)) × ((length (now nonce) ≡ 12) × (length (now plain) ≡ 16)) ⌝ }
+    ensures { λ r. ⌜ r ≡ 1 ∷ now (tag .entry) ++ (now (nonce .entry) ++ E (now (key .entry)) (now (nonce .entry)) (now (plain .entry))) ⌝ }
+{
+    let mut text = [0u8; 16];
+    octets::copy(&mut text, plain);
+    chacha20::apply_short(key, nonce, &mut text);
+    let mut row = [1u8; 61];
+    octets::copy_at(&mut row, 1, tag);
+    octets::copy_at(&mut row, 33, nonce);
+    octets::copy_at(&mut row, 45, &text);
+    row
+}
+
+// The plaintext of a row of C: two numbers. [01:ST9]
+fn put_numbers(to: &mut [u8], a: u64, n: u64)
+    requires { ⌜ length (now to) ≡ 16 ⌝ }
+    ensures { λ _. ⌜ now (to .exit) ≡ number8 a ++ number8 n ⌝ }
+{
+    octets::put(&mut to[0..8], a);
+    octets::put(&mut to[8..16], n);
+}
+
+// The anchor row of a number, of CL, whose keys are given: position, then count. [01:ST11]
+fn anchor_row(
+    keys: Keys,
+    cl: &[u8; 32],
+    b: AnchorNumber,
+    nonce: &[u8],
+    a: Position,
+    count: u64,
+) -> [u8; 61]
+    requires { ⌜ KeysOf keys (now cl) × (length (now nonce) ≡ 12) ⌝ }
+    ensures { λ r. ⌜ r ≡ anchorRow program (now (cl .entry)) (b .0) (now (nonce .entry)) (a .0) count ⌝ }
+{
+    let ct = keys.ct;
+    let ce = keys.ce;
+    let tag = counter::anchor_tag(ct, b);
+    let mut plain = [0u8; 16];
+    put_numbers(&mut plain, a.0, count);
+    sealed_row(&tag, &ce, nonce, &plain)
+}
+
+// Frees the counters that the reading held, and writes anchor B + 1 where the first of them stood.
+// [01:OP11]
+fn anchor(
+    t: &mut [u8],
+    c: usize,
+    cl: &[u8; 32],
+    keys: Keys,
+    nonce: &[u8],
+    z: Counter,
+    places: &[u16],
+)
+    requires { ⌜ ((length (now t) ≡ 61 * c) × (c ≤ 4096)) × ((KeysOf keys (now cl) × (length (now nonce) ≡ 12)) × Noted c (now cl) (rows 61 c (now t)) z (now places)) ⌝ }
+    ensures { λ _. ⌜ Anchored program (now (cl .entry)) (now (nonce .entry)) (rows 61 c (now (t .entry))) (z .b .0) (z .start .0) (z .k) (z .count) (rows 61 c (now (t .exit))) ⌝ }
+{
+    free_places(t, c, places, z.k as usize);
+    let number = AnchorNumber(z.b.0 + 1);
+    let position = Position(z.start.0 + z.k);
+    let row = anchor_row(keys, cl, number, nonce, position, z.count);
+    table::put_row(t, 61, c, places[0] as usize, &row);
+}
+
+// Treats one CL: with k > 0 its counters give way to an anchor under the nonce, with k = 0 nothing is
+// written. The keys of the CL are made once, and each counter's tag once. [01:OP11]
+pub fn treat(t: &mut [u8], c: usize, cl: &[u8; 32], nonce: &[u8], places: &mut [u16]) -> Treated
+    requires { ⌜ ((length (now t) ≡ 61 * c) × (c ≤ length (now places))) × ((c ≤ 4096) × (length (now nonce) ≡ 12)) ⌝ }
+    ensures { λ r. ⌜ Treatment c (now (cl .entry)) (now (nonce .entry)) (rows 61 c (now (t .entry))) (rows 61 c (now (t .exit))) r ⌝ }
+    ensures { λ _. ⌜ now (places .exit) ≡ placesNoted c (now (cl .entry)) (rows 61 c (now (t .entry))) (now (places .entry)) ⌝ }
+{
+    let keys = counter::keys_of(cl);
+    let Reading::Counter(z) = counter::read_by(t, c, cl, keys, places) else {
+        return Treated::Damage;
+    };
+    if z.k == 0 {
+        return Treated::Skipped;
+    }
+    anchor(t, c, cl, keys, nonce, z, places);
+    Treated::Anchored(z.k)
 }
