@@ -1,3 +1,4 @@
 pub mod Logs
 pub mod Places
 pub mod Sealing
+pub mod Turns

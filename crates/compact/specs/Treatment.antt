@@ -1,6 +1,7 @@
 -- The treatment of one CL (document 01, "Operations", compaction), by what the reading gave, and the store after it.
-use Prim.Native.Nat.{ℕ, zero, _≤_, _<_}
+use Prim.Native.Nat.{ℕ, zero, _+_, _≤_, _<_}
 use mathlib.Core.Path.{_≡_}
+use mathlib.Core.Bool.{Bool, true, false, cond}
 use mathlib.Core.List.{List}
 use lib.ListN.{length, take}
 use Rattle.table.specs.Table.{Table}
@@ -11,6 +12,7 @@ use Rattle.scheme.specs.Store.{Store}
 use Rattle.suite.specs.Program.{program}
 use Rattle.store.proofs.Tables.{Laid}
 use Rattle.counter.specs.declared.Counter.{Counter}
+use Rattle.compact.specs.declared.Tally.{Tally}
 use Rattle.compact.specs.declared.Treated.{Treated}
 use Rattle.compact.specs.declared.Treated.the-variants.{Damage, Skipped, Anchored as Written}
 use Rattle.compact.specs.Log.{freeLogged}
@@ -50,18 +52,32 @@ module _ (c : ℕ) (cl nonce : List ℕ) (t after : Table) where
   Treatment Skipped = Skips
   Treatment (Written k) = Anchors k
 
--- table S after it: all rows of the CL are freed, unless damage stopped it [01:OP12 RS13]
-abbrev pub logAfter : Treated → List ℕ → List (List ℕ) → Table → Table
-logAfter Damage cl log t = t
-logAfter Skipped cl log t = freeLogged cl log t
-logAfter (Written k) cl log t = freeLogged cl log t
+-- whether damage stops the compaction [01:RS13]
+abbrev pub stops : Treated → Bool
+stops Damage = true
+stops Skipped = false
+stops (Written k) = false
+
+-- anchors written and counters freed [01:OP13]
+abbrev pub anchorsIn : Treated → ℕ
+anchorsIn Damage = 0
+anchorsIn Skipped = 0
+anchorsIn (Written k) = 1
+
+abbrev pub countersIn : Treated → ℕ
+countersIn Damage = 0
+countersIn Skipped = 0
+countersIn (Written k) = k
+
+abbrev pub tallyAfter : Tally → Treated → Tally
+tallyAfter t r = record { anchors = t .anchors + anchorsIn r; counters = t .counters + countersIn r }
 
 -- the store with other tables C and S
 abbrev pub withTables : Store → Table → Table → Store
 withTables st tC tS = record { header = st .header; tM = st .tM; tV = st .tV; tC = tC; tS = tS }
 
--- one CL treated in the store st: its table C, and the bytes after it
+-- one CL treated in the store st: its table C, and the bytes after it; all rows of the CL are freed unless damage stopped it [01:OP12 RS13]
 pub record Stepped (m c s : ℕ) (cl nonce : List ℕ) (log : List (List ℕ)) (st : Store) (r : Treated) (after : List ℕ) : Type 0 where
   pub tC′ : Table
   pub treated : Treatment c cl nonce (st .tC) tC′ r
-  pub laid : Laid m c s after (withTables st tC′ (logAfter r cl log (st .tS)))
+  pub laid : Laid m c s after (withTables st tC′ (cond (stops r) (st .tS) (freeLogged cl log (st .tS))))

@@ -16,7 +16,9 @@ ghost use Rattle.store.proofs.Tables.{Laid};
 ghost use Rattle.counter.specs.Tags.{KeysOf};
 ghost use Rattle.counter.specs.Outcome.{placesNoted};
 ghost use Rattle.compact.specs.Log.{opened, logs, freeLogged};
-ghost use Rattle.compact.specs.Treatment.{Noted, Treatment, Stepped};
+ghost use Rattle.compact.specs.Log.{Opened};
+ghost use Rattle.compact.specs.Outcome.{compactionAnswer};
+ghost use Rattle.compact.specs.Treatment.{Noted, Treatment, Stepped, stops, countersIn, tallyAfter};
 use answer::Refusal;
 use counter::AnchorNumber;
 use counter::Counter;
@@ -216,4 +218,57 @@ pub fn treat(t: &mut [u8], c: usize, cl: &[u8; 32], nonce: &[u8], places: &mut [
     }
     anchor(t, c, cl, keys, nonce, z, places);
     Treated::Anchored(z.k)
+}
+
+// Whether damage stops the compaction.
+fn stopped(r: Treated) -> bool
+    ensures { λ b. ⌜ b ≡ stops r ⌝ }
+{
+    match r {
+        Treated::Damage => true,
+        Treated::Skipped => false,
+        Treated::Anchored(_) => false,
+    }
+}
+
+// The tally after one CL more. [01:OP13]
+fn added(t: Tally, r: Treated) -> Tally
+    requires { ⌜ (t .anchors ≤ 4096) × ((t .counters ≤ 4096 * 4096) × (countersIn r ≤ 4096)) ⌝ }
+    ensures { λ u. ⌜ u ≡ tallyAfter t r ⌝ }
+{
+    match r {
+        Treated::Damage => t,
+        Treated::Skipped => t,
+        Treated::Anchored(k) => Tally {
+            anchors: t.anchors + 1,
+            counters: t.counters + k,
+        },
+    }
+}
+
+// Treats the CL of a row in the log: its counters in table C, then its rows in table S, unless damage
+// stops it. [01:OP11 OP12]
+fn step(
+    store: &mut [u8],
+    m: usize,
+    c: usize,
+    s: usize,
+    log: &[u8],
+    i: usize,
+    nonce: &[u8],
+) -> Treated
+    requires { ⌜ ((length (now store) ≡ 8 + 110 * m + 61 * c + 45 * s) × (c ≤ 4096)) × ((i < s) × ((length (now log) ≡ 32 * s) × (length (now nonce) ≡ 12))) ⌝ }
+    ensures { λ r. ⌜ ((st : Store) → Laid m c s (now (store .entry)) st → Stepped m c s (getD (rows 32 s (now (log .entry))) i []) (now (nonce .entry)) (rows 32 s (now (log .entry))) st r (now (store .exit))) ⌝ }
+{
+    let a = 8 + 110 * m;
+    let b = a + 61 * c;
+    let e = b + 45 * s;
+    let cl = cl_at(log, s, i);
+    let mut places = [0u16; 4096];
+    let r = treat(&mut store[a..b], c, &cl, nonce, &mut places);
+    if stopped(r) {
+        return r;
+    }
+    free_log(&mut store[b..e], s, log, &cl);
+    r
 }
