@@ -2,3 +2,4 @@ pub mod Logs
 pub mod Places
 pub mod Sealing
 pub mod Turns
+pub mod Running

@@ -3,20 +3,20 @@
 ghost use mathlib.Core.Path.{_≡_};
 ghost use mathlib.Core.Bool.{not};
 ghost use mathlib.Core.List.{List, [], _∷_, _++_};
-ghost use Prim.Native.Nat.{ℕ, _+_, _*_, _≤_, _<_};
+ghost use Prim.Native.Nat.{ℕ, _+_, _*_, _/_, _≤_, _<_};
 ghost use lib.ListN.{length, getD, take};
 ghost use Rattle.chacha20.specs.Cipher.{E};
 ghost use Rattle.table.specs.Lists.{All};
-ghost use Rattle.table.specs.Table.{rows, isFree, body, freeAt};
+ghost use Rattle.table.specs.Table.{rows, isFree, body, used, freeAt};
 ghost use Rattle.scheme.specs.Suite.{number8};
-ghost use Rattle.scheme.specs.Store.{Store, clIn, anchorRow};
-ghost use Rattle.scheme.specs.Compaction.{Anchored};
+ghost use Rattle.scheme.specs.Store.{Store, cut, clIn, anchorRow};
+ghost use Rattle.scheme.specs.Compaction.{Anchored, Compacted};
 ghost use Rattle.suite.specs.Program.{program};
+ghost use Rattle.store.specs.Check.{checkedOf};
 ghost use Rattle.store.proofs.Tables.{Laid};
 ghost use Rattle.counter.specs.Tags.{KeysOf};
 ghost use Rattle.counter.specs.Outcome.{placesNoted};
 ghost use Rattle.compact.specs.Log.{opened, logs, freeLogged};
-ghost use Rattle.compact.specs.Log.{Opened};
 ghost use Rattle.compact.specs.Outcome.{compactionAnswer};
 ghost use Rattle.compact.specs.Treatment.{Noted, Treatment, Stepped, stops, countersIn, tallyAfter};
 use answer::Refusal;
@@ -25,6 +25,8 @@ use counter::Counter;
 use counter::Keys;
 use counter::Position;
 use counter::Reading;
+use store::Checked;
+use store::Shape;
 
 // How many anchors were written and counters freed. [01:OP13]
 pub struct Tally {
@@ -271,4 +273,36 @@ fn step(
     }
     free_log(&mut store[b..e], s, log, &cl);
     r
+}
+
+// Decrypts S into the log, and treats the distinct CL in the order of their first rows: the rows of a
+// CL are freed with it, so that a row that is still used when its turn comes has the next one. Damage
+// stops it. [01:OP10 OP13 RS13]
+fn treat_all(store: &mut [u8], z: Shape, nonces: &[u8], token: &[u8], log: &mut [u8]) -> Compaction
+    requires { ⌜ ((checkedOf (now store) ≡ Checked.Fit z) × (length (used (cut (now store) .tS)) ≤ length (now nonces) / 12)) × ((length (now token) ≡ 32) × (length (now log) ≡ 32 * z .s)) ⌝ }
+    ensures { λ r. ⌜ Compacted program (now (store .entry)) (now (nonces .entry)) (now (token .entry)) (compactionAnswer r) (now (store .exit)) ⌝ }
+    ensures { λ _. ⌜ rows 32 (z .s) (now (log .exit)) ≡ opened (now (token .entry)) (cut (now (store .entry)) .tS) (rows 32 (z .s) (now (log .entry))) ⌝ }
+{
+    let s = z.s;
+    let b = 8 + 110 * z.m + 61 * z.c;
+    let e = b + 45 * s;
+    open_log(&store[b..e], s, token, log);
+    let mut t = Tally {
+        anchors: 0,
+        counters: 0,
+    };
+    let mut i = 0;
+    while i < s {
+        if is_used(&store[b..e], s, i) {
+            let from = 12 * t.anchors as usize;
+            let to = from + 12;
+            let r = step(store, z.m, z.c, s, log, i, &nonces[from..to]);
+            if stopped(r) {
+                return Compaction::Damage(t);
+            }
+            t = added(t, r);
+        }
+        i += 1;
+    }
+    Compaction::Done(t)
 }
