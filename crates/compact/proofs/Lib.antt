@@ -3,3 +3,4 @@ pub mod Places
 pub mod Sealing
 pub mod Turns
 pub mod Running
+pub mod Verdicts

@@ -5,7 +5,8 @@ use mathlib.Core.Bool.{Bool, true, false, cond, true≢false}
 use mathlib.Core.List.{List, [], _∷_}
 use native.Mathlib.Nat.{add-zero}
 use native.Mathlib.Omega.{arith}
-use lib.ListN.{length, take, drop}
+use lib.ListN.{length, take, drop, replicate, length-replicate}
+use Rattle.octets.proofs.Parts.{length-part}
 use Rattle.octets.specs.Part.{back}
 use Rattle.table.specs.Table.{Table, rows}
 use Rattle.scheme.specs.Store.{Store}
@@ -23,6 +24,14 @@ tally-same t r a k =
     let p = sym (add-zero (t .anchors)) ∙ ap (λ (n : ℕ). t .anchors + n) (sym a) in
     let q = sym (add-zero (t .counters)) ∙ ap (λ (n : ℕ). t .counters + n) (sym k) in
     λ i. record { anchors = p i; counters = q i }
+
+-- ---- room for the log
+
+pub room : (k n : ℕ) → n ≤ k → n ≤ length {A = ℕ} (replicate k 0)
+room k n h = subst (λ (m : ℕ). n ≤ m) (sym (length-replicate {A = ℕ} k 0)) h
+
+pub room-long : (k n : ℕ) → n ≤ k → length {A = ℕ} (take (n - 0) (drop 0 (replicate k 0))) ≡ n
+room-long k n h = length-part (replicate k 0) 0 n (room k n h) ∙ (let e : n - 0 ≡ n = omega arith in e)
 
 -- ---- one CL in the store
 

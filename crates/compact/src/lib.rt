@@ -10,7 +10,7 @@ ghost use Rattle.table.specs.Lists.{All};
 ghost use Rattle.table.specs.Table.{rows, isFree, body, used, freeAt};
 ghost use Rattle.scheme.specs.Suite.{number8};
 ghost use Rattle.scheme.specs.Store.{Store, cut, clIn, anchorRow};
-ghost use Rattle.scheme.specs.Compaction.{Anchored, Compacted};
+ghost use Rattle.scheme.specs.Compaction.{Anchored, Compacted, Compact};
 ghost use Rattle.suite.specs.Program.{program};
 ghost use Rattle.store.specs.Check.{checkedOf};
 ghost use Rattle.store.proofs.Tables.{Laid};
@@ -305,4 +305,37 @@ fn treat_all(store: &mut [u8], z: Shape, nonces: &[u8], token: &[u8], log: &mut 
         i += 1;
     }
     Compaction::Done(t)
+}
+
+// Treats all CL, with room for the log of as many rows as a store can have.
+fn treat_logged(store: &mut [u8], z: Shape, nonces: &[u8], token: &[u8]) -> Compaction
+    requires { ⌜ ((checkedOf (now store) ≡ Checked.Fit z) × (length (used (cut (now store) .tS)) ≤ length (now nonces) / 12)) × (length (now token) ≡ 32) ⌝ }
+    ensures { λ r. ⌜ Compacted program (now (store .entry)) (now (nonces .entry)) (now (token .entry)) (compactionAnswer r) (now (store .exit)) ⌝ }
+{
+    let mut log = [0u8; 131072];
+    let n = 32 * z.s;
+    treat_all(store, z, nonces, token, &mut log[0..n])
+}
+
+// Compaction, refused by 4, 6, 10, 11 and 19, which leave the store as it was; or stopped by 13, with
+// the CL before it treated. [01:OP10 OP11 OP12 OP13 RI5 RI7 RS2 RS3 RS5 RS13]
+pub fn compact(store: &mut [u8], nonces: &[u8], token: &[u8]) -> Compaction
+    ensures { λ r. ⌜ Compact program (now (store .entry)) (now (nonces .entry)) (now (token .entry)) (compactionAnswer r) (now (store .exit)) ⌝ }
+{
+    if nonces.len() % 12 != 0 {
+        return Compaction::Refused(Refusal::NonceLength);
+    }
+    if token.len() != 32 {
+        return Compaction::Refused(Refusal::TokenLength);
+    }
+    let checked = store::sizes(store);
+    match checked {
+        Checked::Refused(r) => Compaction::Refused(r),
+        Checked::Fit(z) => {
+            if nonces.len() / 12 < z.s - z.free.s {
+                return Compaction::Refused(Refusal::NonceCount);
+            }
+            treat_logged(store, z, nonces, token)
+        }
+    }
 }
