@@ -10,6 +10,7 @@ ghost use Rattle.table.specs.Lists.{All};
 ghost use Rattle.table.specs.Table.{rows, isFree, body, used, freeAt};
 ghost use Rattle.scheme.specs.Suite.{number8};
 ghost use Rattle.scheme.specs.Store.{Store, cut, clIn, anchorRow};
+ghost use Rattle.scheme.specs.Reading.{limit};
 ghost use Rattle.scheme.specs.Compaction.{Anchored, Compacted, Compact};
 ghost use Rattle.suite.specs.Program.{program};
 ghost use Rattle.store.specs.Check.{checkedOf};
@@ -183,6 +184,25 @@ fn anchor_row(
     sealed_row(&tag, &ce, nonce, &plain)
 }
 
+// What the next anchor says.
+struct NextAnchor {
+    number: AnchorNumber,
+    position: Position,
+    count: u64,
+}
+
+// Anchor B + 1 takes over the position Start + k, and the count. [01:OP11]
+fn next_anchor(z: Counter) -> NextAnchor
+    requires { ⌜ (z .b .0 ≤ 4096) × ((z .start .0 ≤ limit) × (z .k ≤ 4096)) ⌝ }
+    ensures { λ r. ⌜ (r .number .0 ≡ z .b .0 + 1) × ((r .position .0 ≡ z .start .0 + z .k) × (r .count ≡ z .count)) ⌝ }
+{
+    NextAnchor {
+        number: AnchorNumber(z.b.0 + 1),
+        position: Position(z.start.0 + z.k),
+        count: z.count,
+    }
+}
+
 // Frees the counters that the reading held, and writes anchor B + 1 where the first of them stood.
 // [01:OP11]
 fn anchor(
@@ -198,9 +218,8 @@ fn anchor(
     ensures { λ _. ⌜ Anchored program (now (cl .entry)) (now (nonce .entry)) (rows 61 c (now (t .entry))) (z .b .0) (z .start .0) (z .k) (z .count) (rows 61 c (now (t .exit))) ⌝ }
 {
     free_places(t, c, places, z.k as usize);
-    let number = AnchorNumber(z.b.0 + 1);
-    let position = Position(z.start.0 + z.k);
-    let row = anchor_row(keys, cl, number, nonce, position, z.count);
+    let next = next_anchor(z);
+    let row = anchor_row(keys, cl, next.number, nonce, next.position, next.count);
     table::put_row(t, 61, c, places[0] as usize, &row);
 }
 

@@ -4,7 +4,9 @@ use mathlib.Core.Path.{_≡_, refl, _∙_}
 use native.Mathlib.Omega.{arith}
 use Rattle.table.specs.Table.{rows}
 use Rattle.table.proofs.Rows.{rows-length}
+use Rattle.scheme.specs.Store.{anchorRow}
 use Rattle.scheme.specs.Compaction.{nextAnchor}
+use Rattle.suite.specs.Program.{program}
 use Rattle.counter.proofs.Readings.{Bounds}
 use Rattle.compact.proofs.Places.{noted-bounds, noted-inside, noted-first, anchored-is}
 use borrow.Author.Needs.{needs}
@@ -20,30 +22,32 @@ free-places-requires c κs =
     let a = s .args in
     (s .pre .0 .0, (s .pre .1 .1 .long, noted-inside (a .c) (a .cl .now) (rows 61 (a .c) (a .t .now)) (a .z) (a .places .now) (s .pre .1 .1) (a .c) (rows-length 61 (a .c) (a .t .now))))
 
-add-number : tie.Need-add-t15
-add-number c = omega (arith, bounds (c .before .before .before .before .before .before .before .before))
-
-add-position : tie.Need-add-t15-2
-add-position c = omega (arith, bounds (c .before .before .before .before .before .before .before .before .before))
+next-anchor-requires : tie.Need-next-anchor-requires
+next-anchor-requires c κs = let s = c .before .before .before .before .before .before .before in omega (arith, bounds s, s .pre .0 .1)
 
 cast-put-row : tie.Need-cast-put-row
 cast-put-row c = omega (arith, c .shared-slice-known3 .given 0)
 
 put-row-requires : tie.Need-put-row-requires
 put-row-requires c κs =
-    let s = c .before .before .before .before .before .before .before .before .before .before .before .before .before in
-    let a = s .args in
-    (noted-first (a .c) (a .cl .now) (rows 61 (a .c) (a .t .now)) (a .z) (a .places .now) (s .pre .1 .1) (a .c) (rows-length 61 (a .c) (a .t .now)), (search needs, c .before .before .before .before .before .before .before .before .free-places .kept .0 ∙ s .pre .0 .0))
+    let s = c .before .before .before .before .before .before .before .before .before .before .before .before in
+    let a = s .args in (
+      noted-first (a .c) (a .cl .now) (rows 61 (a .c) (a .t .now)) (a .z) (a .places .now) (s .pre .1 .1) (a .c) (rows-length 61 (a .c) (a .t .now)),
+      (search needs, c .before .before .before .before .before .before .before .free-places .kept .0 ∙ s .pre .0 .0),
+    )
 
 returns : tie.Need-returns
 unfolding nextAnchor
 returns c =
-    let s = c .before .before .before .before .before .before .before .before .before .before .before .before .before .before .before .before in
+    let r = c .before .before .before .before .before .before in
+    let n = r .before .next-anchor .ensures in
+    let f = r .before .before .before .before in
+    let s = f .before .before .before .before .before in
     let a = s .args in
-    anchored-is (a .c) (a .cl .now) (rows 61 (a .c) (a .t .now)) (a .z) (a .places .now) (s .pre .1 .1) (a .nonce .now) (rows 61 (a .c) (c .before .before .before .before .before .before .before .before .before .before .before .free-places .last .0)) (rows 61 (a .c) (c .before .before .put-row .last .0)) (c .before .before .before .before .before .before .anchor-row .result)
-    (c .before .before .before .before .before .before .before .before .before .before .before .free-places .ensures) (c .before .before .before .before .before .before .anchor-row .ensures) (c .before .before .put-row .ensures)
+    anchored-is (a .c) (a .cl .now) (rows 61 (a .c) (a .t .now)) (a .z) (a .places .now) (s .pre .1 .1) (a .nonce .now) (rows 61 (a .c) (f .free-places .last .0)) (rows 61 (a .c) (c .before .before .put-row .last .0)) (r .anchor-row .result)
+    (f .free-places .ensures) (r .anchor-row .ensures ∙ λ j. anchorRow program (a .cl .now) (n .0 j) (a .nonce .now) (n .1 .0 j) (n .1 .1 j)) (c .before .before .put-row .ensures)
 
 pub anchor-spec : {M : Type 1} → statement M
 anchor-spec =
     tie.close
-    (tie.spec free-places-requires add-number add-position (λ c κs. search needs) (λ c. search needs) cast-put-row (λ c. search needs) put-row-requires (λ c. search needs) returns)
+    (tie.spec free-places-requires next-anchor-requires (λ c κs. search needs) (λ c. search needs) cast-put-row (λ c. search needs) put-row-requires (λ c. search needs) returns)
