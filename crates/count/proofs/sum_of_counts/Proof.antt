@@ -28,7 +28,7 @@ returns c =
     let l = r .before .before .loop in
     let a = r .before .before .before .before .args in
     let f = shareRead (a .clx) (a .c) (rows 61 (a .c) (a .t .now)) in
-    sum-damage f (a .p) (summed-damage f (l .u) (a .p) (r .before .loop-test .taken) (sym (ap readingOf (c .enum-told .given .1)) ∙ r .read-share .ensures))
+    sum-damage f (a .p) (summed-damage f (l .u) (a .p) (omega (arith, r .before .loop-test .taken)) (sym (ap readingOf (c .enum-told .given .1)) ∙ r .read-share .ensures))
 
 -- one share more
 more : (c : tie.After-struct-known Inv-loop μ-loop) →
