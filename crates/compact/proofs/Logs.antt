@@ -16,7 +16,7 @@ use Rattle.table.proofs.Walk.{body-field, body-tail}
 use Rattle.scheme.specs.Store.{clIn}
 use Rattle.scheme.specs.Compaction.{freeLog}
 use Rattle.suite.specs.Program.{program}
-use Rattle.compact.specs.Log.{zipped, openRow, opened, Opened, logs, freeRow, freeLogged}
+use Rattle.compact.specs.Log.{zipped, opened, freeLogged}
 
 -- ---- going through two lists
 
@@ -89,6 +89,12 @@ cl-opened ks t s i h =
     ap₂ (λ (n x : List ℕ). E ks n x)
     (ap (λ (k : ℕ). take k (drop (45 * i + 1) t)) (let e : 45 * i + 13 - (45 * i + 1) ≡ 12 = omega arith in e) ∙ sym (body-field 45 s i 0 12 t h (lit≤ tt)))
     (ap (λ (k : ℕ). take k (drop (45 * i + 13) t)) (let e : 45 * i + 45 - (45 * i + 13) ≡ 32 = omega arith in e) ∙ sym (body-tail 45 s i 12 t h))
+
+-- the log holds the CL of every used row
+abbrev pub Opened : List ℕ → Table → List (List ℕ) → Type 0
+Opened ks [] log = Unit {0}
+Opened ks (r ∷ rs) [] = _≡_ {A = ℕ} 0 1
+Opened ks (r ∷ rs) (l ∷ ls) = (isFree r ≡ false → l ≡ clIn program ks (body r)) × Opened ks rs ls
 
 module _ (ks : List ℕ) where
   pub opened-is : (t : Table) (log : List (List ℕ)) → length t ≤ length log → Opened ks t (opened ks t log)

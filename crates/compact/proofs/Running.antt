@@ -1,21 +1,21 @@
 -- The walk over table S: what is left decides. The rows before row i are free, so a used row i has the next distinct CL.
 use Prim.Native.Nat.{ℕ, zero, suc, _+_, _-_, _*_, _/_, _≤_, _<_}
 use mathlib.Core.Path.{_≡_, refl, sym, ap, subst, _∙_}
-use mathlib.Core.Bool.{Bool, true, false, cond, not, _&&_, true≢false}
+use mathlib.Core.Bool.{Bool, true, false, cond, not, true≢false}
 use mathlib.Core.List.{List, [], _∷_, map}
-use native.Mathlib.Nat.{add-zero, not-suc-le-zero, le-of-suc-le-suc}
+use native.Mathlib.Nat.{add-zero, mul-one, not-suc-le-zero}
 use native.Mathlib.Numerals.{add-one}
 use native.Mathlib.Omega.{arith}
 use lib.ListN.{length, getD, take, drop, drop-of-length-le}
 use lib.Seq.{drop-cons, drop-drop}
 use borrow.Author.Tests.{not-true, not-false}
 use Rattle.answer.specs.Answer.{Answer, done, refused}
-use Rattle.table.specs.Lists.{same, select, count, distinct}
-use Rattle.table.specs.Table.{Row, Table, rows, isFree, body, used, zeroRow, freeWhere}
-use Rattle.table.proofs.Counting.{same-refl, same-eq, count-split, select-map}
-use Rattle.table.proofs.Distinct.{without, without-self, distinct-without}
-use Rattle.table.proofs.Rows.{free-used, free-where-used, rows-length}
-use Rattle.scheme.specs.Store.{Store, sizesOf, cut, clIn}
+use Rattle.table.specs.Lists.{same, select, distinct}
+use Rattle.table.specs.Table.{Table, rows, isFree, body, used, freeWhere}
+use Rattle.table.proofs.Counting.{same-eq, count-split, select-map}
+use Rattle.table.proofs.Distinct.{distinct-without}
+use Rattle.table.proofs.Rows.{free-used, free-where-used}
+use Rattle.scheme.specs.Store.{sizesOf, cut, clIn}
 use Rattle.scheme.specs.Compaction.{logOf, freeLog, Treats, logged, compactedStore, Compacted}
 use Rattle.scheme.specs.Compaction.Treats.{finished, stopped, skipped, anchored}
 use Rattle.suite.specs.Program.{program}
@@ -28,9 +28,9 @@ use Rattle.store.proofs.Tables.{Laid, tableS, laid-rows, laid-fit}
 use Rattle.compact.specs.declared.Tally.{Tally}
 use Rattle.compact.specs.declared.Treated.{Treated}
 use Rattle.compact.specs.declared.Treated.the-variants.{Damage, Skipped, Anchored as Written}
-use Rattle.compact.specs.Log.{opened, Opened, freeLogged}
+use Rattle.compact.specs.Log.{opened, freeLogged}
 use Rattle.compact.specs.Treatment.{Treatment, Stepped, stops, anchorsIn, countersIn, tallyAfter}
-use Rattle.compact.proofs.Logs.{opened-is, opened-at, opened-freed, free-logged}
+use Rattle.compact.proofs.Logs.{Opened, opened-is, opened-at, opened-freed, free-logged}
 
 -- ---- used rows from row i on
 
@@ -111,7 +111,7 @@ one-at-most (Written k) = omega arith
 few-more : (r : Treated) (c : ℕ) → countersIn r ≤ c → countersIn r ≤ c * anchorsIn r
 few-more Damage c h = omega arith
 few-more Skipped c h = omega arith
-few-more (Written k) c h = omega (arith, native.Mathlib.Nat.mul-one c)
+few-more (Written k) c h = omega (arith, mul-one c)
 
 -- ---- the walk
 

@@ -1,12 +1,11 @@
 -- Laws of the anchor's row: pieces written one after the other, under the scheme's tag and key.
 use Prim.Native.Nat.{ℕ, _+_, _-_, _≤_}
-use mathlib.Core.Path.{_≡_, refl, sym, ap, ap₂, _∙_}
+use mathlib.Core.Path.{_≡_, refl, ap, ap₂, _∙_}
 use mathlib.Core.List.{List, [], _∷_, _++_, append-assoc, append-nil}
 use native.Mathlib.Omega.{arith}
 use lib.ListN.{length, take, drop, replicate, length-append, length-drop, drop-of-length-le}
 use Rattle.octets.specs.Number.{bytes}
 use Rattle.octets.specs.Part.{back, written}
-use Rattle.octets.proofs.Numbers.{length-bytes}
 use Rattle.octets.proofs.Parts.{written-next, halves, length-part, length-back}
 use Rattle.chacha20.specs.Cipher.{E}
 use Rattle.chacha20.specs.Laws.{E-length}

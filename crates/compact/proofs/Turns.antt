@@ -1,8 +1,8 @@
 -- Laws of the walk over table S: one CL in the store, what a treatment adds, and that what is left decides.
-use Prim.Native.Nat.{ℕ, zero, suc, _+_, _*_, _-_, _/_, _≤_, _<_}
-use mathlib.Core.Path.{_≡_, refl, sym, ap, ap₂, subst, _∙_}
-use mathlib.Core.Bool.{Bool, true, false, cond, true≢false}
-use mathlib.Core.List.{List, [], _∷_}
+use Prim.Native.Nat.{ℕ, _+_, _*_, _-_, _≤_}
+use mathlib.Core.Path.{_≡_, sym, ap, ap₂, subst, _∙_}
+use mathlib.Core.Bool.{Bool, true, false, cond}
+use mathlib.Core.List.{List}
 use native.Mathlib.Nat.{add-zero}
 use native.Mathlib.Omega.{arith}
 use lib.ListN.{length, take, drop, replicate, length-replicate}
@@ -10,10 +10,9 @@ use Rattle.octets.proofs.Parts.{length-part}
 use Rattle.octets.specs.Part.{back}
 use Rattle.table.specs.Table.{Table, rows}
 use Rattle.scheme.specs.Store.{Store}
-use Rattle.store.proofs.Tables.{Laid, tableC, tableS, widthOf, rowsOf, startOf, endOf, putIn, laid-long, laid-rows, laid-back}
+use Rattle.store.proofs.Tables.{Laid, tableC, tableS, putIn, laid-long, laid-rows, laid-back}
 use Rattle.compact.specs.declared.Tally.{Tally}
 use Rattle.compact.specs.declared.Treated.{Treated}
-use Rattle.compact.specs.declared.Treated.the-variants.{Damage, Skipped, Anchored as Written}
 use Rattle.compact.specs.Log.{freeLogged}
 use Rattle.compact.specs.Treatment.{Treatment, Stepped, stops, anchorsIn, countersIn, tallyAfter, withTables}
 

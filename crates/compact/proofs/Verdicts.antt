@@ -1,16 +1,15 @@
 -- The refusals before the treatment, in their order (document 01, "Refusals from the input" and "Refusals from the state").
 use Prim.Native.Nat.{ℕ, _+_, _-_, _/_, _%_, _≤_, _<_}
-use mathlib.Core.Path.{_≡_, refl, sym, ap, _∙_}
-use mathlib.Core.Bool.{true, false, not}
-use mathlib.Core.Option.{Option, none, some}
-use mathlib.Core.List.{List, [], _∷_, _++_}
+use mathlib.Core.Path.{_≡_, ap, _∙_}
+use mathlib.Core.Option.{none, some}
+use mathlib.Core.List.{List, [], _∷_}
 use native.Mathlib.Omega.{arith}
 use borrow.Author.Tests.{eq-eqb, ne-eqb, lt-ltb, le-ltb}
 use lib.Dec.{ltb}
 use lib.ListN.{length}
 use Rattle.answer.specs.Answer.{Answer, refused, refusal}
 use Rattle.answer.specs.declared.Refusal.{Refusal}
-use Rattle.answer.specs.Verdict.{Test, _⇒_, verdict}
+use Rattle.answer.specs.Verdict.{_⇒_, verdict}
 use Rattle.table.specs.Table.{used}
 use Rattle.table.proofs.Rows.{free-used}
 use Rattle.scheme.specs.Store.{cut, headerBad, marksBad}

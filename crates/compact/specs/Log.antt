@@ -1,8 +1,7 @@
 -- The CL of table S, decrypted once (document 01, "Operations", compaction): a log of 32 bytes per row of S, which is read only
 -- where that row is used, and the freeing of rows by it.
 use Prim.Native.Nat.{ℕ}
-use mathlib.Core.Path.{_≡_}
-use mathlib.Core.Bool.{Bool, false, cond, not, _&&_}
+use mathlib.Core.Bool.{Bool, cond, not, _&&_}
 use mathlib.Core.List.{List, [], _∷_}
 use Rattle.table.specs.Lists.{same}
 use Rattle.table.specs.Table.{Row, Table, isFree, body, zeroRow}
@@ -21,12 +20,6 @@ openRow ks l r = cond (isFree r) l (clIn program ks (body r))
 
 abbrev pub opened : List ℕ → Table → List (List ℕ) → List (List ℕ)
 opened ks t log = zipped (openRow ks) log t
-
--- the log holds the CL of every used row
-abbrev pub Opened : List ℕ → Table → List (List ℕ) → Type 0
-Opened ks [] log = Unit {0}
-Opened ks (r ∷ rs) [] = _≡_ {A = ℕ} 0 1
-Opened ks (r ∷ rs) (l ∷ ls) = (isFree r ≡ false → l ≡ clIn program ks (body r)) × Opened ks rs ls
 
 -- whether a row is used and its CL is the one given
 abbrev pub logs : List ℕ → Row → List ℕ → Bool

@@ -1,5 +1,5 @@
 -- The paper's view of a compaction's answer (document 01, "Operations" and "Refusals from the state").
-use mathlib.Core.List.{List, [], _∷_}
+use mathlib.Core.List.{[], _∷_}
 use Rattle.answer.specs.Answer.{Answer, done, refused, refusal}
 use Rattle.compact.specs.declared.Compaction.{Compaction}
 use Rattle.compact.specs.declared.Compaction.the-variants.{Done, Refused, Damage}

@@ -26,12 +26,12 @@ pub record Noted (c : ℕ) (cl : List ℕ) (t : Table) (z : Counter) (places : L
 
 module _ (c : ℕ) (cl nonce : List ℕ) (t after : Table) where
   -- the reading was damage: nothing is written [01:RS13]
-  pub record Stops : Type 0 where
+  pub record DamageFound : Type 0 where
     pub read : reading program c cl t ≡ damage
     pub same : after ≡ t
 
   -- k = 0: nothing is written [01:OP11]
-  pub record Skips : Type 0 where
+  pub record NothingFreed : Type 0 where
     pub B : ℕ
     pub start : ℕ
     pub n : ℕ
@@ -39,7 +39,7 @@ module _ (c : ℕ) (cl nonce : List ℕ) (t after : Table) where
     pub same : after ≡ t
 
   -- k > 0: the counters are freed and anchor B + 1 is written [01:OP11]
-  pub record Anchors (k : ℕ) : Type 0 where
+  pub record CountersFreed (k : ℕ) : Type 0 where
     pub B : ℕ
     pub start : ℕ
     pub n : ℕ
@@ -48,9 +48,9 @@ module _ (c : ℕ) (cl nonce : List ℕ) (t after : Table) where
     pub anchored : Anchored program cl nonce t B start k n after
 
   abbrev pub Treatment : Treated → Type 0
-  Treatment Damage = Stops
-  Treatment Skipped = Skips
-  Treatment (Written k) = Anchors k
+  Treatment Damage = DamageFound
+  Treatment Skipped = NothingFreed
+  Treatment (Written k) = CountersFreed k
 
 -- whether damage stops the compaction [01:RS13]
 abbrev pub stops : Treated → Bool

@@ -2,8 +2,8 @@
 // 01, "Operations"). The store's tables C and S alone are changed.
 ghost use mathlib.Core.Path.{_≡_};
 ghost use mathlib.Core.Bool.{not};
-ghost use mathlib.Core.List.{List, [], _∷_, _++_};
-ghost use Prim.Native.Nat.{ℕ, _+_, _*_, _/_, _≤_, _<_};
+ghost use mathlib.Core.List.{[], _∷_, _++_};
+ghost use Prim.Native.Nat.{_+_, _*_, _/_, _≤_, _<_};
 ghost use lib.ListN.{length, getD, take};
 ghost use Rattle.chacha20.specs.Cipher.{E};
 ghost use Rattle.table.specs.Lists.{All};
@@ -43,7 +43,8 @@ pub enum Compaction {
     Damage(Tally),
 }
 
-// What was done with one CL: the reading was damage; k was 0; or k counters gave way to an anchor.
+// What was done with one CL: the reading was damage; k was 0; or k counters were freed and an anchor
+// written.
 pub enum Treated {
     Damage,
     Skipped,
@@ -191,7 +192,7 @@ struct NextAnchor {
     count: u64,
 }
 
-// Anchor B + 1 takes over the position Start + k, and the count. [01:OP11]
+// Anchor B + 1 has the position Start + k, and the count. [01:OP11]
 fn next_anchor(z: Counter) -> NextAnchor
     requires { ⌜ (z .b .0 ≤ 4096) × ((z .start .0 ≤ limit) × (z .k ≤ 4096)) ⌝ }
     ensures { λ r. ⌜ (r .number .0 ≡ z .b .0 + 1) × ((r .position .0 ≡ z .start .0 + z .k) × (r .count ≡ z .count)) ⌝ }
@@ -223,8 +224,9 @@ fn anchor(
     table::put_row(t, 61, c, places[0] as usize, &row);
 }
 
-// Treats one CL: with k > 0 its counters give way to an anchor under the nonce, with k = 0 nothing is
-// written. The keys of the CL are made once, and each counter's tag once. [01:OP11]
+// Treats one CL: with k > 0 its counters are freed and an anchor is written under the nonce, with k = 0
+// nothing is written. The keys of the CL are made once, and each counter's tag once: the reading notes
+// the places of the counters in the room lent for them. [01:OP11]
 pub fn treat(t: &mut [u8], c: usize, cl: &[u8; 32], nonce: &[u8], places: &mut [u16]) -> Treated
     requires { ⌜ ((length (now t) ≡ 61 * c) × (c ≤ length (now places))) × ((c ≤ 4096) × (length (now nonce) ≡ 12)) ⌝ }
     ensures { λ r. ⌜ Treatment c (now (cl .entry)) (now (nonce .entry)) (rows 61 c (now (t .entry))) (rows 61 c (now (t .exit))) r ⌝ }

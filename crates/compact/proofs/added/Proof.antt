@@ -1,5 +1,5 @@
 -- An anchor adds one and its counters; nothing else adds.
-use mathlib.Core.Path.{_≡_, sym, ap}
+use mathlib.Core.Path.{sym, ap}
 use native.Mathlib.Omega.{arith}
 use Rattle.compact.specs.declared.Treated.{Treated}
 use Rattle.compact.specs.Treatment.{anchorsIn, countersIn, tallyAfter}

@@ -1,6 +1,5 @@
 -- The places noted are inside the table, and the first of them was just freed.
-use Prim.Native.Nat.{ℕ, _≤_, _<_}
-use mathlib.Core.Path.{_≡_, refl, _∙_}
+use mathlib.Core.Path.{_∙_}
 use native.Mathlib.Omega.{arith}
 use Rattle.table.specs.Table.{rows}
 use Rattle.table.proofs.Rows.{rows-length}

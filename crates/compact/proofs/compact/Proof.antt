@@ -1,11 +1,8 @@
 -- Refused by the definition's tests, in its order; then the treatment.
 use mathlib.Core.Path.{_≡_, refl, sym, _∙_}
 use native.Mathlib.Omega.{arith}
-use Rattle.store.specs.declared.Shape.{Shape}
 use Rattle.store.specs.declared.Checked.the-variants.{Fit}
 use Rattle.store.specs.Check.{checkedOf}
-use Rattle.answer.specs.Answer.{refused, refusal}
-use Rattle.compact.specs.Outcome.{compactionAnswer}
 use Rattle.compact.proofs.Verdicts.{rows-left, refuses, goes, verdict-nonces, verdict-token, verdict-store, verdict-count, verdict-none, enough}
 use borrow.Author.Needs.{needs}
 use Rattle.compact.proofs.compact.Statement.{statement}

@@ -1,16 +1,15 @@
 -- By the reading: damage and k = 0 leave the table; with k > 0 the places noted are those of the counters held.
-use Prim.Native.Nat.{ℕ, zero, suc, _<_, _≤_}
+use Prim.Native.Nat.{ℕ, zero, suc, _<_}
 use mathlib.Core.Path.{_≡_, refl, sym, ap, _∙_}
 use native.Mathlib.Omega.{arith}
 use lib.ListN.{length}
 use Rattle.table.specs.Table.{rows}
-use Rattle.scheme.specs.Reading.{reading, Reading}
+use Rattle.scheme.specs.Reading.{reading}
 use Rattle.scheme.specs.Reading.Reading.{counter}
 use Rattle.suite.specs.Program.{program}
 use Rattle.counter.specs.declared.Counter.{Counter}
 use Rattle.counter.specs.Outcome.{readingOf}
 use Rattle.counter.proofs.Readings.{reading-bounds}
-use Rattle.compact.specs.Treatment.{Noted}
 use Rattle.compact.proofs.Places.{noted-held}
 use borrow.Author.Needs.{needs}
 use Rattle.compact.proofs.treat.Statement.{statement}
