@@ -4,7 +4,7 @@ ghost use mathlib.Core.Path.{_≡_};
 ghost use mathlib.Core.Bool.{not, _&&_};
 ghost use Prim.Native.Nat.{_+_, _*_, _<_, _≤_};
 ghost use lib.Dec.{eqb, ltb};
-ghost use lib.ListN.{length, take, set};
+ghost use lib.ListN.{length, take, drop, set};
 ghost use Rattle.table.specs.Lists.{bit, same as sameBytes, count};
 ghost use Rattle.table.specs.Table.{rows, isFree, body, used, freeRows, markBad, indexOf, placeOf, zeroRow, freeWhere};
 
@@ -80,12 +80,12 @@ pub fn place(t: &[u8], w: usize, n: usize, tag: &[u8; 32]) -> usize
     n
 }
 
-// The free row of lowest index; n where there is none.
-pub fn free_place(t: &[u8], w: usize, n: usize) -> usize
-    requires { ⌜ (1 ≤ w) × (length (now t) ≡ w * n) ⌝ }
-    ensures { λ r. ⌜ r ≡ indexOf isFree (rows w n (now (t .entry))) ⌝ }
+// The free row of lowest index from a row on; n where there is none.
+pub fn free_from(t: &[u8], w: usize, n: usize, from: usize) -> usize
+    requires { ⌜ (1 ≤ w) × ((from ≤ n) × (length (now t) ≡ w * n)) ⌝ }
+    ensures { λ r. ⌜ r ≡ from + indexOf isFree (drop from (rows w n (now (t .entry)))) ⌝ }
 {
-    let mut i = 0;
+    let mut i = from;
     while i < n {
         let at = w * i;
         if t[at] == 0 {
@@ -94,6 +94,14 @@ pub fn free_place(t: &[u8], w: usize, n: usize) -> usize
         i += 1;
     }
     n
+}
+
+// The free row of lowest index; n where there is none.
+pub fn free_place(t: &[u8], w: usize, n: usize) -> usize
+    requires { ⌜ (1 ≤ w) × (length (now t) ≡ w * n) ⌝ }
+    ensures { λ r. ⌜ r ≡ indexOf isFree (rows w n (now (t .entry))) ⌝ }
+{
+    free_from(t, w, n, 0)
 }
 
 // Writes a row; every other row keeps its bytes. [01:ST15]
