@@ -2,3 +2,4 @@ pub mod Counting
 pub mod Rows
 pub mod Distinct
 pub mod Walk
+pub mod Placing

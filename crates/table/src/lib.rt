@@ -6,7 +6,7 @@ ghost use Prim.Native.Nat.{_+_, _*_, _<_, _≤_};
 ghost use lib.Dec.{eqb, ltb};
 ghost use lib.ListN.{length, take, drop, set};
 ghost use Rattle.table.specs.Lists.{bit, same as sameBytes, count};
-ghost use Rattle.table.specs.Table.{rows, isFree, body, used, freeRows, markBad, indexOf, placeOf, zeroRow, freeWhere};
+ghost use Rattle.table.specs.Table.{rows, isFree, body, used, freeRows, markBad, indexOf, placeOf, zeroRow, freeWhere, PlacedAll};
 
 // What one pass over the marks tells.
 pub struct Marks {
@@ -112,6 +112,24 @@ pub fn put_row(t: &mut [u8], w: usize, n: usize, i: usize, row: &[u8])
     let at = w * i;
     let e = at + w;
     octets::copy(&mut t[at..e], row);
+}
+
+// Writes k rows, each in a free row; every other row keeps its bytes. Free rows are looked for from
+// the last one taken on, so the table is walked once. [01:ST15]
+pub fn put_rows(t: &mut [u8], w: usize, n: usize, from: &[u8], k: usize)
+    requires { ⌜ (1 ≤ w) × ((length (now t) ≡ w * n) × ((length (now from) ≡ w * k) × (k ≤ freeRows (rows w n (now t))))) ⌝ }
+    ensures { λ _. ⌜ PlacedAll (rows w n (now (t .entry))) (rows w k (now (from .entry))) (rows w n (now (t .exit))) ⌝ }
+{
+    let mut next = 0;
+    let mut i = 0;
+    while i < k {
+        let a = w * i;
+        let e = a + w;
+        let at = free_from(t, w, n, next);
+        put_row(t, w, n, at, &from[a..e]);
+        next = at + 1;
+        i += 1;
+    }
 }
 
 // Frees a row: zeroes all of it. [01:ST14]
