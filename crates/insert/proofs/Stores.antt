@@ -66,3 +66,10 @@ all-written b m c s newM newV newC newS ysM ysV ysC ysS after hC hS pM pV pC pS 
   log = only 45 (cut b .tS) newS (rows 45 s ysS) hS pS;
   written = l .bytes;
 }
+
+-- the rows by other names
+pub written-as : (b : List ℕ) (newM newM′ newV newV′ : List Row) (newC newS newS′ : Row) (after : List ℕ) → newM ≡ newM′ → newV ≡ newV′ → newS ≡ newS′
+    → Written b newM newV newC newS after → Written b newM′ newV′ newC newS′ after
+written-as b newM newM′ newV newV′ newC newS newS′ after eM eV eS w =
+    subst (λ (l : List Row). Written b l newV′ newC newS′ after) eM
+    (subst (λ (l : List Row). Written b newM l newC newS′ after) eV (subst (λ (r : Row). Written b newM newV newC r after) eS w))

@@ -5,7 +5,7 @@ ghost use mathlib.Core.Bool.{not, _||_};
 ghost use mathlib.Core.List.{_∷_, _++_};
 ghost use Prim.Native.Nat.{_+_, _*_, _/_, _%_, _≤_, _<_};
 ghost use lib.Dec.{eqb, ltb};
-ghost use lib.ListN.{length};
+ghost use lib.ListN.{length, replicate};
 ghost use Rattle.chacha20.specs.Cipher.{E};
 ghost use Rattle.table.specs.Table.{rows};
 ghost use Rattle.answer.specs.Answer.{counted};
@@ -14,11 +14,12 @@ ghost use Rattle.scheme.specs.Store.{entryRow, reverseRow, counterRow, logRow};
 ghost use Rattle.scheme.specs.Reading.{limit};
 ghost use Rattle.scheme.specs.Refusals.{idCount, idsIn, insertInputTests, tokenTests};
 ghost use Rattle.scheme.specs.Keys.{tokenMT, tokenME, tokenCL, tokenLog};
-ghost use Rattle.scheme.specs.Insert.{entryRows, reverseRows, Insert, newCounter, Inserted, insertReading};
+ghost use Rattle.scheme.specs.Insert.{entryRows, reverseRows, insertReading, Insert};
 ghost use Rattle.suite.specs.Program.{program};
 ghost use Rattle.store.specs.Check.{checkedOf};
 ghost use Rattle.counter.specs.Tags.{Prepared, KeysOf};
-ghost use Rattle.insert.specs.Tests.{testedOf, roomTests, Lengths, Room};
+ghost use Rattle.counter.specs.Outcome.{readingOf};
+ghost use Rattle.insert.specs.Tests.{testedOf, roomTests, Accepted, Matching, Lengths, Room};
 ghost use Rattle.insert.specs.Writing.{Written};
 use answer::Counted;
 use answer::Refusal;
@@ -229,4 +230,131 @@ fn place(
     table::put_rows(&mut store[v..a], 49, m, reverses, n);
     table::put_rows(&mut store[a..b], 61, c, counter, 1);
     table::put_rows(&mut store[b..e], 45, s, log, 1);
+}
+
+// Room for 64 rows of M.
+fn blank_entries() -> [u8; 3904]
+    ensures { λ r. ⌜ r ≡ replicate 3904 0 ⌝ }
+{
+    [0u8; 3904]
+}
+
+// Room for 64 rows of V.
+fn blank_reverses() -> [u8; 3136]
+    ensures { λ r. ⌜ r ≡ replicate 3136 0 ⌝ }
+{
+    [0u8; 3136]
+}
+
+// Makes the new rows of M, V and S, and places them with a counter row; g is the count read.
+// [01:OP1 OP2]
+fn write(
+    store: &mut [u8],
+    z: Shape,
+    g: u64,
+    ids: &[u8],
+    nonces: &[u8],
+    token: &[u8],
+    counter: &[u8],
+)
+    requires { ⌜ (checkedOf (now store) ≡ Checked.Fit z) × Room (z .free) (idCount (now ids)) ⌝ }
+    requires { ⌜ Lengths (now ids) (now nonces) (now token) × ((g ≤ limit) × (length (now counter) ≡ 61)) ⌝ }
+    ensures { λ _. ⌜ Written (now (store .entry)) (entryRows program (tokenMT (now (token .entry))) (tokenME (now (token .entry))) g (idsIn (now (ids .entry))) (now (nonces .entry))) (reverseRows program (tokenMT (now (token .entry))) g (idsIn (now (ids .entry)))) (now (counter .entry)) (logRow (tokenLog (now (token .entry)))) (now (store .exit)) ⌝ }
+{
+    let n = ids.len() / 16;
+    let i = 61 * n;
+    let j = 49 * n;
+    let mut entries = blank_entries();
+    let mut reverses = blank_reverses();
+    new_rows(
+        &token[1..33],
+        &token[33..65],
+        g,
+        n,
+        nonces,
+        ids,
+        &mut entries[..i],
+        &mut reverses[..j],
+    );
+    let log = log_row(&token[97..141]);
+    place(store, z, n, &entries[..i], &reverses[..j], counter, &log);
+}
+
+// An insert whose counter was read: 14 to 17, or the rows are written. [01:OP1 OP3]
+fn insert_read(
+    store: &mut [u8],
+    z: Shape,
+    x: Counter,
+    keys: Keys,
+    cl: &[u8; 32],
+    ids: &[u8],
+    nonces: &[u8],
+    token: &[u8],
+) -> Counted
+    requires { ⌜ Accepted (now ids) (now nonces) (now token) × Matching (now store) (now token) z ⌝ }
+    requires { ⌜ (readingOf (Reading.Counter x) ≡ insertReading program (now store) (now token)) × (KeysOf keys (now cl) × (now cl ≡ tokenCL (now token))) ⌝ }
+    ensures { λ r. ⌜ Insert program (now (store .entry)) (now (ids .entry)) (now (nonces .entry)) (now (token .entry)) (counted r) (now (store .exit)) ⌝ }
+{
+    let n = ids.len() / 16;
+    let count = x.count + n as u64;
+    let free = z.free;
+    match room(free, count, n) {
+        Tested::Refused(r) => Counted::Refused(r),
+        Tested::Passed => {
+            let e = 12 * n;
+            let start = x.start;
+            let row = counter_row(
+                keys,
+                cl,
+                Position(start.0 + x.k + 1),
+                &nonces[e..],
+                count,
+            );
+            write(store, z, x.count, ids, nonces, token, &row);
+            Counted::Number(count)
+        }
+    }
+}
+
+// A byte as a wider number.
+fn wide(x: u8) -> u64
+    ensures { λ r. ⌜ r ≡ x ⌝ }
+{
+    x as u64
+}
+
+// An insert into a store that passed the checks: 12, then the counter is read, or 13.
+// [01:RS4 RS6 RC5 FM8]
+fn insert_checked(store: &mut [u8], z: Shape, ids: &[u8], nonces: &[u8], token: &[u8]) -> Counted
+    requires { ⌜ Accepted (now ids) (now nonces) (now token) × (checkedOf (now store) ≡ Checked.Fit z) ⌝ }
+    ensures { λ r. ⌜ Insert program (now (store .entry)) (now (ids .entry)) (now (nonces .entry)) (now (token .entry)) (counted r) (now (store .exit)) ⌝ }
+{
+    let p = z.p;
+    if wide(token[0]) != p {
+        return Counted::Refused(Refusal::TokenShares);
+    }
+    let m = z.m;
+    let c = z.c;
+    let a = 8 + 110 * m;
+    let b = a + 61 * c;
+    let mut cl = [0u8; 32];
+    octets::copy(&mut cl, &token[65..97]);
+    let keys = counter::keys_of(&cl);
+    let Reading::Counter(x) = counter::read_by(&store[a..b], c, &cl, keys) else {
+        return Counted::Refused(Refusal::Damage);
+    };
+    insert_read(store, z, x, keys, &cl, ids, nonces, token)
+}
+
+// Insert of 1 to 64 ids under an insert token; answers the new count. [01:OP1 OP2 OP3 OP14]
+pub fn insert(store: &mut [u8], ids: &[u8], nonces: &[u8], token: &[u8]) -> Counted
+    ensures { λ r. ⌜ Insert program (now (store .entry)) (now (ids .entry)) (now (nonces .entry)) (now (token .entry)) (counted r) (now (store .exit)) ⌝ }
+{
+    match input(ids, nonces, token) {
+        Tested::Refused(r) => Counted::Refused(r),
+        Tested::Passed => match store::sizes(store) {
+            Checked::Refused(r) => Counted::Refused(r),
+            Checked::Fit(z) => insert_checked(store, z, ids, nonces, token),
+        },
+    }
 }
