@@ -7,16 +7,16 @@ use mathlib.Core.List.{List, [], _∷_, _++_, append-assoc}
 use native.Mathlib.Nat.{div-add-mod'}
 use native.Mathlib.Omega.{arith}
 use lib.Dec.{ltb, eqb}
-use lib.ListN.{length, drop}
+use lib.ListN.{length, take, drop}
 use borrow.Author.Tests.{eqb-true, eq-eqb, ne-eqb, not-false, ltb-false}
-use Rattle.table.specs.Table.{Row, PlacedAll, Placed, freeRows}
+use Rattle.table.specs.Table.{Row, Table, rows, PlacedAll, Placed}
 use Rattle.table.proofs.Counting.{neither}
 use Rattle.answer.specs.Answer.{Answer, done, refused, refusal}
 use Rattle.answer.specs.declared.Refusal.{Refusal}
 use Rattle.answer.specs.Verdict.{Test, _⇒_, verdict, answerOr}
 use Rattle.scheme.specs.Keys.{tokenP, tokenMT, tokenME, tokenCL, tokenLog}
 use Rattle.scheme.specs.Store.{sizesOf, cut, headerBad, marksBad, counterRow, logRow}
-use Rattle.scheme.specs.Reading.{Reading, limit, damaged, countOf, positionOf}
+use Rattle.scheme.specs.Reading.{Reading, limit, damaged, countOf, positionOf, reading}
 use Rattle.scheme.specs.Reading.Reading.{counter, damage}
 use Rattle.scheme.specs.Refusals.{lengthNot, idCount, idsIn, insertInputTests, tokenTests}
 use Rattle.scheme.specs.Insert.{entryRows, reverseRows, insertReading, newCount, insertStateTests, insertVerdict, newEntries, newReverses, newCounter, newLog, Inserted, Insert}
@@ -26,7 +26,9 @@ use Rattle.store.specs.declared.Free.{Free}
 use Rattle.store.specs.declared.Shape.{Shape}
 use Rattle.store.specs.declared.Checked.the-variants.{Fit, Refused}
 use Rattle.store.specs.Check.{shapeOf, checkedOf}
-use Rattle.store.proofs.Laws.{fit, unfit, fit-verdict}
+use Rattle.store.proofs.Laws.{fit, unfit, fit-verdict, fit-length}
+use Rattle.store.proofs.Tables.{tableC, laid-rows, laid-fit}
+use Rattle.counter.proofs.Readings.{reading-bounds}
 use Rattle.insert.specs.Tests.{roomTests, Accepted, Matching, Lengths, Room}
 use Rattle.insert.specs.Writing.{Written}
 
@@ -70,7 +72,30 @@ roomy free count n e =
       };
     }
 
+-- ---- the reading
+
+module _ (before token : List ℕ) (z : Shape) (f : checkedOf before ≡ Fit z) where
+  pub reading-is : (cl : List ℕ) → cl ≡ tokenCL token
+      → reading program (z .c) cl (rows 61 (z .c) (take (8 + 110 * z .m + 61 * z .c - (8 + 110 * z .m)) (drop (8 + 110 * z .m) before))) ≡ insertReading program before token
+  unfolding insertReading
+  reading-is cl e =
+      ap₂ (λ (l : List ℕ) (t : Table). reading program (z .c) l t) e (laid-rows (z .m) (z .c) (z .s) before (cut before) (laid-fit before z f) tableC)
+      ∙ ap (λ (x : Shape). reading program (x .c) (tokenCL token) (cut before .tC)) (fit before z f .shape)
+
+  pub reading-sums : (b start k n : ℕ) → counter b start k n ≡ insertReading program before token → (start ≤ limit) × ((k ≤ 4096) × (n ≤ limit))
+  unfolding insertReading
+  reading-sums b start k n e =
+      let w = reading-bounds (sizesOf before .c) (tokenCL token) (cut before .tC) b start k n e in
+      (w .start-limit, (omega (arith, w .counters, ap (λ (x : Shape). x .c) (fit before z f .shape), fit-length before z f .range .c-most), w .count-limit))
+
 -- ---- the verdict
+
+-- the tests behind 10 and 11
+abbrev later : List ℕ → List ℕ → List ℕ → List Test
+later before ids token =
+    (not (eqb (tokenP token) (sizesOf before .p)) ⇒ 12)
+    ∷ (damaged (insertReading program before token) ⇒ 13)
+    ∷ roomTests (shapeOf before .free) (newCount program before ids token) (idCount ids)
 
 module _ (before ids nonces token : List ℕ) where
   verdict-is : insertVerdict program before ids nonces token ≡ orElse (verdict (insertInputTests ids nonces ++ tokenTests 141 token)) (verdict (insertStateTests program before ids nonces token))
@@ -96,18 +121,18 @@ module _ (before ids nonces token : List ℕ) where
     state = verdict-is ∙ ap (λ (v : Option Answer). orElse v (verdict (insertStateTests program before ids nonces token))) (a .passes)
 
     pub refused-store : (r : Refusal) → Refused r ≡ checkedOf before → Insert program before ids nonces token (refusal r) before
-    unfolding insertStateTests
-    refused-store r e = refuse (refusal r) (state ∙ unfit before r _ (sym e))
+    unfolding insertStateTests roomTests
+    refused-store r e = refuse (refusal r) (state ∙ unfit before r (later before ids token) (sym e))
 
     module _ (z : Shape) (f : checkedOf before ≡ Fit z) where
       -- 10 and 11 have passed
       checked : insertVerdict program before ids nonces token
           ≡ cond (not (eqb (tokenP token) (z .p))) (some (refused 12 []))
-              (cond (damaged (insertReading program before token)) (some (refused 13 []))
-              (verdict (roomTests (z .free) (newCount program before ids token) (idCount ids))))
+          (cond (damaged (insertReading program before token)) (some (refused 13 []))
+          (verdict (roomTests (z .free) (newCount program before ids token) (idCount ids))))
       unfolding insertStateTests roomTests
       checked =
-          state ∙ fit-verdict before z _ f
+          state ∙ fit-verdict before z (later before ids token) f
           ∙ ap (λ (x : Shape). cond (not (eqb (tokenP token) (x .p))) (some (refused 12 [])) (cond (damaged (insertReading program before token)) (some (refused 13 [])) (verdict (roomTests (x .free) (newCount program before ids token) (idCount ids)))))
           (sym (fit before z f .shape))
 
@@ -132,31 +157,30 @@ module _ (before ids nonces token : List ℕ) where
           refused-room r h = refuse r (read ∙ sym h)
 
           -- the rows are those of the definition
-          rows-are : (after : List ℕ)
-              → Written before (entryRows program (tokenMT token) (tokenME token) n (idsIn ids) nonces) (reverseRows program (tokenMT token) n (idsIn ids))
-              (counterRow program (tokenCL token) (start + k + 1) (drop (12 * idCount ids) nonces) (n + idCount ids)) (logRow (tokenLog token)) after
+          rows-are : (row : Row) (after : List ℕ) → row ≡ counterRow program (tokenCL token) (start + k + 1) (drop (12 * idCount ids) nonces) (n + idCount ids)
+              → Written before (entryRows program (tokenMT token) (tokenME token) n (idsIn ids) nonces) (reverseRows program (tokenMT token) n (idsIn ids)) row (logRow (tokenLog token)) after
               → Inserted program before ids nonces token after
           unfolding newEntries newReverses newCounter newLog newCount
-          rows-are after w = record {
+          rows-are row after g w = record {
             tM′ = w .tM′;
             tV′ = w .tV′;
             tC′ = w .tC′;
             tS′ = w .tS′;
             entries = subst (λ (r : Reading). PlacedAll (cut before .tM) (entryRows program (tokenMT token) (tokenME token) (countOf r) (idsIn ids) nonces) (w .tM′)) e (w .entries);
             reverses = subst (λ (r : Reading). PlacedAll (cut before .tV) (reverseRows program (tokenMT token) (countOf r) (idsIn ids)) (w .tV′)) e (w .reverses);
-            counter = subst (λ (r : Reading). Placed (cut before .tC) (counterRow program (tokenCL token) (positionOf r + 1) (drop (12 * idCount ids) nonces) (countOf r + idCount ids)) (w .tC′)) e (w .counter);
+            counter = subst (λ (r : Reading). Placed (cut before .tC) (counterRow program (tokenCL token) (positionOf r + 1) (drop (12 * idCount ids) nonces) (countOf r + idCount ids)) (w .tC′)) e (subst (λ (r : Row). Placed (cut before .tC) r (w .tC′)) g (w .counter));
             log = w .log;
             written = w .written;
           }
 
-          pub accepted : (after : List ℕ) → none ≡ verdict (roomTests (z .free) (n + idCount ids) (idCount ids))
-              → Written before (entryRows program (tokenMT token) (tokenME token) n (idsIn ids) nonces) (reverseRows program (tokenMT token) n (idsIn ids))
-              (counterRow program (tokenCL token) (start + k + 1) (drop (12 * idCount ids) nonces) (n + idCount ids)) (logRow (tokenLog token)) after
-              → Insert program before ids nonces token (done (n + idCount ids ∷ [])) after
-          accepted after h w =
+          pub accepted : (row : Row) (after : List ℕ) → none ≡ verdict (roomTests (z .free) (n + idCount ids) (idCount ids))
+              → row ≡ counterRow program (tokenCL token) (start + k + 1) (drop (12 * idCount ids) nonces) (n + idCount ids)
+              → Written before (entryRows program (tokenMT token) (tokenME token) n (idsIn ids) nonces) (reverseRows program (tokenMT token) n (idsIn ids)) row (logRow (tokenLog token)) after
+              → Insert program before ids nonces token (done ((n + idCount ids) ∷ [])) after
+          accepted row after h g w =
               let v = read ∙ sym h in
               record {
                 answered = ap (λ (j : ℕ). done (j ∷ [])) (sym counted) ∙ sym (ap (λ (v : Option Answer). answerOr v (done (newCount program before ids token ∷ []))) v);
                 kept = λ q f. absurd (let z : _≡_ {A = ℕ} 0 1 = cc in omega arith);
-                wrote = λ f. rows-are after w;
+                wrote = λ f. rows-are row after g w;
               }

@@ -303,13 +303,7 @@ fn insert_read(
         Tested::Passed => {
             let e = 12 * n;
             let start = x.start;
-            let row = counter_row(
-                keys,
-                cl,
-                Position(start.0 + x.k + 1),
-                &nonces[e..],
-                count,
-            );
+            let row = counter_row(keys, cl, Position(start.0 + x.k + 1), &nonces[e..], count);
             write(store, z, x.count, ids, nonces, token, &row);
             Counted::Number(count)
         }

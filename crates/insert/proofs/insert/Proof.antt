@@ -1,73 +1,35 @@
+-- 4 to 6, then 10 and 11, then the rest.
+use mathlib.Core.Path.{sym, ap, _∙_}
+use Rattle.answer.specs.Answer.{refusal}
+use Rattle.insert.specs.Tests.{testedOf, Accepted}
+use Rattle.insert.proofs.Answers.{refused-input, refused-store}
 use borrow.Author.Needs.{needs}
 use Rattle.insert.proofs.insert.Statement.{statement}
 use Rattle.insert.proofs.insert.Tie as tie
-use Rattle.insert.proofs.insert.Reads as reads
-use Rattle.insert.proofs.insert.Lts as lts
-use Rattle.insert.proofs.input.Reads as input-reads
-use Rattle.insert.proofs.insert_checked.Reads as insert-checked-reads
-use Rattle.store.proofs.sizes.Reads as sizes-reads
 
--- src/lib.rt:339:11
-input-requires : tie.Need-input-requires
-input-requires c κs = ?
+accepted : (c : tie.After-enum-told) → let a = c .before .before .before .before .before .before .before .args in Accepted (a .ids .now) (a .nonces .now) (a .token .now)
+accepted c = record { passes = sym (c .before .before .input .ensures) ∙ ap testedOf (c .enum-told .given .1) }
 
--- src/lib.rt:340:25
-enum-known-r : tie.Need-enum-known-r
-enum-known-r c = ?
-
--- src/lib.rt:341:46
-enum-told : tie.Need-enum-told
-enum-told c = ?
-
--- src/lib.rt:341:33
-sizes-requires : tie.Need-sizes-requires
-sizes-requires c κs = ?
-
--- src/lib.rt:342:30
-enum-known-r-2 : tie.Need-enum-known-r-2
-enum-known-r-2 c = ?
-
--- src/lib.rt:343:26
-enum-known-z : tie.Need-enum-known-z
-enum-known-z c = ?
-
--- src/lib.rt:343:32
 insert-checked-requires : tie.Need-insert-checked-requires
-insert-checked-requires c κs = ?
+insert-checked-requires c κs = (accepted (c .before .before .before .before .before .before), sym (c .before .before .before .before .sizes .ensures) ∙ c .before .before .z .given .1)
 
--- src/lib.rt:336:1
 returns : tie.Need-returns
-returns c = ?
+returns c =
+    let a = c .before .before .before .before .before .before .before .before .args in
+    let r = c .before .r .given in
+    refused-input (a .store .now) (a .ids .now) (a .nonces .now) (a .token .now) (refusal (r .0 .0)) (sym (ap testedOf (r .1)) ∙ c .before .before .before .input .ensures)
 
--- src/lib.rt:336:1
-same-length : tie.Need-same-length
-same-length c = ?
-
--- src/lib.rt:336:1
 returns-2 : tie.Need-returns-2
-returns-2 c = ?
+returns-2 c =
+    let a = c .before .before .before .before .before .before .before .before .before .before .before .before .args in
+    let r = c .before .r2 .given in
+    refused-store (a .store .now) (a .ids .now) (a .nonces .now) (a .token .now) (accepted (c .before .before .before .before .before)) (r .0 .0) (sym (r .1) ∙ c .before .before .before .sizes .ensures)
 
--- src/lib.rt:336:1
-same-length-2 : tie.Need-same-length-2
-same-length-2 c = ?
-
--- src/lib.rt:336:1
 returns-3 : tie.Need-returns-3
-returns-3 c = ?
+returns-3 c = c .before .before .insert-checked .ensures
 
 pub insert-spec : {M : Type 1} → statement M
 insert-spec =
     tie.close
-    (tie.spec
-    input-requires
-    enum-known-r
-    enum-told
-    sizes-requires
-    enum-known-r-2
-    enum-known-z
-    insert-checked-requires
-    returns
-    same-length
-    returns-2
-    same-length-2
-    returns-3)
+    (tie.spec (λ c κs. search needs) (λ c. search needs) (λ c. search needs) (λ c κs. search needs) (λ c. search needs) (λ c. search needs)
+    insert-checked-requires returns (λ c. search needs) returns-2 (λ c. search needs) returns-3)

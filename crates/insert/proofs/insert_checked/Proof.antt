@@ -1,135 +1,104 @@
+-- 12, then the reading; a damaged one is 13.
+use Prim.Native.Nat.{ℕ}
+use mathlib.Core.Path.{_≡_, sym, ap, _∙_}
+use mathlib.Core.List.{List}
+use native.Mathlib.Omega.{arith}
+use lib.ListN.{length, drop, length-drop}
+use lib.Seq.{length-take-le}
+use Rattle.scheme.specs.Keys.{tokenP, tokenCL}
+use Rattle.scheme.specs.Store.{cut}
+use Rattle.scheme.specs.Insert.{insertReading}
+use Rattle.suite.specs.Program.{program}
+use Rattle.store.proofs.Laws.{FitLength, fit-length}
+use Rattle.store.proofs.Tables.{tableC, laid-long, laid-fit}
+use Rattle.counter.specs.Outcome.{readingOf}
+use Rattle.insert.specs.Tests.{Lengths}
+use Rattle.insert.proofs.Answers.{lengths, reading-is, refused-shares, refused-damage}
 use borrow.Author.Needs.{needs}
 use Rattle.insert.proofs.insert_checked.Statement.{statement}
 use Rattle.insert.proofs.insert_checked.Tie as tie
-use Rattle.insert.proofs.insert_checked.Reads as reads
-use Rattle.insert.proofs.insert_checked.Lts as lts
-use Rattle.counter.proofs.keys_of.Reads as keys-of-reads
-use Rattle.counter.proofs.read_by.Reads as read-by-reads
-use Rattle.insert.proofs.insert_read.Reads as insert-read-reads
-use Rattle.insert.proofs.wide.Reads as wide-reads
-use Rattle.octets.proofs.copy.Reads as copy-reads
 
--- src/lib.rt:319:13
+long : (s : tie.Start) → Lengths (s .args .ids .now) (s .args .nonces .now) (s .args .token .now)
+long s = lengths (s .args .ids .now) (s .args .nonces .now) (s .args .token .now) (s .pre .0)
+
+sized : (s : tie.Start) → FitLength (s .args .store .now) (s .args .z)
+sized s = fit-length (s .args .store .now) (s .args .z) (s .pre .1)
+
+-- the token's p, and its CL
+shares : (c : tie.Else1) → tokenP (c .before .before .before .before .before .before .before .args .token .now) ≡ c .before .before .before .before .before .before .before .args .z .p
+unfolding tokenP
+shares c = sym (c .before .wide .ensures) ∙ c .if1 .left
+
+label-key : (c : tie.After-copy) → c .copy .last .0 ≡ tokenCL (c .before .before .before .before .before .before .before .before .before .before .args .token .now)
+unfolding tokenCL
+label-key c = c .copy .ensures
+
+reading : (c : tie.After-read-by) → readingOf (c .read-by .result) ≡ insertReading program (c .before .before .before .before .before .before .before .before .before .before .before .before .before .before .before .before .before .args .store .now) (c .before .before .before .before .before .before .before .before .before .before .before .before .before .before .before .before .before .args .token .now)
+reading c =
+    let s = c .before .before .before .before .before .before .before .before .before .before .before .before .before .before .before .before .before in
+    c .read-by .ensures ∙ reading-is (s .args .store .now) (s .args .token .now) (s .args .z) (s .pre .1) (c .before .before .before .before .before .before .before .copy .last .0) (label-key (c .before .before .before .before .before .before .before))
+
 shared-slice-read-wide : tie.Need-shared-slice-read-wide
-shared-slice-read-wide c = ?
+shared-slice-read-wide c = omega (arith, long (c .before .before .before .before .before) .token-bytes)
 
--- src/lib.rt:319:8
-wide-requires : tie.Need-wide-requires
-wide-requires c κs = ?
-
--- src/lib.rt:320:9
 returns : tie.Need-returns
-returns c = ?
+unfolding tokenP
+returns c =
+    let s = c .before .before .before .before .before .before .before in
+    let a = s .args in
+    refused-shares (a .store .now) (a .ids .now) (a .nonces .now) (a .token .now) (s .pre .0) (a .z) (s .pre .1) (λ e. c .if1 .taken (c .before .wide .ensures ∙ e))
 
--- src/lib.rt:324:17
 mul-a : tie.Need-mul-a
-mul-a c = ?
+mul-a c = omega (arith, sized (c .before .before .before .before .before .before .before) .range)
 
--- src/lib.rt:324:13
 add-a : tie.Need-add-a
-add-a c = ?
+add-a c = omega (arith, sized (c .before .before .before .before .before .before .before) .range)
 
--- src/lib.rt:325:17
 mul-b : tie.Need-mul-b
-mul-b c = ?
+mul-b c = omega (arith, sized (c .before .before .before .before .before .before .before) .range)
 
--- src/lib.rt:325:13
 add-b : tie.Need-add-b
-add-b c = ?
+add-b c = omega (arith, sized (c .before .before .before .before .before .before .before) .range)
 
--- src/lib.rt:327:18
-slice-aggregate-copy : tie.Need-slice-aggregate-copy
-slice-aggregate-copy c = ?
-
--- src/lib.rt:327:27
-sub-copy : tie.Need-sub-copy
-sub-copy c = ?
-
--- src/lib.rt:327:27
-part-copy-start : tie.Need-part-copy-start
-part-copy-start c = ?
-
--- src/lib.rt:327:27
 part-copy-end : tie.Need-part-copy-end
-part-copy-end c = ?
+part-copy-end c = omega (arith, long (c .before .before .before .before .before .before .before .before) .token-bytes)
 
--- src/lib.rt:327:5
 copy-requires : tie.Need-copy-requires
-copy-requires c κs = ?
+copy-requires c κs =
+    let s = c .before .before .before .before .before .before .before .before .before in
+    length-take-le 32 (drop 65 (s .args .token .now)) (omega (arith, length-drop 65 (s .args .token .now), long s .token-bytes))
 
--- src/lib.rt:328:9
-keys-of-requires : tie.Need-keys-of-requires
-keys-of-requires c κs = ?
-
--- src/lib.rt:329:48
-sub-read-by : tie.Need-sub-read-by
-sub-read-by c = ?
-
--- src/lib.rt:329:48
-part-read-by-start : tie.Need-part-read-by-start
-part-read-by-start c = ?
-
--- src/lib.rt:329:48
 part-read-by-end : tie.Need-part-read-by-end
-part-read-by-end c = ?
+part-read-by-end c = omega (arith, sized (c .before .before .before .before .before .before .before .before .before .before .before .before .before .before) .whole)
 
--- src/lib.rt:329:31
 read-by-requires : tie.Need-read-by-requires
-read-by-requires c κs = ?
+read-by-requires c κs =
+    let s = c .before .before .before .before .before .before .before .before .before .before .before .before .before .before .before .before in
+    let z = s .args .z in
+    let b = s .args .store .now in
+    (laid-long (z .m) (z .c) (z .s) b (cut b) (laid-fit b z (s .pre .1)) tableC, (sized s .range .c-most, c .before .before .before .keys-of .ensures))
 
--- src/lib.rt:329:26
-enum-known-x : tie.Need-enum-known-x
-enum-known-x c = ?
-
--- src/lib.rt:330:33
-enum-told : tie.Need-enum-told
-enum-told c = ?
-
--- src/lib.rt:330:9
-same-length : tie.Need-same-length
-same-length c = ?
-
--- src/lib.rt:330:9
 returns-2 : tie.Need-returns-2
-returns-2 c = ?
+returns-2 c =
+    let s = c .before .before .before .before .before .before .before .before .before .before .before .before .before .before .before .before .before .before .before in
+    let a = s .args in
+    refused-damage (a .store .now) (a .ids .now) (a .nonces .now) (a .token .now) (s .pre .0) (a .z) (s .pre .1) (shares (c .before .before .before .before .before .before .before .before .before .before .before .before))
+    (sym (ap readingOf (c .enum-told .given .1)) ∙ reading (c .before .before))
 
--- src/lib.rt:332:5
 insert-read-requires : tie.Need-insert-read-requires
-insert-read-requires c κs = ?
+insert-read-requires c κs =
+    let s = c .before .before .before .before .before .before .before .before .before .before .before .before .before .before .before .before .before .before .before .before .before .before in (
+      (s .pre .0, record { fits = s .pre .1; shares = shares (c .before .before .before .before .before .before .before .before .before .before .before .before .before .before .before) }),
+      (sym (ap readingOf (c .before .before .before .x .given .1)) ∙ reading (c .before .before .before .before .before), (c .before .before .before .before .before .before .before .before .before .keys-of .ensures, label-key (c .before .before .before .before .before .before .before .before .before .before .before .before))),
+    )
 
--- src/lib.rt:314:1
-same-length-2 : tie.Need-same-length-2
-same-length-2 c = ?
-
--- src/lib.rt:314:1
 returns-3 : tie.Need-returns-3
-returns-3 c = ?
+returns-3 c = c .before .before .insert-read .ensures
 
 pub insert-checked-spec : {M : Type 1} → statement M
 insert-checked-spec =
     tie.close
-    (tie.spec
-    shared-slice-read-wide
-    wide-requires
-    returns
-    mul-a
-    add-a
-    mul-b
-    add-b
-    slice-aggregate-copy
-    sub-copy
-    part-copy-start
-    part-copy-end
-    copy-requires
-    keys-of-requires
-    sub-read-by
-    part-read-by-start
-    part-read-by-end
-    read-by-requires
-    enum-known-x
-    enum-told
-    same-length
-    returns-2
-    insert-read-requires
-    same-length-2
-    returns-3)
+    (tie.spec shared-slice-read-wide (λ c κs. search needs) returns mul-a add-a mul-b add-b
+    (λ c. search needs) (λ c. search needs) (λ c. search needs) part-copy-end copy-requires (λ c κs. search needs)
+    (λ c. search needs) (λ c. search needs) part-read-by-end read-by-requires
+    (λ c. search needs) (λ c. search needs) (λ c. search needs) returns-2 insert-read-requires (λ c. search needs) returns-3)

@@ -30,9 +30,10 @@ rows-for-requires c κs =
     let l = q .before .loop in
     let p = q .before .before in
     let s = p .before .before .before .before .before .before .before in
-    let h = q .loop-test .taken in
-    (record { inner = p .prepare .ensures .0; outer = p .prepare .ensures .1 },
-    (s .pre .0 .0 .1, (piece-long 12 (l .i) (s .args .nonces .now) (omega arith), piece-long 16 (l .i) (s .args .ids .now) (omega arith))))
+    let h = q .loop-test .taken in (
+      record { inner = p .prepare .ensures .0; outer = p .prepare .ensures .1 },
+      (s .pre .0 .0 .1, (piece-long 12 (l .i) (s .args .nonces .now) (omega arith), piece-long 16 (l .i) (s .args .ids .now) (omega arith))),
+    )
 
 slice-aggregate-put-row : tie.Need-slice-aggregate-put-row Inv-loop μ-loop
 slice-aggregate-put-row c = search needs

@@ -92,9 +92,16 @@ put-rows-requires : tie.Need-put-rows-requires
 put-rows-requires c κs =
     let s = c .before .before .before .before .before .before in
     let z = s .args .z in
-    let b = s .args .store .now in
-    (lit≤ tt, (laid-long (z .m) (z .c) (z .s) b (cut b) (laid₀ (c .before)) tableM, (s .pre .1 .0 .0,
-    part-room (z .m) (z .c) (z .s) b (cut b) (laid₀ (c .before)) tableM (s .args .n) (omega (arith, free-rows b z (s .pre .0 .0) tableM, s .pre .0 .1 .entries)))))
+    let b = s .args .store .now in (
+      lit≤ tt,
+      (
+        laid-long (z .m) (z .c) (z .s) b (cut b) (laid₀ (c .before)) tableM,
+        (
+          s .pre .1 .0 .0,
+          part-room (z .m) (z .c) (z .s) b (cut b) (laid₀ (c .before)) tableM (s .args .n) (omega (arith, free-rows b z (s .pre .0 .0) tableM, s .pre .0 .1 .entries)),
+        ),
+      ),
+    )
 
 part-put-rows-end-2 : tie.Need-part-put-rows-end-2
 part-put-rows-end-2 c = let o = c .before .before in let z = o .before .before .before .before .before .before .before .args .z in omega (arith, laid-length (z .m) (z .c) (z .s) (bytes₁ o) (store₁ o) (laid₁ o))
@@ -103,9 +110,16 @@ put-rows-requires-2 : tie.Need-put-rows-requires-2
 put-rows-requires-2 c κs =
     let o = c .before .before .before in
     let s = o .before .before .before .before .before .before .before in
-    let z = s .args .z in
-    (lit≤ tt, (laid-long (z .m) (z .c) (z .s) (bytes₁ o) (store₁ o) (laid₁ o) tableV, (s .pre .1 .0 .1,
-    part-room (z .m) (z .c) (z .s) (bytes₁ o) (store₁ o) (laid₁ o) tableV (s .args .n) (omega (arith, free-rows (s .args .store .now) z (s .pre .0 .0) tableV, s .pre .0 .1 .reverses)))))
+    let z = s .args .z in (
+      lit≤ tt,
+      (
+        laid-long (z .m) (z .c) (z .s) (bytes₁ o) (store₁ o) (laid₁ o) tableV,
+        (
+          s .pre .1 .0 .1,
+          part-room (z .m) (z .c) (z .s) (bytes₁ o) (store₁ o) (laid₁ o) tableV (s .args .n) (omega (arith, free-rows (s .args .store .now) z (s .pre .0 .0) tableV, s .pre .0 .1 .reverses)),
+        ),
+      ),
+    )
 
 part-put-rows-end-3 : tie.Need-part-put-rows-end-3
 part-put-rows-end-3 c = let o = c .before .before in let z = o .before .before .before .before .before .before .before .before .before .before .before .args .z in omega (arith, laid-length (z .m) (z .c) (z .s) (bytes₂ o) (store₂ o) (laid₂ o))
@@ -114,9 +128,16 @@ put-rows-requires-3 : tie.Need-put-rows-requires-3
 put-rows-requires-3 c κs =
     let o = c .before .before .before in
     let s = o .before .before .before .before .before .before .before .before .before .before .before in
-    let z = s .args .z in
-    (lit≤ tt, (laid-long (z .m) (z .c) (z .s) (bytes₂ o) (store₂ o) (laid₂ o) tableC, (s .pre .1 .1 .0,
-    part-room (z .m) (z .c) (z .s) (bytes₂ o) (store₂ o) (laid₂ o) tableC 1 (omega (arith, free-rows (s .args .store .now) z (s .pre .0 .0) tableC, s .pre .0 .1 .counter)))))
+    let z = s .args .z in (
+      lit≤ tt,
+      (
+        laid-long (z .m) (z .c) (z .s) (bytes₂ o) (store₂ o) (laid₂ o) tableC,
+        (
+          s .pre .1 .1 .0,
+          part-room (z .m) (z .c) (z .s) (bytes₂ o) (store₂ o) (laid₂ o) tableC 1 (omega (arith, free-rows (s .args .store .now) z (s .pre .0 .0) tableC, s .pre .0 .1 .counter)),
+        ),
+      ),
+    )
 
 part-put-rows-end-4 : tie.Need-part-put-rows-end-4
 part-put-rows-end-4 c = let o = c .before .before in let z = o .before .before .before .before .before .before .before .before .before .before .before .before .before .before .before .args .z in omega (arith, laid-length (z .m) (z .c) (z .s) (bytes₃ o) (store₃ o) (laid₃ o))
@@ -125,9 +146,16 @@ put-rows-requires-4 : tie.Need-put-rows-requires-4
 put-rows-requires-4 c κs =
     let o = c .before .before .before in
     let s = o .before .before .before .before .before .before .before .before .before .before .before .before .before .before .before in
-    let z = s .args .z in
-    (lit≤ tt, (laid-long (z .m) (z .c) (z .s) (bytes₃ o) (store₃ o) (laid₃ o) tableS, (s .pre .1 .1 .1,
-    part-room (z .m) (z .c) (z .s) (bytes₃ o) (store₃ o) (laid₃ o) tableS 1 (omega (arith, free-rows (s .args .store .now) z (s .pre .0 .0) tableS, s .pre .0 .1 .log)))))
+    let z = s .args .z in (
+      lit≤ tt,
+      (
+        laid-long (z .m) (z .c) (z .s) (bytes₃ o) (store₃ o) (laid₃ o) tableS,
+        (
+          s .pre .1 .1 .1,
+          part-room (z .m) (z .c) (z .s) (bytes₃ o) (store₃ o) (laid₃ o) tableS 1 (omega (arith, free-rows (s .args .store .now) z (s .pre .0 .0) tableS, s .pre .0 .1 .log)),
+        ),
+      ),
+    )
 
 same-length : tie.Need-same-length
 same-length c =

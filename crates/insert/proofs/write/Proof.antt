@@ -43,9 +43,10 @@ new-rows-requires : tie.Need-new-rows-requires
 new-rows-requires c κs =
     let s = c .before .before .before .before .before .before .before .before .before .before .before in
     let t = s .args .token .now in
-    let l = s .pre .1 .0 in
-    (((length-take-le 32 (drop 1 t) (omega (arith, length-drop 1 t)), length-take-le 32 (drop 33 t) (omega (arith, length-drop 33 t))), (s .pre .1 .1 .0, l .most)),
-    ((omega arith, l .id-bytes), (sym (slice-aggregate-new-rows (c .before)), sym (slice-aggregate-new-rows-2 c))))
+    let l = s .pre .1 .0 in (
+      ((length-take-le 32 (drop 1 t) (omega (arith, length-drop 1 t)), length-take-le 32 (drop 33 t) (omega (arith, length-drop 33 t))), (s .pre .1 .1 .0, l .most)),
+      ((omega arith, l .id-bytes), (sym (slice-aggregate-new-rows (c .before)), sym (slice-aggregate-new-rows-2 c))),
+    )
 
 log-row-requires : tie.Need-log-row-requires
 log-row-requires c κs = let s = c .before .before .before .before .before .before .before .before .before .before .before .before .before .before .before in let t = s .args .token .now in length-take-le 44 (drop 97 t) (omega (arith, length-drop 97 t))
