@@ -1,3 +1,4 @@
 pub mod Tags
 pub mod Walks
 pub mod Readings
+pub mod Shares

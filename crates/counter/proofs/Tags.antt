@@ -7,13 +7,13 @@ use Rattle.sha256.specs.Compression.{words}
 use Rattle.hmac.specs.Hmac.{F}
 use Rattle.hmac.proofs.Laws.{from-prepared}
 use Rattle.scheme.specs.Suite.{number8}
-use Rattle.scheme.specs.Keys.{CT}
+use Rattle.scheme.specs.Keys.{CT, share}
 use Rattle.scheme.specs.Store.{entryTag, counterTag, anchorTag}
 use Rattle.suite.specs.Program.{program}
 use Rattle.counter.specs.declared.Address.{Address}
 use Rattle.counter.specs.declared.Position.{Position}
 use Rattle.counter.specs.declared.AnchorNumber.{AnchorNumber}
-use Rattle.counter.specs.Tags.{tagBy, entryTagBy, counterTagBy, anchorTagBy, Prepared}
+use Rattle.counter.specs.Tags.{tagBy, entryTagBy, counterTagBy, anchorTagBy, shareBy, Prepared}
 use Rattle.counter.specs.Walks.{counterTags, anchorTags}
 
 pub tag-by : (k : Keyed) (key m : List ℕ) → Prepared k key → tagBy k m ≡ F key m
@@ -31,6 +31,11 @@ counter-tag-is k cl a p = tag-by k (CT program cl) (1 ∷ number8 (a .0)) p
 pub anchor-tag-is : (k : Keyed) (cl : List ℕ) (b : AnchorNumber) → Prepared k (CT program cl) → anchorTagBy k b ≡ anchorTag program cl (b .0)
 unfolding anchorTagBy anchorTag program
 anchor-tag-is k cl b p = tag-by k (CT program cl) (2 ∷ number8 (b .0)) p
+
+-- [01:KT5 KT6]
+pub share-is : (k : Keyed) (key : List ℕ) (u : ℕ) → Prepared k key → shareBy k u ≡ share program key u
+unfolding shareBy share program
+share-is k key u p = tag-by k key (number8 u) p
 
 -- the tags of all numbers
 pub counter-tags : (k : Keyed) (cl : List ℕ) → Prepared k (CT program cl) → counterTags k ≡ counterTag program cl

@@ -7,11 +7,20 @@ use lib.ListN.{length, getD, take, drop}
 use Rattle.chacha20.specs.Cipher.{E}
 use Rattle.table.specs.Table.{Table, body}
 use Rattle.scheme.specs.Suite.{valueOf}
-use Rattle.scheme.specs.Reading.{limit, Numbers as SchemeNumbers, Reading as SchemeReading}
+use Rattle.scheme.specs.Store.{counterTag}
+use Rattle.scheme.specs.Reading.{limit, Numbers as SchemeNumbers, Reading as SchemeReading, anchorNumbers, startOf, countersHeld, reading}
 use Rattle.scheme.specs.Reading.Reading.{counter, damage}
+use Rattle.suite.specs.Program.{program}
+use Rattle.counter.specs.Walks.{noted}
+use Rattle.hmac.specs.declared.Keyed.{Keyed}
+use Rattle.counter.specs.Tags.{shareBy}
 use Rattle.counter.specs.declared.Numbers.{Numbers}
 use Rattle.counter.specs.declared.Reading.{Reading}
 use Rattle.counter.specs.declared.Reading.the-variants.{Counter, Damage}
+
+-- the text in a row of M or C without its mark, under a key [01:ST6 ST9]
+unfoldable pub textIn : List ℕ → List ℕ → List ℕ
+textIn key b = E key (take 12 (drop 32 b)) (drop 44 b)
 
 -- the numbers in a row of C without its mark, under CE [01:ST9]
 unfoldable pub numbersIn : List ℕ → List ℕ → SchemeNumbers
@@ -35,7 +44,16 @@ anchorBad x = ltb limit (x .a) || ltb limit (x .n)
 abbrev pub counterBad : SchemeNumbers → Bool
 counterBad x = not (eqb (x .a) 0) || ltb limit (x .n)
 
+-- the reading of a share, from the prepared F(KC, x) [01:KT6 RC5]
+unfoldable pub shareRead : Keyed → ℕ → Table → ℕ → SchemeReading
+shareRead clx c t u = reading program c (shareBy clx u) t
+
 -- B, Start, k and the count, or damage [01:RC5 FM14]
 abbrev pub readingOf : Reading → SchemeReading
 readingOf (Counter c) = counter (c .b .0) (c .start .0) (c .k) (c .count)
 readingOf Damage = damage
+
+-- a list of places after a reading: the places of the counters held stand over its start, where anchor B let them be walked
+unfoldable pub placesNoted : ℕ → List ℕ → Table → List ℕ → List ℕ
+placesNoted c cl t old =
+    cond (anchorBad (anchorNumbers program c cl t)) old (noted (counterTag program cl) t (startOf program c cl t) (countersHeld program c cl t) old)

@@ -28,6 +28,10 @@ counterTagBy ct a = tagBy ct (1 ∷ number8 (a .0))
 unfoldable pub anchorTagBy : Keyed → AnchorNumber → List ℕ
 anchorTagBy ct b = tagBy ct (2 ∷ number8 (b .0))
 
+-- a key of share u [01:KT5 KT6]
+unfoldable pub shareBy : Keyed → ℕ → List ℕ
+shareBy key u = tagBy key (number8 u)
+
 -- the two hash values of a key
 pub record Prepared (k : Keyed) (key : List ℕ) : Type 0 where
   pub inner : words (k .inner) ≡ Inner key

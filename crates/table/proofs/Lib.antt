@@ -3,3 +3,4 @@ pub mod Rows
 pub mod Distinct
 pub mod Walk
 pub mod Placing
+pub mod Below

@@ -1,0 +1,70 @@
+-- Each way out is the definition's: refused by a test, or the sum.
+use Prim.Native.Nat.{ℕ, _+_, _*_, _-_}
+use mathlib.Core.Path.{_≡_, refl, sym, ap, ap₂, _∙_}
+use mathlib.Core.Bool.{Bool, true, false, cond}
+use mathlib.Core.Option.{Option, none, some}
+use mathlib.Core.List.{List, [], _∷_, map}
+use native.Mathlib.Omega.{arith}
+use lib.ListN.{length, take, drop}
+use borrow.Author.Tests.{eq-eqb, ne-eqb}
+use Rattle.hmac.specs.declared.Keyed.{Keyed}
+use Rattle.answer.specs.Answer.{Answer, done, refused, refusal}
+use Rattle.answer.specs.declared.Refusal.{Refusal}
+use Rattle.answer.specs.Verdict.{_⇒_, verdict, answerOr}
+use Rattle.table.specs.Lists.{anyOf, sum, upTo}
+use Rattle.table.specs.Table.{rows}
+use Rattle.scheme.specs.Store.{sizesOf, cut, headerBad, marksBad}
+use Rattle.scheme.specs.Reading.{Reading, damaged, countOf}
+use Rattle.scheme.specs.Refusals.{tokenTests}
+use Rattle.scheme.specs.Find.{shareReading}
+use Rattle.scheme.specs.Count.{countVerdict, sumOfCounts, count}
+use Rattle.suite.specs.Program.{program}
+use Rattle.store.specs.declared.Shape.{Shape}
+use Rattle.store.specs.declared.Checked.the-variants.{Fit, Refused}
+use Rattle.store.specs.Check.{checkedOf}
+use Rattle.store.proofs.Laws.{fit, unfit, fit-verdict}
+use Rattle.store.proofs.Tables.{tableC, laid-fit, laid-rows}
+use Rattle.counter.specs.Tags.{Prepared}
+use Rattle.counter.specs.Outcome.{shareRead}
+use Rattle.counter.proofs.Shares.{share-read}
+use Rattle.count.specs.Sum.{sumAnswer}
+
+module _ (f : ℕ → Reading) (p : ℕ) where
+  pub sum-damage : anyOf (λ u. damaged (f u)) (upTo p) ≡ true → refused 13 [] ≡ sumAnswer f p
+  unfolding sumAnswer
+  sum-damage e = rw e
+
+  pub sum-done : (n : ℕ) → (anyOf (λ u. damaged (f u)) (upTo p) ≡ false) × (n ≡ sum (map (λ u. countOf (f u)) (upTo p))) → done (n ∷ []) ≡ sumAnswer f p
+  unfolding sumAnswer
+  sum-done n e = rw (e .0) (ap (λ (k : ℕ). done (k ∷ [])) (e .1))
+
+module _ (before token : List ℕ) where
+  pub other-length : (length token ≡ 32 → ⊥) → refused 6 [] ≡ count program before token .answer
+  unfolding count countVerdict tokenTests
+  other-length h = rw (ne-eqb (length token) 32 h)
+
+  module _ (h : length token ≡ 32) where
+    pub unfit-store : (r : Refusal) → checkedOf before ≡ Refused r → refusal r ≡ count program before token .answer
+    unfolding count countVerdict tokenTests
+    unfit-store r e =
+        rw (eq-eqb (length token) 32 h)
+        (ap (λ (o : Option Answer). answerOr o (done (sumOfCounts program before token ∷ [])))
+        (sym (unfit before r ((anyOf (λ u. damaged (shareReading program before token u)) (upTo (sizesOf before .p)) ⇒ 13) ∷ []) e)))
+
+    -- the readings are the scheme's, so is their sum
+    pub fit-store : (z : Shape) (clx : Keyed) → checkedOf before ≡ Fit z → Prepared clx token
+        → sumAnswer (shareRead clx (z .c) (rows 61 (z .c) (take (8 + 110 * z .m + 61 * z .c - (8 + 110 * z .m)) (drop (8 + 110 * z .m) before)))) (z .p) ≡ count program before token .answer
+    unfolding count countVerdict tokenTests sumOfCounts sumAnswer
+    fit-store z clx e k =
+        let f = shareReading program before token in
+        let s = ap (λ (z : Shape). z .c) (fit before z e .shape) in
+        let p = ap (λ (z : Shape). z .p) (fit before z e .shape) in
+        ap₂ sumAnswer (share-read clx token before (z .c) _ k s (laid-rows (z .m) (z .c) (z .s) before (cut before) (laid-fit before z e) tableC)) p
+        ∙ rw (eq-eqb (length token) 32 h)
+        (turned (anyOf (λ u. damaged (f u)) (upTo (sizesOf before .p))) (done (sum (map (λ u. countOf (f u)) (upTo (sizesOf before .p))) ∷ []))
+        ∙ ap (λ (o : Option Answer). answerOr o (done (sum (map (λ u. countOf (f u)) (upTo (sizesOf before .p))) ∷ [])))
+        (sym (fit-verdict before z ((anyOf (λ u. damaged (f u)) (upTo (sizesOf before .p)) ⇒ 13) ∷ []) e)))
+      where
+        turned : (b : Bool) (a : Answer) → cond b (refused 13 []) a ≡ answerOr (verdict ((b ⇒ 13) ∷ [])) a
+        turned true a = refl
+        turned false a = refl

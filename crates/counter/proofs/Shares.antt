@@ -1,0 +1,54 @@
+-- The shares read one after the other, 0 to p: none is damaged, and their counts add up. And a share's reading is the
+-- scheme's.
+use Prim.Native.Nat.{ℕ, suc, _+_, _*_, _≤_, _<_}
+use mathlib.Core.Path.{_≡_, refl, sym, ap, ap₂, _∙_}
+use mathlib.Core.Bool.{Bool, true, false}
+use mathlib.Core.List.{List, [], _∷_, map}
+use native.Mathlib.Numerals.{add-one}
+use native.Mathlib.Omega.{arith}
+use Rattle.hmac.specs.declared.Keyed.{Keyed}
+use Rattle.table.specs.Lists.{anyOf, sum, upTo}
+use Rattle.table.specs.Table.{Table}
+use Rattle.table.proofs.Below.{below, up-to-below, sum-next, none-next, any-below}
+use Rattle.scheme.specs.Store.{sizesOf, cut}
+use Rattle.scheme.specs.Reading.{limit, Reading, damaged, countOf, reading}
+use Rattle.scheme.specs.Reading.Reading.{counter, damage}
+use Rattle.scheme.specs.Keys.{share}
+use Rattle.scheme.specs.Find.{shareReading}
+use Rattle.suite.specs.Program.{program}
+use Rattle.counter.specs.Tags.{shareBy, Prepared}
+use Rattle.counter.specs.Outcome.{shareRead}
+use Rattle.counter.proofs.Tags.{share-is}
+
+-- the readings of the first u shares: none is damage, and the sum of their counts
+pub record Summed (f : ℕ → Reading) (u n : ℕ) : Type 0 where
+  pub sound : anyOf (λ u. damaged (f u)) (below u) ≡ false
+  pub total : n ≡ sum (map (λ u. countOf (f u)) (below u))
+  pub small : n ≤ limit * u
+
+module _ (f : ℕ → Reading) where
+  pub summed-none : Summed f 0 0
+  summed-none = record { sound = refl; total = refl; small = omega arith }
+
+  pub summed-more : (u n b start k x : ℕ) → Summed f u n → counter b start k x ≡ f u → x ≤ limit → Summed f (u + 1) (n + x)
+  summed-more u n b start k x s e l =
+      let t = s .total in
+      let m = s .small in
+      let c : x ≡ countOf (f u) = ap countOf e in
+      rw (add-one u) (record {
+        sound = none-next (λ u. damaged (f u)) u (s .sound) (sym (ap damaged e));
+        total = omega (arith, sum-next (λ u. countOf (f u)) u);
+        small = omega arith;
+      })
+
+  pub summed-damage : (u p : ℕ) → u ≤ p → damage ≡ f u → anyOf (λ u. damaged (f u)) (upTo p) ≡ true
+  summed-damage u p h e = rw (up-to-below p) (any-below (λ u. damaged (f u)) u (p + 1) (omega arith) (sym (ap damaged e)))
+
+  pub summed-all : (p n : ℕ) → Summed f (p + 1) n → (anyOf (λ u. damaged (f u)) (upTo p) ≡ false) × (n ≡ sum (map (λ u. countOf (f u)) (upTo p)))
+  summed-all p n s = rw (up-to-below p) (s .sound, s .total)
+
+-- the reading of a share, from the prepared F(KC, x) and table C
+pub share-read : (clx : Keyed) (key before : List ℕ) (c : ℕ) (t : Table) → Prepared clx key → c ≡ sizesOf before .c → t ≡ cut before .tC
+    → shareRead clx c t ≡ shareReading program before key
+unfolding shareRead shareReading
+share-read clx key before c t p e f = λ j u. reading program (e j) (share-is clx key u p j) (f j)
