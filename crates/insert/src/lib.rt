@@ -11,7 +11,7 @@ ghost use Rattle.table.specs.Table.{rows};
 ghost use Rattle.answer.specs.Answer.{counted};
 ghost use Rattle.answer.specs.Verdict.{verdict};
 ghost use Rattle.scheme.specs.Store.{entryRow, reverseRow, counterRow, logRow};
-ghost use Rattle.scheme.specs.Reading.{limit};
+ghost use Rattle.scheme.specs.Reading.{limit, reading};
 ghost use Rattle.scheme.specs.Refusals.{idCount, idsIn, insertInputTests, tokenTests};
 ghost use Rattle.scheme.specs.Keys.{tokenMT, tokenME, tokenCL, tokenLog};
 ghost use Rattle.scheme.specs.Insert.{entryRows, reverseRows, insertReading, Insert};
@@ -317,6 +317,15 @@ fn wide(x: u8) -> u64
     x as u64
 }
 
+// Reads the counter of CL, whose keys are given; the places that the reading notes aren't needed.
+fn read_counter(t: &[u8], c: usize, cl: &[u8; 32], keys: Keys) -> Reading
+    requires { ⌜ (length (now t) ≡ 61 * c) × ((c ≤ 4096) × KeysOf keys (now cl)) ⌝ }
+    ensures { λ r. ⌜ readingOf r ≡ reading program c (now (cl .entry)) (rows 61 c (now (t .entry))) ⌝ }
+{
+    let mut places = [0u16; 4096];
+    counter::read_by(t, c, cl, keys, &mut places)
+}
+
 // An insert into a store that passed the checks: 12, then the counter is read, or 13.
 // [01:RS4 RS6 RC5 FM8]
 fn insert_checked(store: &mut [u8], z: Shape, ids: &[u8], nonces: &[u8], token: &[u8]) -> Counted
@@ -334,7 +343,7 @@ fn insert_checked(store: &mut [u8], z: Shape, ids: &[u8], nonces: &[u8], token: 
     let mut cl = [0u8; 32];
     octets::copy(&mut cl, &token[65..97]);
     let keys = counter::keys_of(&cl);
-    let Reading::Counter(x) = counter::read_by(&store[a..b], c, &cl, keys) else {
+    let Reading::Counter(x) = read_counter(&store[a..b], c, &cl, keys) else {
         return Counted::Refused(Refusal::Damage);
     };
     insert_read(store, z, x, keys, &cl, ids, nonces, token)

@@ -33,10 +33,10 @@ label-key : (c : tie.After-copy) → c .copy .last .0 ≡ tokenCL (c .before .be
 unfolding tokenCL
 label-key c = c .copy .ensures
 
-reading : (c : tie.After-read-by) → readingOf (c .read-by .result) ≡ insertReading program (c .before .before .before .before .before .before .before .before .before .before .before .before .before .before .before .before .before .args .store .now) (c .before .before .before .before .before .before .before .before .before .before .before .before .before .before .before .before .before .args .token .now)
+reading : (c : tie.After-read-counter) → readingOf (c .read-counter .result) ≡ insertReading program (c .before .before .before .before .before .before .before .before .before .before .before .before .before .before .before .before .before .args .store .now) (c .before .before .before .before .before .before .before .before .before .before .before .before .before .before .before .before .before .args .token .now)
 reading c =
     let s = c .before .before .before .before .before .before .before .before .before .before .before .before .before .before .before .before .before in
-    c .read-by .ensures ∙ reading-is (s .args .store .now) (s .args .token .now) (s .args .z) (s .pre .1) (c .before .before .before .before .before .before .before .copy .last .0) (label-key (c .before .before .before .before .before .before .before))
+    c .read-counter .ensures ∙ reading-is (s .args .store .now) (s .args .token .now) (s .args .z) (s .pre .1) (c .before .before .before .before .before .before .before .copy .last .0) (label-key (c .before .before .before .before .before .before .before))
 
 shared-slice-read-wide : tie.Need-shared-slice-read-wide
 shared-slice-read-wide c = omega (arith, long (c .before .before .before .before .before) .token-bytes)
@@ -68,11 +68,11 @@ copy-requires c κs =
     let s = c .before .before .before .before .before .before .before .before .before in
     length-take-le 32 (drop 65 (s .args .token .now)) (omega (arith, length-drop 65 (s .args .token .now), long s .token-bytes))
 
-part-read-by-end : tie.Need-part-read-by-end
-part-read-by-end c = omega (arith, sized (c .before .before .before .before .before .before .before .before .before .before .before .before .before .before) .whole)
+part-read-counter-end : tie.Need-part-read-counter-end
+part-read-counter-end c = omega (arith, sized (c .before .before .before .before .before .before .before .before .before .before .before .before .before .before) .whole)
 
-read-by-requires : tie.Need-read-by-requires
-read-by-requires c κs =
+read-counter-requires : tie.Need-read-counter-requires
+read-counter-requires c κs =
     let s = c .before .before .before .before .before .before .before .before .before .before .before .before .before .before .before .before in
     let z = s .args .z in
     let b = s .args .store .now in
@@ -100,5 +100,5 @@ insert-checked-spec =
     tie.close
     (tie.spec shared-slice-read-wide (λ c κs. search needs) returns mul-a add-a mul-b add-b
     (λ c. search needs) (λ c. search needs) (λ c. search needs) part-copy-end copy-requires (λ c κs. search needs)
-    (λ c. search needs) (λ c. search needs) part-read-by-end read-by-requires
+    (λ c. search needs) (λ c. search needs) part-read-counter-end read-counter-requires
     (λ c. search needs) (λ c. search needs) (λ c. search needs) returns-2 insert-read-requires (λ c. search needs) returns-3)
