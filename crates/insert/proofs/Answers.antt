@@ -1,10 +1,9 @@
 -- From the tests that a call passed or failed to the scheme's relation.
-use Prim.Native.Nat.{ℕ, _+_, _*_, _-_, _/_, _%_, _≤_}
+use Prim.Native.Nat.{ℕ, _+_, _*_, _-_, _%_, _≤_}
 use mathlib.Core.Path.{_≡_, refl, sym, ap, ap₂, subst, _∙_}
-use mathlib.Core.Bool.{Bool, true, false, cond, not, _||_}
+use mathlib.Core.Bool.{cond, not, _||_}
 use mathlib.Core.Option.{Option, none, some}
 use mathlib.Core.List.{List, [], _∷_, _++_, append-assoc}
-use native.Mathlib.Nat.{div-add-mod'}
 use native.Mathlib.Omega.{arith}
 use lib.Dec.{ltb, eqb}
 use lib.ListN.{length, take, drop}
@@ -15,7 +14,7 @@ use Rattle.answer.specs.Answer.{Answer, done, refused, refusal}
 use Rattle.answer.specs.declared.Refusal.{Refusal}
 use Rattle.answer.specs.Verdict.{Test, _⇒_, verdict, answerOr}
 use Rattle.scheme.specs.Keys.{tokenP, tokenMT, tokenME, tokenCL, tokenLog}
-use Rattle.scheme.specs.Store.{sizesOf, cut, headerBad, marksBad, counterRow, logRow}
+use Rattle.scheme.specs.Store.{sizesOf, cut, counterRow, logRow}
 use Rattle.scheme.specs.Reading.{Reading, limit, damaged, countOf, positionOf, reading}
 use Rattle.scheme.specs.Reading.Reading.{counter, damage}
 use Rattle.scheme.specs.Refusals.{lengthNot, idCount, idsIn, insertInputTests, tokenTests}
@@ -29,7 +28,7 @@ use Rattle.store.specs.Check.{shapeOf, checkedOf}
 use Rattle.store.proofs.Laws.{fit, unfit, fit-verdict, fit-length}
 use Rattle.store.proofs.Tables.{tableC, laid-rows, laid-fit}
 use Rattle.counter.proofs.Readings.{reading-bounds}
-use Rattle.insert.specs.Tests.{roomTests, Accepted, Matching, Lengths, Room}
+use Rattle.insert.specs.Tests.{roomTests, Accepted, Lengths, Room}
 use Rattle.insert.specs.Writing.{Written}
 
 -- ---- what passed tests tell

@@ -1,9 +1,8 @@
 -- The four tables lent one after the other: each comes back with its rows placed, and the store is laid out as before.
-use Prim.Native.Nat.{ℕ, _+_, _*_, _-_, _≤_}
-use mathlib.Core.Path.{_≡_, refl, sym, ap, subst, _∙_}
+use Prim.Native.Nat.{ℕ, _-_, _≤_}
+use mathlib.Core.Path.{_≡_, sym, ap, subst, _∙_}
 use mathlib.Core.List.{List, [], _∷_}
 use native.Mathlib.Omega.{arith}
-use lib.Dec.{lit≤}
 use lib.ListN.{length, take, drop}
 use lib.Seq.{take-all}
 use Rattle.octets.specs.Part.{back}
@@ -16,7 +15,7 @@ use Rattle.store.specs.declared.Shape.{Shape}
 use Rattle.store.specs.declared.Checked.the-variants.{Fit}
 use Rattle.store.specs.Check.{checkedOf}
 use Rattle.store.proofs.Laws.{fit}
-use Rattle.store.proofs.Tables.{Which, tableM, tableV, tableC, tableS, widthOf, rowsOf, startOf, endOf, tableIn, putIn, Laid, laid-long, laid-rows, laid-back, laid-fit}
+use Rattle.store.proofs.Tables.{Which, tableM, tableV, tableC, tableS, widthOf, rowsOf, startOf, endOf, tableIn, putIn, Laid, laid-long, laid-rows, laid-back}
 use Rattle.insert.specs.Writing.{Written}
 
 abbrev pub freeIn : Which → Free → ℕ

@@ -8,10 +8,10 @@ use native.Mathlib.Numerals.{add-one}
 use native.Mathlib.Omega.{arith}
 use lib.ListN.{length, getD, drop, set, length-drop, drop-of-length-le}
 use lib.Seq.{drop-cons, drop-drop, getD-drop, drop-set-lt}
-use Rattle.table.specs.Lists.{bit, count}
+use Rattle.table.specs.Lists.{bit}
 use Rattle.table.specs.Table.{Row, Table, isFree, freeRows, indexOf, Placed, PlacedAll}
 use Rattle.table.specs.Table.PlacedAll.{none-placed, one-placed}
-use Rattle.table.proofs.Rows.{PlacedOne, placed-none, placed-next, index-holds}
+use Rattle.table.proofs.Rows.{placed-none, placed-next, index-holds}
 use Rattle.table.proofs.Walk.{free-inside}
 
 -- the free rows are the first one and those behind it

@@ -1,9 +1,7 @@
 -- 12, then the reading; a damaged one is 13.
-use Prim.Native.Nat.{ℕ}
 use mathlib.Core.Path.{_≡_, sym, ap, _∙_}
-use mathlib.Core.List.{List}
 use native.Mathlib.Omega.{arith}
-use lib.ListN.{length, drop, length-drop}
+use lib.ListN.{drop, length-drop}
 use lib.Seq.{length-take-le}
 use Rattle.scheme.specs.Keys.{tokenP, tokenCL}
 use Rattle.scheme.specs.Store.{cut}

@@ -4,9 +4,8 @@ use mathlib.Core.Path.{sym, _∙_}
 use mathlib.Core.List.{List}
 use native.Mathlib.Omega.{arith}
 use lib.Dec.{lit≤}
-use lib.ListN.{length}
 use Rattle.octets.specs.Part.{back}
-use Rattle.table.specs.Table.{Table, rows, freeRows}
+use Rattle.table.specs.Table.{rows}
 use Rattle.scheme.specs.Store.{Store, cut}
 use Rattle.store.proofs.Laws.{FitLength, fit-length}
 use Rattle.store.proofs.Tables.{tableM, tableV, tableC, tableS, putIn, Laid, laid-long, laid-fit, laid-length}

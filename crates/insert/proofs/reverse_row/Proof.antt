@@ -1,5 +1,4 @@
 -- The mark, then the id and the tag.
-use mathlib.Core.Path.{sym}
 use native.Mathlib.Omega.{arith}
 use Rattle.insert.proofs.Laws.{marked-two}
 use borrow.Author.Needs.{needs}

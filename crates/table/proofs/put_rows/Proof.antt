@@ -1,10 +1,9 @@
 -- The first rows are placed, and the rows that are left have room behind them.
-use Prim.Native.Nat.{ℕ, _+_, _*_, _-_, _≤_, _<_}
-use mathlib.Core.Path.{_≡_, refl, ap, sym, subst, _∙_}
-use mathlib.Core.List.{[]}
+use Prim.Native.Nat.{_+_, _*_, _-_, _≤_, _<_}
+use mathlib.Core.Path.{_≡_, refl, sym, subst, _∙_}
 use native.Mathlib.Omega.{arith}
-use lib.ListN.{length, getD, set}
-use Rattle.table.specs.Table.{Row, Table, rows}
+use lib.ListN.{length}
+use Rattle.table.specs.Table.{Table, rows}
 use Rattle.table.proofs.Rows.{rows-length}
 use Rattle.table.proofs.Walk.{row-end, row-part, row-length}
 use Rattle.table.proofs.Placing.{Placing, placing-none, placing-inside, placing-more, placing-all}
