@@ -2,4 +2,5 @@ pub mod Counting
 pub mod Rows
 pub mod Distinct
 pub mod Walk
+pub mod Placing
 pub mod Below

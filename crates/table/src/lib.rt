@@ -4,9 +4,9 @@ ghost use mathlib.Core.Path.{_≡_};
 ghost use mathlib.Core.Bool.{not, _&&_};
 ghost use Prim.Native.Nat.{_+_, _*_, _<_, _≤_};
 ghost use lib.Dec.{eqb, ltb};
-ghost use lib.ListN.{length, take, set};
+ghost use lib.ListN.{length, take, drop, set};
 ghost use Rattle.table.specs.Lists.{bit, same as sameBytes, count};
-ghost use Rattle.table.specs.Table.{rows, isFree, body, used, freeRows, markBad, indexOf, placeOf, zeroRow, freeWhere};
+ghost use Rattle.table.specs.Table.{rows, isFree, body, used, freeRows, markBad, indexOf, placeOf, zeroRow, freeWhere, PlacedAll};
 
 // What one pass over the marks tells.
 pub struct Marks {
@@ -80,12 +80,12 @@ pub fn place(t: &[u8], w: usize, n: usize, tag: &[u8; 32]) -> usize
     n
 }
 
-// The free row of lowest index; n where there is none.
-pub fn free_place(t: &[u8], w: usize, n: usize) -> usize
-    requires { ⌜ (1 ≤ w) × (length (now t) ≡ w * n) ⌝ }
-    ensures { λ r. ⌜ r ≡ indexOf isFree (rows w n (now (t .entry))) ⌝ }
+// The free row of lowest index from a row on; n where there is none.
+pub fn free_from(t: &[u8], w: usize, n: usize, from: usize) -> usize
+    requires { ⌜ (1 ≤ w) × ((from ≤ n) × (length (now t) ≡ w * n)) ⌝ }
+    ensures { λ r. ⌜ r ≡ from + indexOf isFree (drop from (rows w n (now (t .entry)))) ⌝ }
 {
-    let mut i = 0;
+    let mut i = from;
     while i < n {
         let at = w * i;
         if t[at] == 0 {
@@ -96,6 +96,14 @@ pub fn free_place(t: &[u8], w: usize, n: usize) -> usize
     n
 }
 
+// The free row of lowest index; n where there is none.
+pub fn free_place(t: &[u8], w: usize, n: usize) -> usize
+    requires { ⌜ (1 ≤ w) × (length (now t) ≡ w * n) ⌝ }
+    ensures { λ r. ⌜ r ≡ indexOf isFree (rows w n (now (t .entry))) ⌝ }
+{
+    free_from(t, w, n, 0)
+}
+
 // Writes a row; every other row keeps its bytes. [01:ST15]
 pub fn put_row(t: &mut [u8], w: usize, n: usize, i: usize, row: &[u8])
     requires { ⌜ (i < n) × ((length (now row) ≡ w) × (length (now t) ≡ w * n)) ⌝ }
@@ -104,6 +112,24 @@ pub fn put_row(t: &mut [u8], w: usize, n: usize, i: usize, row: &[u8])
     let at = w * i;
     let e = at + w;
     octets::copy(&mut t[at..e], row);
+}
+
+// Writes k rows, each in a free row; every other row keeps its bytes. Free rows are looked for from
+// the last one taken on, so the table is walked once. [01:ST15]
+pub fn put_rows(t: &mut [u8], w: usize, n: usize, from: &[u8], k: usize)
+    requires { ⌜ (1 ≤ w) × ((length (now t) ≡ w * n) × ((length (now from) ≡ w * k) × (k ≤ freeRows (rows w n (now t))))) ⌝ }
+    ensures { λ _. ⌜ PlacedAll (rows w n (now (t .entry))) (rows w k (now (from .entry))) (rows w n (now (t .exit))) ⌝ }
+{
+    let mut next = 0;
+    let mut i = 0;
+    while i < k {
+        let a = w * i;
+        let e = a + w;
+        let at = free_from(t, w, n, next);
+        put_row(t, w, n, at, &from[a..e]);
+        next = at + 1;
+        i += 1;
+    }
 }
 
 // Frees a row: zeroes all of it. [01:ST14]

@@ -8,14 +8,14 @@ use lib.ListN.{length, drop}
 use Rattle.table.specs.Table.{rows, isFree, indexOf}
 use Rattle.table.proofs.Walk.{row-end, mark-at, index-here, index-skip, index-end}
 use borrow.Author.Needs.{needs}
-use Rattle.table.proofs.free_place.Statement.{statement}
-use Rattle.table.proofs.free_place.Tie as tie
+use Rattle.table.proofs.free_from.Statement.{statement}
+use Rattle.table.proofs.free_from.Tie as tie
 
 abbrev Inv-loop : tie.InvT-loop
-Inv-loop t w n i₀ i = (i ≤ n) × (i + indexOf isFree (drop i (rows w n t)) ≡ indexOf isFree (rows w n t))
+Inv-loop t w n from i₀ i = (i ≤ n) × (i + indexOf isFree (drop i (rows w n t)) ≡ from + indexOf isFree (drop from (rows w n t)))
 
 abbrev μ-loop : tie.MeasureT-loop
-μ-loop t w n i₀ i = n - i
+μ-loop t w n from i₀ i = n - i
 
 -- a row ends within the table
 inside : (c : tie.In-loop Inv-loop μ-loop) → c .before .before .args .w * c .before .loop .i + c .before .before .args .w ≤ length (c .before .before .args .t .now)
@@ -60,8 +60,8 @@ returns-2 c =
     let a = c .before .before .args in
     index-end isFree (a .w) (a .n) (l .i) _ (a .t .now) (l .inv .1) (l .inv .0) (c .loop-test .left)
 
-pub free-place-spec : {M : Type 1} → statement M
-free-place-spec =
+pub free-from-spec : {M : Type 1} → statement M
+free-from-spec =
     tie.close
     (tie.spec
     Inv-loop

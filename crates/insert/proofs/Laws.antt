@@ -1,0 +1,133 @@
+-- Rows put together piece by piece behind their mark, as the scheme's; rows made one after the other.
+use Prim.Native.Nat.{ℕ, zero, suc, _+_, _-_, _*_, _≤_, _<_}
+use mathlib.Core.Path.{_≡_, refl, sym, ap, ap₂, _∙_}
+use mathlib.Core.List.{List, [], _∷_, _++_, append-nil}
+use native.Mathlib.Nat.{not-suc-le-zero, le-of-suc-le-suc, add-sub-cancel-left}
+use native.Mathlib.Numerals.{add-one}
+use native.Mathlib.Omega.{arith}
+use lib.ListN.{length, getD, take, drop, set, drop-of-length-le}
+use lib.Seq.{take-all, take-suc, take-suc-set, drop-drop}
+use Rattle.octets.specs.Number.{bytes}
+use Rattle.octets.specs.Part.{back, written}
+use Rattle.octets.proofs.Parts.{length-part, three-written, halves}
+use Rattle.hmac.specs.declared.Keyed.{Keyed}
+use Rattle.chacha20.specs.Cipher.{E}
+use Rattle.table.specs.Table.{Row, Table, rows}
+use Rattle.table.proofs.Rows.{rows-length}
+use Rattle.table.proofs.Walk.{row-part}
+use Rattle.scheme.specs.Suite.{number8}
+use Rattle.scheme.specs.Store.{entryRow, reverseRow, countedRow, counterRow}
+use Rattle.scheme.specs.Insert.{entryRows, reverseRows}
+use Rattle.suite.specs.Program.{program}
+use Rattle.counter.specs.declared.Address.{Address}
+use Rattle.counter.specs.declared.Position.{Position}
+use Rattle.counter.specs.declared.Keys.{Keys}
+use Rattle.counter.specs.Tags.{entryTagBy, counterTagBy, Prepared, KeysOf}
+use Rattle.counter.proofs.Tags.{entry-tag-is, counter-tag-is}
+
+-- writing behind the first byte
+behind : (x : ℕ) (to ys : List ℕ) (k : ℕ) → written (x ∷ to) (suc k) ys ≡ x ∷ written to k ys
+behind x to ys k =
+    let e : suc k + length ys - suc k ≡ k + length ys - k = omega arith in
+    ap (λ (j : ℕ). x ∷ take k to ++ (ys ++ drop j (drop k to))) e
+
+module _ (x : ℕ) (to : List ℕ) where
+  pub marked-one : (a p : List ℕ) → length to ≡ length a → p ≡ written (x ∷ to) 1 a → p ≡ x ∷ a
+  marked-one a p h e =
+      let k : 0 + length a - 0 ≡ length a = omega arith in
+      e ∙ behind x to a 0
+      ∙ ap (λ (l : List ℕ). x ∷ a ++ l) (ap (λ (j : ℕ). drop j to) k ∙ drop-of-length-le to {i = length a} (omega arith))
+      ∙ ap (λ (l : List ℕ). x ∷ l) (append-nil a)
+
+  pub marked-two : (a b p q : List ℕ) (i : ℕ) → length a ≡ i → length to ≡ i + length b
+      → p ≡ written (x ∷ to) 1 a → q ≡ written p (suc i) b → q ≡ x ∷ a ++ b
+  marked-two a b p q i f h d e =
+      let k : 0 + length a ≡ i = omega arith in
+      e ∙ ap (λ (l : List ℕ). written l (suc i) b) (d ∙ behind x to a 0 ∙ ap (λ (j : ℕ). x ∷ back to 0 j a) k) ∙ behind x (back to 0 i a) b i
+      ∙ ap (λ (l : List ℕ). x ∷ l) (halves to a b i (i + length b) h f)
+
+  pub marked-three : (a b c p q r : List ℕ) (i j : ℕ) → length a ≡ i → length a + length b ≡ j → length to ≡ length a + (length b + length c)
+      → p ≡ written (x ∷ to) 1 a → q ≡ written p (suc i) b → r ≡ written q (suc j) c → r ≡ x ∷ a ++ (b ++ c)
+  marked-three a b c p q r i j f g h d e k =
+      let y : q ≡ x ∷ written (written to 0 a) i b = e ∙ ap (λ (l : List ℕ). written l (suc i) b) (d ∙ behind x to a 0) ∙ behind x (written to 0 a) b i in
+      k ∙ ap (λ (l : List ℕ). written l (suc j) c) y ∙ behind x (written (written to 0 a) i b) c j
+      ∙ ap (λ (l : List ℕ). x ∷ l)
+      (three-written to a b c (written to 0 a) (written (written to 0 a) i b) (written (written (written to 0 a) i b) j c) h refl
+      (ap (λ (n : ℕ). written (written to 0 a) n b) (sym f)) (ap (λ (n : ℕ). written (written (written to 0 a) i b) n c) (sym g)))
+
+-- ---- the scheme's rows
+
+module _ (k : Keyed) (mt : List ℕ) (a : Address) (p : Prepared k mt) (tag : List ℕ) (e : tag ≡ entryTagBy k a) where
+  pub entry-row-is : (me nonce id : List ℕ) (row : Row) → row ≡ 1 ∷ tag ++ (nonce ++ E me nonce id) → row ≡ entryRow program mt me (a .0) nonce id
+  unfolding entryRow program
+  entry-row-is me nonce id row f = f ∙ ap (λ (l : List ℕ). 1 ∷ l ++ (nonce ++ E me nonce id)) (e ∙ entry-tag-is k mt a p)
+
+  pub reverse-row-is : (id : List ℕ) (row : Row) → row ≡ 1 ∷ id ++ tag → row ≡ reverseRow program mt (a .0) id
+  unfolding reverseRow
+  reverse-row-is id row f = f ∙ ap (λ (l : List ℕ). 1 ∷ id ++ l) (e ∙ entry-tag-is k mt a p)
+
+-- number 0, then the count
+pub plain-is : (count : ℕ) (l : List ℕ) → l ≡ bytes 8 count → 0 ∷ 0 ∷ 0 ∷ 0 ∷ 0 ∷ 0 ∷ 0 ∷ 0 ∷ l ++ [] ≡ number8 0 ++ number8 count
+unfolding number8 bytes
+plain-is count l e = ap (λ (x : List ℕ). 0 ∷ 0 ∷ 0 ∷ 0 ∷ 0 ∷ 0 ∷ 0 ∷ 0 ∷ x) (append-nil l ∙ e)
+
+pub counter-row-is : (keys : Keys) (cl : List ℕ) (a : Position) (nonce : List ℕ) (count : ℕ) (tag plain : List ℕ) (row : Row) → KeysOf keys cl → tag ≡ counterTagBy (keys .ct) a
+    → plain ≡ number8 0 ++ number8 count → row ≡ 1 ∷ tag ++ (nonce ++ E (keys .ce) nonce plain) → row ≡ counterRow program cl (a .0) nonce count
+unfolding counterRow countedRow program
+counter-row-is keys cl a nonce count tag plain row p e f g =
+    g
+    ∙ ap₂ (λ (x y : List ℕ). 1 ∷ x ++ (nonce ++ y)) (e ∙ counter-tag-is (keys .ct) cl a (p .ct))
+    (ap₂ (λ (x y : List ℕ). E x nonce y) (p .ce) f)
+
+-- ---- rows made one after the other
+
+pub piece-long : (w i : ℕ) (l : List ℕ) → w * i + w ≤ length l → length (take (w * i + w - w * i) (drop (w * i) l)) ≡ w
+piece-long w i l h = length-part l (w * i) (w * i + w) h ∙ add-sub-cancel-left (w * i) w
+
+pub take-more : (t new : Table) (i : ℕ) (row : Row) → i < length t → i < length new → take i t ≡ take i new → row ≡ getD new i []
+    → take (i + 1) (set t i row) ≡ take (i + 1) new
+take-more t new i row h k e f = rw (add-one i, take-suc-set t i row h, e, take-suc new i [] k, f)
+
+pub take-done : (t new : Table) (i : ℕ) → length t ≤ i → length new ≤ i → take i t ≡ take i new → t ≡ new
+take-done t new i h k e = sym (take-all i t h) ∙ e ∙ take-all i new k
+
+module _ (mt : List ℕ) where
+  pub length-reverses : (g : ℕ) (ids : List (List ℕ)) → length (reverseRows program mt g ids) ≡ length ids
+  length-reverses g [] = refl
+  length-reverses g (id ∷ ids) = ap suc (length-reverses (suc g) ids)
+
+  reverse-at : (g i : ℕ) (ids : List (List ℕ)) → i < length ids → getD (reverseRows program mt g ids) i [] ≡ reverseRow program mt (g + i + 1) (getD ids i [])
+  reverse-at g i [] h = absurd (not-suc-le-zero h)
+  reverse-at g zero (id ∷ ids) h = let e : suc g ≡ g + 0 + 1 = omega arith in ap (λ (a : ℕ). reverseRow program mt a id) e
+  reverse-at g (suc i) (id ∷ ids) h =
+      let e : suc g + i + 1 ≡ g + suc i + 1 = omega arith in
+      reverse-at (suc g) i ids (le-of-suc-le-suc h) ∙ ap (λ (a : ℕ). reverseRow program mt a (getD ids i [])) e
+
+  module _ (me : List ℕ) where
+    pub length-entries : (g : ℕ) (ids : List (List ℕ)) (nonces : List ℕ) → length (entryRows program mt me g ids nonces) ≡ length ids
+    length-entries g [] nonces = refl
+    length-entries g (id ∷ ids) nonces = ap suc (length-entries (suc g) ids (drop 12 nonces))
+
+    entry-at : (g i : ℕ) (ids : List (List ℕ)) (nonces : List ℕ) → i < length ids
+        → getD (entryRows program mt me g ids nonces) i [] ≡ entryRow program mt me (g + i + 1) (take 12 (drop (12 * i) nonces)) (getD ids i [])
+    entry-at g i [] nonces h = absurd (not-suc-le-zero h)
+    entry-at g zero (id ∷ ids) nonces h = let e : suc g ≡ g + 0 + 1 = omega arith in ap (λ (a : ℕ). entryRow program mt me a (take 12 nonces) id) e
+    entry-at g (suc i) (id ∷ ids) nonces h =
+        let e : suc g + i + 1 ≡ g + suc i + 1 = omega arith in
+        let n : 12 + 12 * i ≡ 12 * suc i = omega arith in
+        entry-at (suc g) i ids (drop 12 nonces) (le-of-suc-le-suc h)
+        ∙ ap₂ (λ (a : ℕ) (l : List ℕ). entryRow program mt me a (take 12 l) (getD ids i [])) e (drop-drop (12 * i) 12 nonces ∙ ap (λ (k : ℕ). drop k nonces) n)
+
+  -- the rows made of the pieces for id i are those of its place
+  module _ (g n i : ℕ) (ids : List ℕ) (h : i < n) where
+    pub made-reverse : (row : Row) → row ≡ reverseRow program mt (g + i + 1) (take (16 * i + 16 - 16 * i) (drop (16 * i) ids)) → row ≡ getD (reverseRows program mt g (rows 16 n ids)) i []
+    made-reverse row e =
+        e ∙ ap (reverseRow program mt (g + i + 1)) (row-part 16 n i ids h) ∙ sym (reverse-at g i (rows 16 n ids) (rw (rows-length 16 n ids) h))
+
+    pub made-entry : (me nonces : List ℕ) (row : Row)
+        → row ≡ entryRow program mt me (g + i + 1) (take (12 * i + 12 - 12 * i) (drop (12 * i) nonces)) (take (16 * i + 16 - 16 * i) (drop (16 * i) ids))
+        → row ≡ getD (entryRows program mt me g (rows 16 n ids) nonces) i []
+    made-entry me nonces row e =
+        e
+        ∙ ap₂ (λ (k : ℕ) (id : List ℕ). entryRow program mt me (g + i + 1) (take k (drop (12 * i) nonces)) id) (add-sub-cancel-left (12 * i) 12) (row-part 16 n i ids h)
+        ∙ sym (entry-at me g i (rows 16 n ids) nonces (rw (rows-length 16 n ids) h))

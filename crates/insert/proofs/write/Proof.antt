@@ -1,0 +1,105 @@
+-- The rows stand at the start of the two arrays.
+use Prim.Native.Nat.{ℕ, _*_, _/_, _≤_}
+use mathlib.Core.Path.{_≡_, refl, sym, ap, _∙_}
+use native.Mathlib.Omega.{arith}
+use lib.ListN.{length, drop, length-drop, length-replicate}
+use lib.Seq.{take-all, length-take-le}
+use Rattle.octets.proofs.Parts.{front-le, front-is}
+use Rattle.table.specs.Table.{rows}
+use Rattle.scheme.specs.Keys.{tokenMT, tokenME, tokenLog}
+use Rattle.scheme.specs.Store.{logRow}
+use Rattle.insert.proofs.Stores.{written-as}
+use borrow.Author.Needs.{needs}
+use Rattle.insert.proofs.write.Statement.{statement}
+use Rattle.insert.proofs.write.Tie as tie
+
+-- the arrays have room for the rows
+short : (c : tie.After-shared-slice-known4) → length (c .before .before .before .before .before .args .ids .now) / 16 ≤ 64
+short c = c .before .before .before .before .before .pre .1 .0 .most
+
+mul-i : tie.Need-mul-i
+mul-i c = omega (arith, short c)
+
+mul-j : tie.Need-mul-j
+mul-j c = omega (arith, short c)
+
+array-borrow-prefix-entries : tie.Need-array-borrow-prefix-entries
+array-borrow-prefix-entries c = omega (arith, short (c .before .before .before .before))
+
+slice-aggregate-new-rows : tie.Need-slice-aggregate-new-rows
+slice-aggregate-new-rows c =
+    let b = c .before .before .before .before .blank-entries in
+    sym (length-take-le _ (b .result) (omega (arith, short (c .before .before .before .before .before), ap length (b .ensures) ∙ length-replicate {A = ℕ} 3904 0)))
+
+array-borrow-prefix-reverses : tie.Need-array-borrow-prefix-reverses
+array-borrow-prefix-reverses c = omega (arith, short (c .before .before .before .before .before))
+
+slice-aggregate-new-rows-2 : tie.Need-slice-aggregate-new-rows-2
+slice-aggregate-new-rows-2 c =
+    let b = c .before .before .before .before .blank-reverses in
+    sym (length-take-le _ (b .result) (omega (arith, short (c .before .before .before .before .before .before), ap length (b .ensures) ∙ length-replicate {A = ℕ} 3136 0)))
+
+new-rows-requires : tie.Need-new-rows-requires
+new-rows-requires c κs =
+    let s = c .before .before .before .before .before .before .before .before .before .before .before in
+    let t = s .args .token .now in
+    let l = s .pre .1 .0 in (
+      ((length-take-le 32 (drop 1 t) (omega (arith, length-drop 1 t)), length-take-le 32 (drop 33 t) (omega (arith, length-drop 33 t))), (s .pre .1 .1 .0, l .most)),
+      ((omega arith, l .id-bytes), (sym (slice-aggregate-new-rows (c .before)), sym (slice-aggregate-new-rows-2 c))),
+    )
+
+log-row-requires : tie.Need-log-row-requires
+log-row-requires c κs = let s = c .before .before .before .before .before .before .before .before .before .before .before .before .before .before .before in let t = s .args .token .now in length-take-le 44 (drop 97 t) (omega (arith, length-drop 97 t))
+
+-- the parts that came back are as long
+long-entries : (c : tie.After-new-rows) → length (c .new-rows .last .1 .1 .1 .1 .1 .1 .0) ≡ 61 * (length (c .before .before .before .before .before .before .before .before .before .before .before .before .args .ids .now) / 16)
+long-entries c = c .new-rows .kept .1 .1 .1 .1 .1 .1 .0 ∙ sym (slice-aggregate-new-rows (c .before .before))
+
+long-reverses : (c : tie.After-new-rows) → length (c .new-rows .last .1 .1 .1 .1 .1 .1 .1 .0) ≡ 49 * (length (c .before .before .before .before .before .before .before .before .before .before .before .before .args .ids .now) / 16)
+long-reverses c = c .new-rows .kept .1 .1 .1 .1 .1 .1 .1 .0 ∙ sym (slice-aggregate-new-rows-2 (c .before))
+
+array-share-prefix-entries : tie.Need-array-share-prefix-entries
+array-share-prefix-entries c = let o = c .before .before .before .before .before in front-le _ (o .new-rows .last .1 .1 .1 .1 .1 .1 .0) _ _ (sym (long-entries o)) refl
+
+slice-aggregate-place : tie.Need-slice-aggregate-place
+slice-aggregate-place c =
+    let o = c .before .before .before .before .before .before in
+    sym (ap length (front-is _ (o .new-rows .last .1 .1 .1 .1 .1 .1 .0) _ _ (sym (long-entries o)) refl) ∙ long-entries o)
+
+array-share-prefix-reverses : tie.Need-array-share-prefix-reverses
+array-share-prefix-reverses c = let o = c .before .before .before .before .before .before in front-le _ (o .new-rows .last .1 .1 .1 .1 .1 .1 .1 .0) _ _ (sym (long-reverses o)) refl
+
+slice-aggregate-place-2 : tie.Need-slice-aggregate-place-2
+slice-aggregate-place-2 c =
+    let o = c .before .before .before .before .before .before .before in
+    sym (ap length (front-is _ (o .new-rows .last .1 .1 .1 .1 .1 .1 .1 .0) _ _ (sym (long-reverses o)) refl) ∙ long-reverses o)
+
+slice-aggregate-place-3 : tie.Need-slice-aggregate-place-3
+slice-aggregate-place-3 c = search needs
+
+place-requires : tie.Need-place-requires
+place-requires c κs =
+    let s = c .before .before .before .before .before .before .before .before .before .before .before .before .before .before .before .before .before .before .before .before in
+    (s .pre .0, ((sym (slice-aggregate-place (c .before .before)), sym (slice-aggregate-place-2 (c .before))), (s .pre .1 .1 .1, sym (slice-aggregate-place-3 c))))
+
+returns : tie.Need-returns
+unfolding tokenMT tokenME tokenLog
+returns c =
+    let r = c .before .before in
+    let o = r .before .before .before .before .before .before .before .before .before in
+    let s = o .before .before .before .before .before .before .before .before .before .before .before .before in
+    let n = length (s .args .ids .now) / 16 in
+    let t = s .args .token .now in
+    written-as _ _ _ _ _ _ _ _ _
+    (ap (rows 61 n) (front-is _ (o .new-rows .last .1 .1 .1 .1 .1 .1 .0) _ _ (sym (long-entries o)) refl) ∙ o .new-rows .ensures .0)
+    (ap (rows 49 n) (front-is _ (o .new-rows .last .1 .1 .1 .1 .1 .1 .1 .0) _ _ (sym (long-reverses o)) refl) ∙ o .new-rows .ensures .1)
+    (r .before .before .before .before .before .log-row .ensures ∙ ap logRow (take-all 44 (drop 97 t) (omega (arith, length-drop 97 t, s .pre .1 .0 .token-bytes)))) (r .place .ensures)
+
+pub write-spec : {M : Type 1} → statement M
+write-spec =
+    tie.close
+    (tie.spec mul-i mul-j (λ c κs. search needs) (λ c κs. search needs) (λ c. search needs) (λ c. search needs) (λ c. search needs) (λ c. search needs) (λ c. search needs) (λ c. search needs)
+    array-borrow-prefix-entries slice-aggregate-new-rows array-borrow-prefix-reverses slice-aggregate-new-rows-2 new-rows-requires
+    (λ c. search needs) (λ c. search needs) (λ c. search needs) log-row-requires
+    array-share-prefix-entries slice-aggregate-place array-share-prefix-reverses slice-aggregate-place-2 slice-aggregate-place-3 place-requires
+    (λ c. search needs) returns)

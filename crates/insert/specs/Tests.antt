@@ -1,0 +1,52 @@
+-- What insert's tests make of a call (document 01, "Refusals from the input", "Refusals from the state"), and what a call that
+-- they let pass is known to have.
+use Prim.Native.Nat.{ℕ, _+_, _*_, _≤_}
+use mathlib.Core.Path.{_≡_}
+use mathlib.Core.Bool.{_||_}
+use mathlib.Core.Option.{Option, none, some}
+use mathlib.Core.List.{List, [], _∷_, _++_}
+use lib.Dec.{ltb}
+use lib.ListN.{length}
+use Rattle.answer.specs.Answer.{Answer, refusal}
+use Rattle.answer.specs.Verdict.{Test, _⇒_, verdict}
+use Rattle.scheme.specs.Keys.{tokenP}
+use Rattle.scheme.specs.Reading.{limit}
+use Rattle.scheme.specs.Refusals.{idCount, insertInputTests, tokenTests}
+use Rattle.store.specs.declared.Free.{Free}
+use Rattle.store.specs.declared.Shape.{Shape}
+use Rattle.store.specs.declared.Checked.the-variants.{Fit}
+use Rattle.store.specs.Check.{checkedOf}
+use Rattle.insert.specs.declared.Tested.{Tested}
+use Rattle.insert.specs.declared.Tested.the-variants.{Passed, Refused}
+
+abbrev pub testedOf : Tested → Option Answer
+testedOf Passed = none
+testedOf (Refused r) = some (refusal r)
+
+-- 14 to 17, for a new count and n ids [01:RS7 RS8 RS9 RS10]
+unfoldable pub roomTests : Free → ℕ → ℕ → List Test
+roomTests free count n =
+    (ltb limit count ⇒ 14) ∷ (ltb (free .m) n || ltb (free .v) n ⇒ 15) ∷ (ltb (free .c) 1 ⇒ 16) ∷ (ltb (free .s) 1 ⇒ 17) ∷ []
+
+-- 4, 5 and 6 don't refuse the call
+pub record Accepted (ids nonces token : List ℕ) : Type 0 where
+  pub passes : verdict (insertInputTests ids nonces ++ tokenTests 141 token) ≡ none
+
+-- 10, 11 and 12 don't refuse it, and the store has these sizes and free rows
+pub record Matching (before token : List ℕ) (z : Shape) : Type 0 where
+  pub fits : checkedOf before ≡ Fit z
+  pub shares : tokenP token ≡ z .p
+
+-- the lengths that 4, 5 and 6 let pass [01:RI5 RI6 RI7]
+pub record Lengths (ids nonces token : List ℕ) : Type 0 where
+  pub id-bytes : length ids ≡ 16 * idCount ids
+  pub most : idCount ids ≤ 64
+  pub nonce-bytes : length nonces ≡ 12 * (idCount ids + 1)
+  pub token-bytes : length token ≡ 141
+
+-- the free rows that 15, 16 and 17 let pass
+pub record Room (free : Free) (n : ℕ) : Type 0 where
+  pub entries : n ≤ free .m
+  pub reverses : n ≤ free .v
+  pub counter : 1 ≤ free .c
+  pub log : 1 ≤ free .s
