@@ -1,0 +1,143 @@
+-- What is held at an address, in a share and in all shares: how many ids, each of 16 bytes, and written one after the other.
+use Prim.Native.Nat.{ℕ, zero, suc, _+_, _*_, _≤_, _<_}
+use mathlib.Core.Path.{_≡_, refl, sym, ap, ap₂, subst, _∙_}
+use mathlib.Core.Bool.{Bool, true, false}
+use mathlib.Core.Option.{Option, none, some}
+use mathlib.Core.List.{List, [], _∷_, _++_, map, append-nil}
+use native.Mathlib.Numerals.{add-one}
+use native.Mathlib.Omega.{arith}
+use lib.Dec.{ltb}
+use lib.ListN.{length, getD, length-append, length-drop}
+use borrow.Author.Tests.{lt-ltb, le-ltb, ltb-true, ltb-false}
+use Rattle.octets.specs.Part.{written}
+use Rattle.octets.proofs.Parts.{written-none, written-more}
+use Rattle.table.specs.Lists.{bit, flat, sum, upTo, isSome, All}
+use Rattle.table.specs.Table.{Table, body, lookup, holds, placeOf}
+use Rattle.table.proofs.Counting.{all-append}
+use Rattle.table.proofs.Rows.{all-at, flat-length}
+use Rattle.table.proofs.Walk.{place-found, place-none, place-holds}
+use Rattle.table.proofs.Below.{below, up-to-below, grows, flat-append, flat-next, flat-grows, flat-length-sum, sum-le}
+use Rattle.scheme.specs.Store.{idIn}
+use Rattle.scheme.specs.Find.{idOf}
+use Rattle.suite.specs.Program.{program}
+use Rattle.counter.specs.Outcome.{textIn}
+use Rattle.find.specs.Ids.{foundAt, idAt, foundTo, idsBy}
+
+-- rows of 61 bytes, ids of 16
+abbrev pub Rows61 : Table → Type 0
+Rows61 t = All (λ r. length r ≡ 61) t
+
+abbrev pub Ids16 : List (List ℕ) → Type 0
+Ids16 ids = All (λ id. length id ≡ 16) ids
+
+-- ---- at one address
+
+module _ (tag : ℕ → List ℕ) (t : Table) (a i : ℕ) (e : i ≡ placeOf (tag a) t) where
+  pub found-hit : i < length t → 1 ≡ foundAt tag t a
+  unfolding foundAt
+  found-hit h = rw (place-holds (tag a) t, lt-ltb (placeOf (tag a) t) (length t) (omega arith))
+
+  pub found-miss : length t ≤ i → 0 ≡ foundAt tag t a
+  unfolding foundAt
+  found-miss h = rw (place-holds (tag a) t, le-ltb (placeOf (tag a) t) (length t) (omega arith))
+
+  module _ (me : List ℕ) where
+    pub id-hit : i < length t → (id : List ℕ) → id ≡ textIn me (body (getD t i [])) → idAt tag me t a ≡ id ∷ []
+    unfolding idAt idIn textIn program
+    id-hit h id f =
+        ap (idOf program me) (place-found (tag a) t (omega arith))
+        ∙ ap (λ (x : List ℕ). x ∷ []) (ap (λ (j : ℕ). textIn me (body (getD t j []))) (sym e) ∙ sym f)
+
+    pub id-miss : length t ≤ i → idAt tag me t a ≡ []
+    unfolding idAt
+    id-miss h = ap (idOf program me) (place-none (tag a) t (omega arith))
+
+module _ (tag : ℕ → List ℕ) (me : List ℕ) (t : Table) where
+  id-length : (a : ℕ) → length (idAt tag me t a) ≡ foundAt tag t a
+  unfolding idAt foundAt holds
+  id-length a = go (lookup (tag a) t)
+    where
+      go : (o : Option (List ℕ)) → length (idOf program me o) ≡ bit (isSome o)
+      go none = refl
+      go (some b) = refl
+
+  id-wide : Rows61 t → (a : ℕ) → Ids16 (idAt tag me t a)
+  unfolding idAt idIn
+  id-wide w a = go (ltb (placeOf (tag a) t) (length t)) refl
+    where
+      go : (b : Bool) → ltb (placeOf (tag a) t) (length t) ≡ b → Ids16 (idOf program me (lookup (tag a) t))
+      go true e =
+          let h = ltb-true (placeOf (tag a) t) (length t) e in
+          let row = getD t (placeOf (tag a) t) [] in
+          let l : length row ≡ 61 = all-at (λ r. length r ≡ 61) t (placeOf (tag a) t) h w in
+          rw (place-found (tag a) t h) (program .E-length me _ _ ∙ omega (arith, length-drop 44 (body row), length-drop 1 row), tt)
+      go false e = rw (place-none (tag a) t (ltb-false (placeOf (tag a) t) (length t) e)) tt
+
+  -- ---- at addresses 1 to n
+
+  pub ids-length : (n : ℕ) → length (idsBy tag me t n) ≡ foundTo tag t n
+  unfolding idsBy foundTo
+  ids-length zero = refl
+  ids-length (suc n) = length-append (idsBy tag me t n) (idAt tag me t (suc n)) ∙ ap₂ (λ (x y : ℕ). x + y) (ids-length n) (id-length (suc n))
+
+  pub ids-wide : Rows61 t → (n : ℕ) → Ids16 (idsBy tag me t n)
+  unfolding idsBy
+  ids-wide w zero = tt
+  ids-wide w (suc n) = all-append (λ id. length id ≡ 16) (idsBy tag me t n) (idAt tag me t (suc n)) (ids-wide w n) (id-wide w (suc n))
+
+  -- one address more
+  pub ids-next : (n : ℕ) → idsBy tag me t (n + 1) ≡ idsBy tag me t n ++ idAt tag me t (n + 1)
+  unfolding idsBy
+  ids-next n = rw (add-one n) refl
+
+  pub ids-grow : (a n : ℕ) → a ≤ n → length (idsBy tag me t a) ≤ length (idsBy tag me t n)
+  unfolding idsBy
+  ids-grow = grows (λ n. length (idsBy tag me t n)) (λ n. omega (arith, length-append (idsBy tag me t n) (idAt tag me t (suc n))))
+
+module _ (tag : ℕ → List ℕ) (t : Table) where
+  pub found-one : (a : ℕ) → foundAt tag t a ≤ 1
+  unfolding foundAt
+  found-one a = go (holds (tag a) t)
+    where
+      go : (b : Bool) → bit b ≤ 1
+      go true = omega arith
+      go false = omega arith
+
+  pub found-none : 0 ≡ foundTo tag t 0
+  unfolding foundTo
+  found-none = refl
+
+  pub found-next : (n : ℕ) → foundTo tag t (n + 1) ≡ foundTo tag t n + foundAt tag t (n + 1)
+  unfolding foundTo
+  found-next n = rw (add-one n) refl
+
+  pub found-most : (n : ℕ) → foundTo tag t n ≤ n
+  unfolding foundTo
+  found-most zero = omega arith
+  found-most (suc n) = omega (arith, found-most n, found-one (suc n))
+
+-- ---- written one after the other
+
+-- from the place of number k on, ids were written over o₀; the next number
+pub record Wrote (o₀ : List ℕ) (k : ℕ) (ids : List (List ℕ)) (next : ℕ) (o : List ℕ) : Type 0 where
+  pub number : next ≡ k + length ids
+  pub bytes : o ≡ written o₀ (16 * k) (flat ids)
+
+pub wrote-none : (o : List ℕ) (k : ℕ) → Wrote o k [] k o
+wrote-none o k = record { number = omega arith; bytes = sym (written-none o (16 * k)) }
+
+pub wrote-more : (o₀ : List ℕ) (k : ℕ) (ids more : List (List ℕ)) (next : ℕ) (o : List ℕ) (next′ : ℕ) (o′ : List ℕ) → Ids16 ids → 16 * k ≤ length o₀
+    → Wrote o₀ k ids next o → next′ ≡ next + length more → o′ ≡ written o (16 * next) (flat more) → Wrote o₀ k (ids ++ more) next′ o′
+wrote-more o₀ k ids more next o next′ o′ w l h e f =
+    let n = h .number in
+    let at : 16 * next ≡ 16 * k + length (flat ids) = omega (arith, flat-length 16 ids w) in
+    record {
+      number = omega (arith, length-append ids more);
+      bytes = f ∙ ap₂ (λ (x : List ℕ) (y : ℕ). written x y (flat more)) (h .bytes) at ∙ written-more o₀ (flat ids) (flat more) (16 * k) l
+          ∙ ap (written o₀ (16 * k)) (sym (flat-append ids more));
+    }
+
+-- at no address yet
+pub wrote-start : (tag : ℕ → List ℕ) (me : List ℕ) (t : Table) (o : List ℕ) (k : ℕ) → Wrote o k (idsBy tag me t 0) k o
+unfolding idsBy
+wrote-start tag me t o k = wrote-none o k
