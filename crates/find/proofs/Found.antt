@@ -16,12 +16,16 @@ use Rattle.table.specs.Table.{Table, body, lookup, holds, placeOf}
 use Rattle.table.proofs.Counting.{all-append}
 use Rattle.table.proofs.Rows.{all-at, flat-length}
 use Rattle.table.proofs.Walk.{place-found, place-none, place-holds}
-use Rattle.table.proofs.Below.{below, up-to-below, grows, flat-append, flat-next, flat-grows, flat-length-sum, sum-le}
-use Rattle.scheme.specs.Store.{idIn}
+use Rattle.table.proofs.Below.{below, up-to-below, grows, flat-append, flat-next, flat-grows, flat-length-sum, sum-le, sum-next, sum-grows}
+use Rattle.scheme.specs.Store.{idIn, entryTag}
 use Rattle.scheme.specs.Find.{idOf}
 use Rattle.suite.specs.Program.{program}
 use Rattle.counter.specs.Outcome.{textIn}
-use Rattle.find.specs.Ids.{foundAt, idAt, foundTo, idsBy}
+use Rattle.counter.specs.Tags.{shareBy, Prepared}
+use Rattle.counter.proofs.Tags.{entry-tag-is}
+use Rattle.hmac.specs.declared.Keyed.{Keyed}
+use Rattle.find.specs.declared.EntryKeys.{EntryKeys}
+use Rattle.find.specs.Ids.{entryTags, foundAt, idAt, foundTo, idsBy, foundOf, idsOf, foundIn, idsIn}
 
 -- rows of 61 bytes, ids of 16
 abbrev pub Rows61 : Table → Type 0
@@ -141,3 +145,74 @@ wrote-more o₀ k ids more next o next′ o′ w l h e f =
 pub wrote-start : (tag : ℕ → List ℕ) (me : List ℕ) (t : Table) (o : List ℕ) (k : ℕ) → Wrote o k (idsBy tag me t 0) k o
 unfolding idsBy
 wrote-start tag me t o k = wrote-none o k
+
+-- ---- of a share, and of shares 0 to p
+
+pub entry-tags : (k : Keyed) (key : List ℕ) → Prepared k key → entryTags k ≡ entryTag program key
+entry-tags k key p = λ j a. entry-tag-is k key (record { 0 = a }) p j
+
+module _ (keys : EntryKeys) (t : Table) where
+  module _ (u n : ℕ) (mt : Keyed) (key : List ℕ) (p : Prepared mt key) (e : key ≡ shareBy (keys .mt) u) where
+    tags : entryTags mt ≡ entryTag program (shareBy (keys .mt) u)
+    tags = entry-tags mt key p ∙ ap (entryTag program) e
+
+    pub share-found : foundTo (entryTags mt) t n ≡ foundOf keys t u n
+    unfolding foundOf
+    share-found = ap (λ (g : ℕ → List ℕ). foundTo g t n) tags
+
+    pub share-ids : (me : List ℕ) → me ≡ shareBy (keys .me) u → idsBy (entryTags mt) me t n ≡ idsOf keys t u n
+    unfolding idsOf
+    share-ids me f = ap₂ (λ (g : ℕ → List ℕ) (x : List ℕ). idsBy g x t n) tags f
+
+  module _ (of : List ℕ) where
+    -- of the first shares
+    abbrev pub foundBelow : ℕ → ℕ
+    foundBelow n = sum (map (λ u. foundOf keys t u (getD of u 0)) (below n))
+
+    abbrev pub idsBelow : ℕ → List (List ℕ)
+    idsBelow n = flat (map (λ u. idsOf keys t u (getD of u 0)) (below n))
+
+    pub found-all : (p : ℕ) → foundBelow (p + 1) ≡ foundIn keys t of p
+    unfolding foundIn
+    found-all p = ap (λ (l : List ℕ). sum (map (λ u. foundOf keys t u (getD of u 0)) l)) (sym (up-to-below p))
+
+    pub ids-all : (p : ℕ) → idsBelow (p + 1) ≡ idsIn keys t of p
+    unfolding idsIn
+    ids-all p = ap (λ (l : List ℕ). flat (map (λ u. idsOf keys t u (getD of u 0)) l)) (sym (up-to-below p))
+
+    -- one share more
+    pub found-below : (u : ℕ) → foundBelow (u + 1) ≡ foundBelow u + foundOf keys t u (getD of u 0)
+    found-below u = rw (add-one u) (sum-next (λ u. foundOf keys t u (getD of u 0)) u)
+
+    pub ids-below : (u : ℕ) → idsBelow (u + 1) ≡ idsBelow u ++ idsOf keys t u (getD of u 0)
+    ids-below u = rw (add-one u) (flat-next (λ u. idsOf keys t u (getD of u 0)) u)
+
+    pub ids-below-grow : (u p : ℕ) → u ≤ p → length (idsBelow (u + 1)) ≤ length (idsIn keys t of p)
+    ids-below-grow u p h =
+        omega (arith, flat-grows (λ u. idsOf keys t u (getD of u 0)) (u + 1) (p + 1) (omega arith), ap length (ids-all p))
+
+    pub ids-below-wide : Rows61 t → (n : ℕ) → Ids16 (idsBelow n)
+    unfolding idsOf
+    ids-below-wide w zero = tt
+    ids-below-wide w (suc n) =
+        rw (flat-next (λ u. idsOf keys t u (getD of u 0)) n)
+        (all-append (λ id. length id ≡ 16) (idsBelow n) (idsOf keys t n (getD of n 0)) (ids-below-wide w n) (ids-wide (entryTag program (shareBy (keys .mt) n)) (shareBy (keys .me) n) t w (getD of n 0)))
+
+    -- no more are found than counted
+    found-few : (l : List ℕ) → sum (map (λ u. foundOf keys t u (getD of u 0)) l) ≤ sum (map (λ u. getD of u 0) l)
+    unfolding foundOf
+    found-few l =
+        sum-le (λ u. foundOf keys t u (getD of u 0)) (λ u. getD of u 0) (λ u. found-most (entryTag program (shareBy (keys .mt) u)) t (getD of u 0)) l
+
+    pub found-fits : (u p : ℕ) → u ≤ p → foundBelow (u + 1) ≤ sum (map (λ u. getD of u 0) (upTo p))
+    found-fits u p h =
+        rw (up-to-below p)
+        (omega (arith, sum-grows (λ u. foundOf keys t u (getD of u 0)) (u + 1) (p + 1) (omega arith), found-few (below (p + 1))))
+
+    -- the ids are as many as are found
+    pub ids-found : (p : ℕ) → length (idsIn keys t of p) ≡ foundIn keys t of p
+    unfolding idsIn foundIn idsOf foundOf
+    ids-found p =
+        flat-length-sum (λ u. idsOf keys t u (getD of u 0)) (upTo p)
+        ∙ ap (λ (f : ℕ → ℕ). sum (map f (upTo p)))
+        (λ j u. ids-length (entryTag program (shareBy (keys .mt) u)) (shareBy (keys .me) u) t (getD of u 0) j)
