@@ -18,18 +18,18 @@ abbrev μ-loop : tie.MeasureT-loop
 more : (c : tie.After-found-of Inv-loop μ-loop) →
     let l = c .before .before .loop in
     let a = c .before .before .before .before .args in
-    l .found + c .found-of .result ≡ foundBelow (a .keys) (rows 61 (a .m) (a .t .now)) (a .of) (l .u + 1)
+    l .found + c .found-of .result ≡ foundBelow (a .keys) (rows 61 (a .m) (a .t .now)) (a .t4) (l .u + 1)
 more c =
     let l = c .before .before .loop in
     let a = c .before .before .before .before .args in
-    omega (arith, l .inv .1, c .found-of .ensures, found-below (a .keys) (rows 61 (a .m) (a .t .now)) (a .of) (l .u))
+    omega (arith, l .inv .1, c .found-of .ensures, found-below (a .keys) (rows 61 (a .m) (a .t .now)) (a .t4) (l .u))
 
 add-found : tie.Need-add-found Inv-loop μ-loop
 add-found c =
     let l = c .before .before .loop in
     let s = c .before .before .before .before in
     let a = s .args in
-    omega (arith, more c, s .pre .1 .1, found-fits (a .keys) (rows 61 (a .m) (a .t .now)) (a .of) (l .u) (a .p) (c .before .loop-test .taken))
+    omega (arith, more c, s .pre .1 .1, found-fits (a .keys) (rows 61 (a .m) (a .t .now)) (a .t4) (l .u) (a .p) (c .before .loop-test .taken))
 
 returns : tie.Need-returns Inv-loop μ-loop
 returns c =
@@ -37,7 +37,7 @@ returns c =
     let a = c .before .before .before .args in
     let t = rows 61 (a .m) (a .t .now) in
     let e : l .u ≡ a .p + 1 = omega (arith, l .inv .0, c .loop-test .left) in
-    l .inv .1 ∙ ap (foundBelow (a .keys) t (a .of)) e ∙ found-all (a .keys) t (a .of) (a .p)
+    l .inv .1 ∙ ap (foundBelow (a .keys) t (a .t4)) e ∙ found-all (a .keys) t (a .t4) (a .p)
 
 pub found-in-all-spec : {M : Type 1} → statement M
 found-in-all-spec =

@@ -29,8 +29,8 @@ write-of-requires c κs =
     let a = s .args in
     let t = rows 61 (a .m) (a .t .now) in
     (s .pre .0,
-     omega (arith, s .pre .1 .1, l .inv .1, l .inv .2 .number, ap length (ids-below (a .keys) t (a .of) (l .u)),
-     length-append (idsBelow (a .keys) t (a .of) (l .u)) (idsOf (a .keys) t (l .u) (getD (a .of) (l .u) 0)), ids-below-grow (a .keys) t (a .of) (l .u) (a .p) (omega (arith, c .before .loop-test .taken))))
+     omega (arith, s .pre .1 .1, l .inv .1, l .inv .2 .number, ap length (ids-below (a .keys) t (a .t4) (l .u)),
+     length-append (idsBelow (a .keys) t (a .t4) (l .u)) (idsOf (a .keys) t (l .u) (getD (a .t4) (l .u) 0)), ids-below-grow (a .keys) t (a .t4) (l .u) (a .p) (omega (arith, c .before .loop-test .taken))))
 
 loop-again : tie.Need-loop-again Inv-loop μ-loop
 loop-again c =
@@ -41,9 +41,9 @@ loop-again c =
     let a = s .args in
     let t = rows 61 (a .m) (a .t .now) in
     (search needs, w .kept .1 .1 .1 .1 .1 .0 ∙ l .inv .1,
-     subst (λ (ids : List (List ℕ)). Wrote (a .output .now) 0 ids (w .result) (w .last .1 .1 .1 .1 .1 .0)) (sym (ids-below (a .keys) t (a .of) (l .u)))
-     (wrote-more (a .output .now) 0 (idsBelow (a .keys) t (a .of) (l .u)) (idsOf (a .keys) t (l .u) (getD (a .of) (l .u) 0)) (l .k) (l .output) (w .result) (w .last .1 .1 .1 .1 .1 .0)
-     (ids-below-wide (a .keys) t (a .of) (rows-wide 61 (a .m) (a .t .now) (omega (arith, s .pre .0))) (l .u)) (omega arith) (l .inv .2) (w .ensures .0) (w .ensures .1)))
+     subst (λ (ids : List (List ℕ)). Wrote (a .output .now) 0 ids (w .result) (w .last .1 .1 .1 .1 .1 .0)) (sym (ids-below (a .keys) t (a .t4) (l .u)))
+     (wrote-more (a .output .now) 0 (idsBelow (a .keys) t (a .t4) (l .u)) (idsOf (a .keys) t (l .u) (getD (a .t4) (l .u) 0)) (l .k) (l .output) (w .result) (w .last .1 .1 .1 .1 .1 .0)
+     (ids-below-wide (a .keys) t (a .t4) (rows-wide 61 (a .m) (a .t .now) (omega (arith, s .pre .0))) (l .u)) (omega arith) (l .inv .2) (w .ensures .0) (w .ensures .1)))
 
 same-length : tie.Need-same-length Inv-loop μ-loop
 same-length c = c .before .loop .inv .1
@@ -54,7 +54,7 @@ returns c =
     let a = c .before .before .before .before .args in
     let t = rows 61 (a .m) (a .t .now) in
     let e : l .u ≡ a .p + 1 = omega (arith, l .inv .0, c .loop-test .left) in
-    let h = subst (λ (ids : List (List ℕ)). Wrote (a .output .now) 0 ids (l .k) (l .output)) (ap (idsBelow (a .keys) t (a .of)) e ∙ ids-all (a .keys) t (a .of) (a .p)) (l .inv .2) in
+    let h = subst (λ (ids : List (List ℕ)). Wrote (a .output .now) 0 ids (l .k) (l .output)) (ap (idsBelow (a .keys) t (a .t4)) e ∙ ids-all (a .keys) t (a .t4) (a .p)) (l .inv .2) in
     (omega (arith, h .number), h .bytes)
 
 pub write-all-spec : {M : Type 1} → statement M
