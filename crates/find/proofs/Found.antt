@@ -216,3 +216,9 @@ module _ (keys : EntryKeys) (t : Table) where
         flat-length-sum (λ u. idsOf keys t u (getD of u 0)) (upTo p)
         ∙ ap (λ (f : ℕ → ℕ). sum (map f (upTo p)))
         (λ j u. ids-length (entryTag program (shareBy (keys .mt) u)) (shareBy (keys .me) u) t (getD of u 0) j)
+
+    pub ids-few : (p : ℕ) → length (idsIn keys t of p) ≤ sum (map (λ u. getD of u 0) (upTo p))
+    ids-few p = omega (arith, found-fits p p (omega arith), found-all p, ids-found p)
+
+    pub ids-bytes : Rows61 t → (p : ℕ) → length (flat (idsIn keys t of p)) ≡ 16 * length (idsIn keys t of p)
+    ids-bytes w p = flat-length 16 (idsIn keys t of p) (subst Ids16 (ids-all p) (ids-below-wide w (p + 1)))

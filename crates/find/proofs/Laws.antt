@@ -56,12 +56,18 @@ pub record Sound (f : ℕ → Reading) (p : ℕ) (c : Counts) : Type 0 where
   pub of : c .of ≡ filled (λ u. countOf (f u)) (p + 1) (replicate 16 0)
   pub sum : c .sum ≡ sum (map (λ u. countOf (f u)) (upTo p))
 
+-- by whether one is damaged
+abbrev countsBy : (ℕ → Reading) → ℕ → Bool → Counts
+countsBy f p b =
+    cond b (record { damaged = true; of = replicate 16 0; sum = 0 })
+    (record { damaged = false; of = filled (λ u. countOf (f u)) (p + 1) (replicate 16 0); sum = sum (map (λ u. countOf (f u)) (upTo p)) })
+
 module _ (f : ℕ → Reading) (p : ℕ) (c : Counts) (e : c ≡ countsOf f p) where
   pub told-damage : c .damaged ≡ true → anyOf (λ u. damaged (f u)) (upTo p) ≡ true
   unfolding countsOf
   told-damage d = go (anyOf (λ u. damaged (f u)) (upTo p)) (sym (ap (λ (c : Counts). c .damaged) e) ∙ d)
     where
-      go : (b : Bool) → cond b (record { damaged = true; of = replicate 16 0; sum = 0 }) (record { damaged = false; of = filled (λ u. countOf (f u)) (p + 1) (replicate 16 0); sum = sum (map (λ u. countOf (f u)) (upTo p)) }) .damaged ≡ true → b ≡ true
+      go : (b : Bool) → countsBy f p b .damaged ≡ true → b ≡ true
       go true q = refl
       go false q = q
 
@@ -69,8 +75,7 @@ module _ (f : ℕ → Reading) (p : ℕ) (c : Counts) (e : c ≡ countsOf f p) w
   unfolding countsOf
   told-sound d = go (anyOf (λ u. damaged (f u)) (upTo p)) refl e
     where
-      go : (b : Bool) → anyOf (λ u. damaged (f u)) (upTo p) ≡ b
-          → c ≡ cond b (record { damaged = true; of = replicate 16 0; sum = 0 }) (record { damaged = false; of = filled (λ u. countOf (f u)) (p + 1) (replicate 16 0); sum = sum (map (λ u. countOf (f u)) (upTo p)) }) → Sound f p c
+      go : (b : Bool) → anyOf (λ u. damaged (f u)) (upTo p) ≡ b → c ≡ countsBy f p b → Sound f p c
       go true q r = absurd (true≢false (sym (ap (λ (c : Counts). c .damaged) r) ∙ d))
       go false q r = record { none-damaged = q; of = ap (λ (c : Counts). c .of) r; sum = ap (λ (c : Counts). c .sum) r }
 
@@ -93,7 +98,7 @@ filled-at g l (suc n) u h k = go (ltb u n) refl (filled-at g l n u)
 -- the count of a share, read again
 pub count-at : (f : ℕ → Reading) (p : ℕ) (c : Counts) → Sound f p c → p ≤ 15 → (u : ℕ) → u ≤ p → getD (c .of) u 0 ≡ countOf (f u)
 count-at f p c s l u h =
-    ap (λ (x : List ℕ). getD x u 0) (s .of) ∙ filled-at (λ u. countOf (f u)) (replicate 16 0) (p + 1) u (omega arith) (omega (arith, length-replicate 16 0))
+    ap (λ (x : List ℕ). getD x u 0) (s .of) ∙ filled-at (λ u. countOf (f u)) (replicate 16 0) (p + 1) u (omega arith) (omega (arith, length-replicate {A = ℕ} 16 0))
 
 pub counts-sum : (f : ℕ → Reading) (p : ℕ) (c : Counts) → Sound f p c → p ≤ 15 → sum (map (λ u. getD (c .of) u 0) (upTo p)) ≡ c .sum
 counts-sum f p c s l = ap sum (map-upTo p (λ u. getD (c .of) u 0) (λ u. countOf (f u)) (count-at f p c s l)) ∙ sym (s .sum)

@@ -1,52 +1,23 @@
+-- Refused by the definition's tests, in its order; then find in the store.
+use mathlib.Core.Path.{sym, _∙_}
+use Rattle.find.proofs.Laws.{other-length, unfit-store}
 use borrow.Author.Needs.{needs}
 use Rattle.find.proofs.find.Statement.{statement}
 use Rattle.find.proofs.find.Tie as tie
-use Rattle.find.proofs.find.Reads as reads
-use Rattle.find.proofs.find.Lts as lts
-use Rattle.find.proofs.find_in.Reads as find-in-reads
-use Rattle.store.proofs.sizes.Reads as sizes-reads
 
--- src/lib.rt:242:9
 returns : tie.Need-returns
-returns c = search needs
+returns c = let a = c .before .before .before .before .args in other-length (a .store .now) (a .token .now) (a .output .now) (c .if1 .taken)
 
--- src/lib.rt:244:9
-sizes-requires : tie.Need-sizes-requires
-sizes-requires c κs = search needs
-
--- src/lib.rt:246:26
-enum-known-checked : tie.Need-enum-known-checked
-enum-known-checked c = search needs
-
--- src/lib.rt:247:22
-enum-known-checked-2 : tie.Need-enum-known-checked-2
-enum-known-checked-2 c = search needs
-
--- src/lib.rt:247:28
 find-in-requires : tie.Need-find-in-requires
-find-in-requires c κs = search needs
+find-in-requires c κs =
+    let k = c .before .before in
+    (sym (k .before .before .sizes .ensures) ∙ k .checked2 .given .1, k .before .before .before .if1 .left)
 
--- src/lib.rt:237:1
 returns-2 : tie.Need-returns-2
-returns-2 c = search needs
-
--- src/lib.rt:237:1
-same-length : tie.Need-same-length
-same-length c = search needs
-
--- src/lib.rt:237:1
-returns-3 : tie.Need-returns-3
-returns-3 c = search needs
+returns-2 c =
+    let s = c .before .before .before in
+    let a = s .before .before .before .before .before .args in
+    unfit-store (a .store .now) (a .token .now) (a .output .now) (s .before .if1 .left) (c .before .checked .given .0 .0) (sym (s .sizes .ensures) ∙ c .before .checked .given .1)
 
 pub find-spec : {M : Type 1} → statement M
-find-spec =
-    tie.close
-    (tie.spec
-    returns
-    sizes-requires
-    enum-known-checked
-    enum-known-checked-2
-    find-in-requires
-    returns-2
-    same-length
-    returns-3)
+find-spec = tie.close (tie.spec returns (λ c κs. search needs) (λ c. search needs) (λ c. search needs) find-in-requires returns-2 (λ c. search needs) (λ c. search needs))
