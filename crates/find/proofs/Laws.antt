@@ -190,6 +190,7 @@ module _ (before token output : List ℕ) where
             → (done (n ∷ []) ≡ find program before token output .answer) × (o ≡ find program before token output .output)
         all-written l o w k =
             let ids = idsFound program before token in
-            let v = told none (passed ∙ rw (sound, le-ltb (length output) (16 * length ids) (omega arith)) refl) in
-            (ap (λ (k : ℕ). done (k ∷ [])) q ∙ v .0,
-             w ∙ written-next [] output (flat ids) 0 refl ∙ ap (λ (j : ℕ). flat ids ++ drop j output) (k ∙ ap (λ (j : ℕ). 16 * j) q) ∙ v .1)
+            let v = told none (passed ∙ rw (sound, le-ltb (length output) (16 * length ids) (omega arith)) refl) in (
+              ap (λ (k : ℕ). done (k ∷ [])) q ∙ v .0,
+              w ∙ written-next [] output (flat ids) 0 refl ∙ ap (λ (j : ℕ). flat ids ++ drop j output) (k ∙ ap (λ (j : ℕ). 16 * j) q) ∙ v .1,
+            )

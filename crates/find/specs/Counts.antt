@@ -1,8 +1,8 @@
 -- What the readings of shares 0 to p come to: their counts, in an array of 16, with the sum, or that one is damaged
 -- (document 01, "Operations": find; "Refusals from the state": 13).
 use Prim.Native.Nat.{ℕ, zero, suc, _+_}
-use mathlib.Core.Bool.{Bool, true, false, cond}
-use mathlib.Core.List.{List, [], _∷_, map}
+use mathlib.Core.Bool.{true, false, cond}
+use mathlib.Core.List.{List, map}
 use lib.ListN.{set, replicate}
 use Rattle.table.specs.Lists.{anyOf, sum, upTo}
 use Rattle.scheme.specs.Reading.{Reading, damaged, countOf}

@@ -1,13 +1,13 @@
 -- The ids that are held and how many, at one address, in one share, in all shares (document 01, "Operations": find). The laws
 -- in proofs/Found.antt say that these are the scheme's.
 use Prim.Native.Nat.{ℕ, zero, suc, _+_}
-use mathlib.Core.List.{List, [], _∷_, _++_, map}
+use mathlib.Core.List.{List, [], _++_, map}
 use lib.ListN.{getD}
 use Rattle.table.specs.Lists.{bit, flat, sum, upTo}
 use Rattle.table.specs.Table.{Table, lookup, holds}
 use Rattle.hmac.specs.declared.Keyed.{Keyed}
 use Rattle.scheme.specs.Store.{entryTag}
-use Rattle.scheme.specs.Find.{idOf, idsTo}
+use Rattle.scheme.specs.Find.{idOf}
 use Rattle.suite.specs.Program.{program}
 use Rattle.counter.specs.Tags.{entryTagBy, shareBy}
 use Rattle.find.specs.declared.EntryKeys.{EntryKeys}

@@ -76,14 +76,14 @@ fn held(t: &[u8], m: usize, mt: Keyed, a: Address) -> u64
     if i < m { 1 } else { 0 }
 }
 
-// How many of addresses 1 to n are held.
-fn found_in_share(t: &[u8], m: usize, mt: Keyed, n: u64) -> u64
+// How many of addresses 1 to the count are held.
+fn found_in_share(t: &[u8], m: usize, mt: Keyed, count: u64) -> u64
     requires { ⌜ length (now t) ≡ 61 * m ⌝ }
-    ensures { λ r. ⌜ r ≡ foundTo (entryTags mt) (rows 61 m (now (t .entry))) n ⌝ }
+    ensures { λ r. ⌜ r ≡ foundTo (entryTags mt) (rows 61 m (now (t .entry))) count ⌝ }
 {
     let mut found: u64 = 0;
     let mut a: u64 = 0;
-    while a < n {
+    while a < count {
         a += 1;
         found += held(t, m, mt, Address(a));
     }

@@ -10,10 +10,10 @@ use Rattle.find.proofs.found_in_share.Statement.{statement}
 use Rattle.find.proofs.found_in_share.Tie as tie
 
 abbrev Inv-loop : tie.InvT-loop
-Inv-loop t m mt n found₀ a₀ found a = (a ≤ n) × (found ≡ foundTo (entryTags mt) (rows 61 m t) a)
+Inv-loop t m mt count found₀ a₀ found a = (a ≤ count) × (found ≡ foundTo (entryTags mt) (rows 61 m t) a)
 
 abbrev μ-loop : tie.MeasureT-loop
-μ-loop t m mt n found₀ a₀ found a = n - a
+μ-loop t m mt count found₀ a₀ found a = count - a
 
 loop-holds : tie.Need-loop-holds Inv-loop μ-loop
 loop-holds c = let s = c .before .args in (omega arith, found-none (entryTags (s .mt)) (rows 61 (s .m) (s .t .now)))
@@ -39,7 +39,7 @@ returns : tie.Need-returns Inv-loop μ-loop
 returns c =
     let l = c .before .loop in
     let s = c .before .before .before .args in
-    let e : l .a ≡ s .n = omega (arith, l .inv .0, c .loop-test .left) in
+    let e : l .a ≡ s .count = omega (arith, l .inv .0, c .loop-test .left) in
     l .inv .1 ∙ ap (foundTo (entryTags (s .mt)) (rows 61 (s .m) (s .t .now))) e
 
 pub found-in-share-spec : {M : Type 1} → statement M

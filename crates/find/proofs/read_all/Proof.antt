@@ -51,10 +51,11 @@ more c =
     let g = c .before .before .reading .given in
     let z = g .0 .0 in
     let f = shareRead (a .clx) (a .c) t in
-    let e = sym (ap readingOf (g .1)) ∙ r .read-share .ensures in
-    (summed-more f (l .u) (l .sum) (z .b .0) (z .start .0) (z .k) (z .count) (l .inv .1) e
-    (reading-bounds (a .c) (shareBy (a .clx) (l .u)) t (z .b .0) (z .start .0) (z .k) (z .count) e .count-limit),
-     ap₂ (λ (x : List ℕ) (y : ℕ). set x (l .u) y) (l .inv .2) (ap countOf e) ∙ ap (λ (n : ℕ). filled (λ u. countOf (f u)) n (replicate 16 0)) (sym (add-one (l .u))))
+    let e = sym (ap readingOf (g .1)) ∙ r .read-share .ensures in (
+      summed-more f (l .u) (l .sum) (z .b .0) (z .start .0) (z .k) (z .count) (l .inv .1) e
+          (reading-bounds (a .c) (shareBy (a .clx) (l .u)) t (z .b .0) (z .start .0) (z .k) (z .count) e .count-limit),
+      ap₂ (λ (x : List ℕ) (y : ℕ). set x (l .u) y) (l .inv .2) (ap countOf e) ∙ ap (λ (n : ℕ). filled (λ u. countOf (f u)) n (replicate 16 0)) (sym (add-one (l .u))),
+    )
 
 add-sum : tie.Need-add-sum Inv-loop μ-loop
 add-sum c = omega (arith, more c .0 .small, c .before .before .before .before .before .loop-test .taken)

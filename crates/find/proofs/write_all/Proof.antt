@@ -1,5 +1,5 @@
 -- The ids of the first u shares are written.
-use Prim.Native.Nat.{ℕ, _+_, _*_, _-_, _≤_}
+use Prim.Native.Nat.{ℕ, _+_, _-_, _≤_}
 use mathlib.Core.Path.{_≡_, refl, sym, ap, subst, _∙_}
 use mathlib.Core.List.{List}
 use native.Mathlib.Omega.{arith}
@@ -27,10 +27,18 @@ write-of-requires c κs =
     let l = c .before .before .loop in
     let s = c .before .before .before .before .before in
     let a = s .args in
-    let t = rows 61 (a .m) (a .t .now) in
-    (s .pre .0,
-     omega (arith, s .pre .1 .1, l .inv .1, l .inv .2 .number, ap length (ids-below (a .keys) t (a .t4) (l .u)),
-     length-append (idsBelow (a .keys) t (a .t4) (l .u)) (idsOf (a .keys) t (l .u) (getD (a .t4) (l .u) 0)), ids-below-grow (a .keys) t (a .t4) (l .u) (a .p) (omega (arith, c .before .loop-test .taken))))
+    let t = rows 61 (a .m) (a .t .now) in (
+      s .pre .0,
+      omega (
+        arith,
+        s .pre .1 .1,
+        l .inv .1,
+        l .inv .2 .number,
+        ap length (ids-below (a .keys) t (a .t4) (l .u)),
+        length-append (idsBelow (a .keys) t (a .t4) (l .u)) (idsOf (a .keys) t (l .u) (getD (a .t4) (l .u) 0)),
+        ids-below-grow (a .keys) t (a .t4) (l .u) (a .p) (omega (arith, c .before .loop-test .taken)),
+      ),
+    )
 
 loop-again : tie.Need-loop-again Inv-loop μ-loop
 loop-again c =
@@ -39,11 +47,13 @@ loop-again c =
     let l = i .before .loop in
     let s = i .before .before .before .before in
     let a = s .args in
-    let t = rows 61 (a .m) (a .t .now) in
-    (search needs, w .kept .1 .1 .1 .1 .1 .0 ∙ l .inv .1,
-     subst (λ (ids : List (List ℕ)). Wrote (a .output .now) 0 ids (w .result) (w .last .1 .1 .1 .1 .1 .0)) (sym (ids-below (a .keys) t (a .t4) (l .u)))
-     (wrote-more (a .output .now) 0 (idsBelow (a .keys) t (a .t4) (l .u)) (idsOf (a .keys) t (l .u) (getD (a .t4) (l .u) 0)) (l .k) (l .output) (w .result) (w .last .1 .1 .1 .1 .1 .0)
-     (ids-below-wide (a .keys) t (a .t4) (rows-wide 61 (a .m) (a .t .now) (omega (arith, s .pre .0))) (l .u)) (omega arith) (l .inv .2) (w .ensures .0) (w .ensures .1)))
+    let t = rows 61 (a .m) (a .t .now) in (
+      search needs,
+      w .kept .1 .1 .1 .1 .1 .0 ∙ l .inv .1,
+      subst (λ (ids : List (List ℕ)). Wrote (a .output .now) 0 ids (w .result) (w .last .1 .1 .1 .1 .1 .0)) (sym (ids-below (a .keys) t (a .t4) (l .u)))
+          (wrote-more (a .output .now) 0 (idsBelow (a .keys) t (a .t4) (l .u)) (idsOf (a .keys) t (l .u) (getD (a .t4) (l .u) 0)) (l .k) (l .output) (w .result) (w .last .1 .1 .1 .1 .1 .0)
+          (ids-below-wide (a .keys) t (a .t4) (rows-wide 61 (a .m) (a .t .now) (omega (arith, s .pre .0))) (l .u)) (omega arith) (l .inv .2) (w .ensures .0) (w .ensures .1)),
+    )
 
 same-length : tie.Need-same-length Inv-loop μ-loop
 same-length c = c .before .loop .inv .1

@@ -1,5 +1,5 @@
 -- MT of the share, prepared, and ME.
-use Prim.Native.Nat.{ℕ, _+_, _*_}
+use Prim.Native.Nat.{ℕ, _*_}
 use mathlib.Core.Path.{_≡_, ap, _∙_}
 use mathlib.Core.List.{List}
 use native.Mathlib.Omega.{arith}
@@ -34,9 +34,10 @@ returns : tie.Need-returns
 returns c =
     let w = c .before .before in
     let m = w .before .before .before in
-    let a = m .before .before .before .before .before .before .args in
-    (omega (arith, w .write-share .ensures .0, ap length (ids m)),
-     w .write-share .ensures .1 ∙ ap (λ (l : List (List ℕ)). written (a .output .now) (16 * a .k) (flat l)) (ids m))
+    let a = m .before .before .before .before .before .before .args in (
+      omega (arith, w .write-share .ensures .0, ap length (ids m)),
+      w .write-share .ensures .1 ∙ ap (λ (l : List (List ℕ)). written (a .output .now) (16 * a .k) (flat l)) (ids m),
+    )
 
 pub write-of-spec : {M : Type 1} → statement M
 write-of-spec =

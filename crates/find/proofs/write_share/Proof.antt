@@ -1,10 +1,9 @@
 -- The ids at the first a addresses are written.
-use Prim.Native.Nat.{ℕ, _+_, _*_, _-_, _≤_}
+use Prim.Native.Nat.{ℕ, _+_, _-_, _≤_}
 use mathlib.Core.Path.{_≡_, refl, sym, ap, subst, _∙_}
 use mathlib.Core.List.{List}
 use native.Mathlib.Omega.{arith}
 use lib.ListN.{length, length-append}
-use Rattle.table.specs.Lists.{flat}
 use Rattle.table.specs.Table.{rows}
 use Rattle.table.proofs.Rows.{rows-wide}
 use Rattle.find.specs.Ids.{entryTags, idAt, idsBy}
@@ -31,10 +30,19 @@ write-entry-requires c κs =
     let s = c .before .before .before .before .before in
     let a = s .args in
     let tag = entryTags (a .mt) in
-    let t = rows 61 (a .m) (a .t .now) in
-    (s .pre .0,
-     omega (arith, s .pre .1, l .inv .1, l .inv .2 .number, c .before .loop-test .taken, ap length (ids-next tag (a .me .now) t (l .a)),
-     length-append (idsBy tag (a .me .now) t (l .a)) (idAt tag (a .me .now) t (l .a + 1)), ids-grow tag (a .me .now) t (l .a + 1) (a .n) (omega (arith, c .before .loop-test .taken))))
+    let t = rows 61 (a .m) (a .t .now) in (
+      s .pre .0,
+      omega (
+        arith,
+        s .pre .1,
+        l .inv .1,
+        l .inv .2 .number,
+        c .before .loop-test .taken,
+        ap length (ids-next tag (a .me .now) t (l .a)),
+        length-append (idsBy tag (a .me .now) t (l .a)) (idAt tag (a .me .now) t (l .a + 1)),
+        ids-grow tag (a .me .now) t (l .a + 1) (a .n) (omega (arith, c .before .loop-test .taken)),
+      ),
+    )
 
 loop-again : tie.Need-loop-again Inv-loop μ-loop
 loop-again c =
@@ -44,11 +52,13 @@ loop-again c =
     let s = i .before .before .before .before in
     let a = s .args in
     let tag = entryTags (a .mt) in
-    let t = rows 61 (a .m) (a .t .now) in
-    (omega (arith, i .loop-test .taken), w .kept .1 .1 .1 .1 .1 .0 ∙ l .inv .1,
-     subst (λ (ids : List (List ℕ)). Wrote (a .output .now) (a .k) ids (w .result) (w .last .1 .1 .1 .1 .1 .0)) (sym (ids-next tag (a .me .now) t (l .a)))
-     (wrote-more (a .output .now) (a .k) (idsBy tag (a .me .now) t (l .a)) (idAt tag (a .me .now) t (l .a + 1)) (l .next) (l .output) (w .result) (w .last .1 .1 .1 .1 .1 .0)
-     (ids-wide tag (a .me .now) t (rows-wide 61 (a .m) (a .t .now) (omega (arith, s .pre .0))) (l .a)) (omega (arith, s .pre .1)) (l .inv .2) (w .ensures .0) (w .ensures .1)))
+    let t = rows 61 (a .m) (a .t .now) in (
+      omega (arith, i .loop-test .taken),
+      w .kept .1 .1 .1 .1 .1 .0 ∙ l .inv .1,
+      subst (λ (ids : List (List ℕ)). Wrote (a .output .now) (a .k) ids (w .result) (w .last .1 .1 .1 .1 .1 .0)) (sym (ids-next tag (a .me .now) t (l .a)))
+          (wrote-more (a .output .now) (a .k) (idsBy tag (a .me .now) t (l .a)) (idAt tag (a .me .now) t (l .a + 1)) (l .next) (l .output) (w .result) (w .last .1 .1 .1 .1 .1 .0)
+          (ids-wide tag (a .me .now) t (rows-wide 61 (a .m) (a .t .now) (omega (arith, s .pre .0))) (l .a)) (omega (arith, s .pre .1)) (l .inv .2) (w .ensures .0) (w .ensures .1)),
+    )
 
 same-length : tie.Need-same-length Inv-loop μ-loop
 same-length c = c .before .loop .inv .1
