@@ -3,7 +3,7 @@ use Prim.Native.Nat.{ℕ, zero, suc, _+_, _-_, _*_, _≤_, _<_}
 use mathlib.Core.Path.{_≡_, refl, sym, ap, ap₂, _∙_}
 use mathlib.Core.Bool.{Bool, true, false, cond, not, _||_, true≢false}
 use mathlib.Core.Option.{some}
-use mathlib.Core.List.{List, []}
+use mathlib.Core.List.{List, [], _∷_, _++_}
 use native.Mathlib.Nat.{zero-add}
 use native.Mathlib.Omega.{arith}
 use borrow.Author.Tests.{lt-ltb, le-ltb, ne-eqb, ltb-false}
@@ -21,11 +21,12 @@ use Rattle.scheme.specs.Keys.{CE}
 use Rattle.scheme.specs.Store.{counterTag, anchorTag, plainIn}
 use Rattle.scheme.specs.Reading.{limit, walk, Numbers, Reading, numbersAt, anchorsHeld, anchorNumbers, startOf, countersHeld, counterNumbers, isDamage, reading}
 use Rattle.scheme.specs.Reading.Reading.{counter, damage}
+use Rattle.scheme.specs.Compaction.{heldPlaces}
 use Rattle.suite.specs.Program.{program}
 use Rattle.counter.specs.declared.Keys.{Keys}
 use Rattle.counter.specs.Tags.{KeysOf}
-use Rattle.counter.specs.Walks.{counterTags, anchorTags, heldIn, lastPlace}
-use Rattle.counter.specs.Outcome.{numbersIn, numbersOr, anchorBad, counterBad}
+use Rattle.counter.specs.Walks.{counterTags, anchorTags, heldIn, lastPlace, placesOf, noted}
+use Rattle.counter.specs.Outcome.{numbersIn, numbersOr, anchorBad, counterBad, placesNoted}
 use Rattle.counter.proofs.Tags.{counter-tags, anchor-tags}
 use Rattle.counter.proofs.Walks.{walk-held, walk-le}
 
@@ -145,6 +146,41 @@ module _ (c : ℕ) (cl : List ℕ) (t : Table) where
           ap (λ (l : List ℕ). numbersOr l t at (record { a = 0; n = x .n })) (p .ce) ∙ numbers-last (counterTags (keys .ct)) t cl c (x .a) k at (record { a = 0; n = x .n }) h e
           ∙ ap₂ (λ (g : ℕ → List ℕ) (i : ℕ). cond (eqb k 0) (record { a = 0; n = x .n }) (numbersAt program cl (lookup (g (i + k)) t))) (counter-tags (keys .ct) cl (p .ct)) (start-is x o)
           ∙ ap₂ (λ (j i : ℕ). cond (eqb j 0) (record { a = 0; n = i }) (numbersAt program cl (lookup (counterTag program cl (startOf program c cl t + j)) t))) counters-are (ap (λ (y : Numbers). y .n) o)
+
+  -- the places that a reading notes
+  module _ (x : Numbers) (e : x ≡ anchorNumbers program c cl t) (old : List ℕ) where
+    pub places-kept : anchorBad x ≡ true → old ≡ placesNoted c cl t old
+    unfolding placesNoted
+    places-kept h =
+        ap (λ (b : Bool). cond b old (noted (counterTag program cl) t (startOf program c cl t) (countersHeld program c cl t) old)) (sym h ∙ ap anchorBad e)
+
+    pub places-are : (keys : Keys) → KeysOf keys cl → anchorBad x ≡ false → (k : ℕ) → k ≡ countersHeld program c cl t
+        → (list : List ℕ) → list ≡ noted (counterTags (keys .ct)) t (x .a) k old → list ≡ placesNoted c cl t old
+    unfolding placesNoted
+    places-are keys p h k f list g =
+        g ∙ ap₂ (λ (tag : ℕ → List ℕ) (i : ℕ). noted tag t i k old) (counter-tags (keys .ct) cl (p .ct)) (start-is x e)
+        ∙ ap (λ (j : ℕ). noted (counterTag program cl) t (startOf program c cl t) j old) f
+        ∙ ap (λ (b : Bool). cond b old (noted (counterTag program cl) t (startOf program c cl t) (countersHeld program c cl t) old)) (sym h ∙ ap anchorBad e)
+
+  -- where the reading is a counter: the rows that a compaction frees
+  pub places-held : (b start k n : ℕ) (old : List ℕ) → counter b start k n ≡ reading program c cl t → placesNoted c cl t old ≡ heldPlaces program cl t start k ++ drop k old
+  unfolding placesNoted reading isDamage
+  places-held b start k n old e = go (anchorBad (anchorNumbers program c cl t)) (isDamage program c cl t) refl refl e
+    where
+      same-places : (i j : ℕ) → placesOf (counterTag program cl) t i j ≡ heldPlaces program cl t i j
+      same-places i zero = refl
+      same-places i (suc j) = ap (λ (l : List ℕ). placeOf (counterTag program cl (suc i)) t ∷ l) (same-places (suc i) j)
+
+      go : (a d : Bool) → anchorBad (anchorNumbers program c cl t) ≡ a → (ltb limit (anchorNumbers program c cl t .a) || (ltb limit (anchorNumbers program c cl t .n) || counterBad (counterNumbers program c cl t))) ≡ d
+          → counter b start k n ≡ answer d
+          → cond a old (noted (counterTag program cl) t (startOf program c cl t) (countersHeld program c cl t) old) ≡ heldPlaces program cl t start k ++ drop k old
+      go a true f g h = absurd (let z : _≡_ {A = ℕ} 0 1 = cc in omega arith)
+      go true false f g h =
+          absurd (true≢false (sym (either (ltb limit (anchorNumbers program c cl t .a)) (ltb limit (anchorNumbers program c cl t .n)) (counterBad (counterNumbers program c cl t)) f) ∙ g))
+      go false false f g h =
+          let es : startOf program c cl t ≡ start = cc in
+          let ek : countersHeld program c cl t ≡ k = cc in
+          ap₂ (λ (i j : ℕ). noted (counterTag program cl) t i j old) es ek ∙ ap (λ (l : List ℕ). l ++ drop k old) (same-places start k)
 
   -- a reading that is no damage
   pub reading-bounds : (b start k n : ℕ) → counter b start k n ≡ reading program c cl t → Bounds c b start k n

@@ -1,17 +1,18 @@
--- A walk goes on from where it stands: what is left decides. And the row of the last number held is held.
+-- A walk goes on from where it stands: what is left decides. The row of the last number held is held. Places are noted one by one.
 use Prim.Native.Nat.{ℕ, zero, suc, _+_, _-_, _≤_, _<_}
 use mathlib.Core.Path.{_≡_, refl, sym, ap, ap₂, _∙_}
 use mathlib.Core.Bool.{Bool, true, false, cond}
-use mathlib.Core.List.{List}
+use mathlib.Core.List.{List, [], _∷_, _++_, append-assoc}
 use native.Mathlib.Nat.{not-suc-le-zero, zero-add, add-zero}
 use native.Mathlib.Numerals.{add-one}
 use native.Mathlib.Omega.{arith}
 use borrow.Author.Tests.{lt-ltb, le-ltb}
-use lib.ListN.{length}
+use lib.ListN.{length, length-append, length-drop, getD, drop, set}
+use lib.Seq.{drop-cons, set-at}
 use Rattle.table.specs.Table.{Table, holds, placeOf}
 use Rattle.table.proofs.Walk.{place-holds}
 use Rattle.scheme.specs.Reading.{walk}
-use Rattle.counter.specs.Walks.{heldIn, lastPlace}
+use Rattle.counter.specs.Walks.{heldIn, lastPlace, placesOf, noted}
 
 module _ (held : ℕ → Bool) where
   walk-more : (left n : ℕ) → 0 < left → held (n + 1) ≡ true → walk held left n ≡ suc (walk held (left - 1) (n + 1))
@@ -88,3 +89,28 @@ module _ (tag : ℕ → List ℕ) (t : Table) (c i : ℕ) where
         let s = w .total in
         let e = walk-end (heldIn tag t) left (i + k) h in
         (omega arith, w .place)
+
+-- ---- places
+
+module _ (tag : ℕ → List ℕ) (t : Table) where
+  places-length : (i k : ℕ) → length (placesOf tag t i k) ≡ k
+  places-length i zero = refl
+  places-length i (suc k) = ap suc (places-length (suc i) k)
+
+  places-next : (i k : ℕ) → placesOf tag t i (suc k) ≡ placesOf tag t i k ++ (placeOf (tag (i + k + 1)) t ∷ [])
+  places-next i zero = ap (λ (n : ℕ). placeOf (tag n) t ∷ []) (let e : suc i ≡ i + 0 + 1 = omega arith in e)
+  places-next i (suc k) =
+      ap (λ (l : List ℕ). placeOf (tag (suc i)) t ∷ l)
+      (places-next (suc i) k ∙ ap (λ (n : ℕ). placesOf tag t (suc i) k ++ (placeOf (tag n) t ∷ [])) (let e : suc i + k + 1 ≡ i + suc k + 1 = omega arith in e))
+
+  module _ (i k : ℕ) (old list : List ℕ) (e : list ≡ noted tag t i k old) where
+    pub noted-length : k ≤ length old → length list ≡ length old
+    noted-length h =
+        ap length e ∙ length-append (placesOf tag t i k) (drop k old) ∙ omega (arith, places-length i k, length-drop k old)
+
+    pub noted-more : k < length old → (j : ℕ) → j ≡ placeOf (tag (i + k + 1)) t → set list k j ≡ noted tag t i (k + 1) old
+    noted-more h j f =
+        ap₂ (λ (l : List ℕ) (x : ℕ). set l k x) (e ∙ ap (λ (l : List ℕ). placesOf tag t i k ++ l) (drop-cons old k 0 h)) f
+        ∙ set-at (placesOf tag t i k) (getD old k 0) (drop (suc k) old) (placeOf (tag (i + k + 1)) t) k (places-length i k)
+        ∙ sym (append-assoc (placesOf tag t i k) (placeOf (tag (i + k + 1)) t ∷ []) (drop (suc k) old))
+        ∙ ap (λ (l : List ℕ). l ++ drop (suc k) old) (sym (places-next i k)) ∙ ap (λ (n : ℕ). noted tag t i n old) (sym (add-one k))

@@ -7,9 +7,11 @@ use lib.ListN.{length, getD, take, drop}
 use Rattle.chacha20.specs.Cipher.{E}
 use Rattle.table.specs.Table.{Table, body}
 use Rattle.scheme.specs.Suite.{valueOf}
-use Rattle.scheme.specs.Reading.{limit, Numbers as SchemeNumbers, Reading as SchemeReading, reading}
+use Rattle.scheme.specs.Store.{counterTag}
+use Rattle.scheme.specs.Reading.{limit, Numbers as SchemeNumbers, Reading as SchemeReading, anchorNumbers, startOf, countersHeld, reading}
 use Rattle.scheme.specs.Reading.Reading.{counter, damage}
 use Rattle.suite.specs.Program.{program}
+use Rattle.counter.specs.Walks.{noted}
 use Rattle.hmac.specs.declared.Keyed.{Keyed}
 use Rattle.counter.specs.Tags.{shareBy}
 use Rattle.counter.specs.declared.Numbers.{Numbers}
@@ -50,3 +52,8 @@ shareRead clx c t u = reading program c (shareBy clx u) t
 abbrev pub readingOf : Reading → SchemeReading
 readingOf (Counter c) = counter (c .b .0) (c .start .0) (c .k) (c .count)
 readingOf Damage = damage
+
+-- a list of places after a reading: the places of the counters held stand over its start, where anchor B let them be walked
+unfoldable pub placesNoted : ℕ → List ℕ → Table → List ℕ → List ℕ
+placesNoted c cl t old =
+    cond (anchorBad (anchorNumbers program c cl t)) old (noted (counterTag program cl) t (startOf program c cl t) (countersHeld program c cl t) old)

@@ -2,8 +2,8 @@
 -- place of the last one's row.
 use Prim.Native.Nat.{ℕ, zero, suc, _+_}
 use mathlib.Core.Bool.{Bool}
-use mathlib.Core.List.{List}
-use lib.ListN.{length}
+use mathlib.Core.List.{List, [], _∷_, _++_}
+use lib.ListN.{length, drop}
 use Rattle.table.specs.Table.{Table, holds, placeOf}
 use Rattle.hmac.specs.declared.Keyed.{Keyed}
 use Rattle.counter.specs.Tags.{counterTagBy, anchorTagBy}
@@ -23,3 +23,12 @@ heldIn tag t = λ i. holds (tag i) t
 unfoldable pub lastPlace : (ℕ → List ℕ) → Table → ℕ → ℕ → ℕ
 lastPlace tag t i zero = length t
 lastPlace tag t i (suc k) = placeOf (tag (i + suc k)) t
+
+-- the places of the rows of the k numbers after i
+abbrev pub placesOf : (ℕ → List ℕ) → Table → ℕ → ℕ → List ℕ
+placesOf tag t i zero = []
+placesOf tag t i (suc k) = placeOf (tag (suc i)) t ∷ placesOf tag t (suc i) k
+
+-- a list of places with those over its start
+abbrev pub noted : (ℕ → List ℕ) → Table → ℕ → ℕ → List ℕ → List ℕ
+noted tag t i k old = placesOf tag t i k ++ drop k old

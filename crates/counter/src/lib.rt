@@ -9,8 +9,8 @@ ghost use Rattle.scheme.specs.Suite.{number8};
 ghost use Rattle.scheme.specs.Reading.{limit, walk, reading};
 ghost use Rattle.suite.specs.Program.{program};
 ghost use Rattle.counter.specs.Tags.{tagBy, entryTagBy, counterTagBy, anchorTagBy, shareBy, KeysOf};
-ghost use Rattle.counter.specs.Walks.{counterTags, anchorTags, heldIn, lastPlace};
-ghost use Rattle.counter.specs.Outcome.{textIn, numbersIn, numbersOr, numbersOf, anchorBad, counterBad, readingOf, shareRead};
+ghost use Rattle.counter.specs.Walks.{counterTags, anchorTags, heldIn, lastPlace, noted};
+ghost use Rattle.counter.specs.Outcome.{textIn, numbersIn, numbersOr, numbersOf, anchorBad, counterBad, readingOf, placesNoted, shareRead};
 use hmac::Keyed;
 
 // Entry address: the number in the tag of an M row. [01:ST17 FM10]
@@ -182,9 +182,11 @@ struct Counters {
 }
 
 // The greatest k up to c such that counters Start + 1 to Start + k are all held. [01:RC3]
-fn counters_held(t: &[u8], c: usize, ct: Keyed, start: Position) -> Counters
-    requires { ⌜ (length (now t) ≡ 61 * c) × ((c ≤ 4096) × (start .0 ≤ limit)) ⌝ }
+// Their places are noted.
+fn counters_held(t: &[u8], c: usize, ct: Keyed, start: Position, places: &mut [u16]) -> Counters
+    requires { ⌜ ((length (now t) ≡ 61 * c) × (c ≤ length (now places))) × ((c ≤ 4096) × (start .0 ≤ limit)) ⌝ }
     ensures { λ r. ⌜ (r .k ≡ walk (heldIn (counterTags ct) (rows 61 c (now (t .entry)))) c (start .0)) × (r .at ≡ lastPlace (counterTags ct) (rows 61 c (now (t .entry))) (start .0) (r .k)) ⌝ }
+    ensures { λ r. ⌜ now (places .exit) ≡ noted (counterTags ct) (rows 61 c (now (t .entry))) (start .0) (r .k) (now (places .entry)) ⌝ }
 {
     let mut k: u64 = 0;
     let mut at = c;
@@ -195,6 +197,7 @@ fn counters_held(t: &[u8], c: usize, ct: Keyed, start: Position) -> Counters
         if c <= i {
             return Counters { k, at };
         }
+        places[k as usize] = i as u16;
         k += 1;
         at = i;
         rest -= 1;
@@ -233,12 +236,14 @@ pub enum Reading {
     Damage,
 }
 
-// Reads the counter of CL, whose keys are given, out of the part that holds table C. Anchor B is
-// tested before the counters are walked, since Start + k could pass 2^64; only anchor B and counter
-// Start + k are decrypted, each where it exists. [01:RC5 RC6 RC7]
-pub fn read_by(t: &[u8], c: usize, cl: &[u8; 32], keys: Keys) -> Reading
-    requires { ⌜ (length (now t) ≡ 61 * c) × ((c ≤ 4096) × KeysOf keys (now cl)) ⌝ }
+// Reads the counter of CL, whose keys are given, out of the part that holds table C, and notes the
+// places of the counters that it held. Anchor B is tested before the counters are walked, since Start
+// + k could pass 2^64; only anchor B and counter Start + k are decrypted, each where it exists.
+// [01:RC5 RC6 RC7]
+pub fn read_by(t: &[u8], c: usize, cl: &[u8; 32], keys: Keys, places: &mut [u16]) -> Reading
+    requires { ⌜ ((length (now t) ≡ 61 * c) × (c ≤ length (now places))) × ((c ≤ 4096) × KeysOf keys (now cl)) ⌝ }
     ensures { λ r. ⌜ readingOf r ≡ reading program c (now (cl .entry)) (rows 61 c (now (t .entry))) ⌝ }
+    ensures { λ _. ⌜ now (places .exit) ≡ placesNoted c (now (cl .entry)) (rows 61 c (now (t .entry))) (now (places .entry)) ⌝ }
 {
     let ct = keys.ct;
     let ce = keys.ce;
@@ -248,7 +253,7 @@ pub fn read_by(t: &[u8], c: usize, cl: &[u8; 32], keys: Keys) -> Reading
         return Reading::Damage;
     }
     let start = Position(anchor.a);
-    let counters = counters_held(t, c, ct, start);
+    let counters = counters_held(t, c, ct, start, places);
     let counter = numbers_or(t, c, counters.at, &ce, Numbers { a: 0, n: anchor.n });
     if counter_damaged(counter) {
         return Reading::Damage;
@@ -267,7 +272,8 @@ pub fn read(t: &[u8], c: usize, cl: &[u8; 32]) -> Reading
     requires { ⌜ (length (now t) ≡ 61 * c) × (c ≤ 4096) ⌝ }
     ensures { λ r. ⌜ readingOf r ≡ reading program c (now (cl .entry)) (rows 61 c (now (t .entry))) ⌝ }
 {
-    read_by(t, c, cl, keys_of(cl))
+    let mut places = [0u16; 4096];
+    read_by(t, c, cl, keys_of(cl), &mut places)
 }
 
 // Reads the counter of share u, whose CL comes from the prepared F(KC, x).

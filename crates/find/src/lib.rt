@@ -8,7 +8,7 @@ ghost use lib.ListN.{length, getD};
 ghost use Rattle.octets.specs.Part.{written};
 ghost use Rattle.answer.specs.Answer.{counted};
 ghost use Rattle.table.specs.Lists.{flat, sum, upTo};
-ghost use Rattle.table.specs.Table.{rows};
+ghost use Rattle.table.specs.Table.{rows, placeOf};
 ghost use Rattle.scheme.specs.Find.{find as findOf};
 ghost use Rattle.suite.specs.Program.{program};
 ghost use Rattle.store.specs.Check.{checkedOf};
@@ -66,13 +66,21 @@ struct EntryKeys {
     me: Keyed,
 }
 
-// 1 where the entry at an address is held, with the prepared MT; else 0.
+// The place of the row of M at an address, with the prepared MT; m where there is none. [01:ST6 ST13]
+fn place(t: &[u8], m: usize, mt: Keyed, a: Address) -> usize
+    requires { ⌜ length (now t) ≡ 61 * m ⌝ }
+    ensures { λ r. ⌜ r ≡ placeOf (entryTags mt (a .0)) (rows 61 m (now (t .entry))) ⌝ }
+{
+    let tag = counter::entry_tag(mt, a);
+    table::place(t, 61, m, &tag)
+}
+
+// 1 where the entry at an address is held; else 0.
 fn held(t: &[u8], m: usize, mt: Keyed, a: Address) -> u64
     requires { ⌜ length (now t) ≡ 61 * m ⌝ }
     ensures { λ r. ⌜ r ≡ foundAt (entryTags mt) (rows 61 m (now (t .entry))) (a .0) ⌝ }
 {
-    let tag = counter::entry_tag(mt, a);
-    let i = table::place(t, 61, m, &tag);
+    let i = place(t, m, mt, a);
     if i < m { 1 } else { 0 }
 }
 
@@ -105,8 +113,7 @@ fn write_entry(
     ensures { λ r. ⌜ r ≡ k + length (idAt (entryTags mt) (now (me .entry)) (rows 61 m (now (t .entry))) (a .0)) ⌝ }
     ensures { λ _. ⌜ now (output .exit) ≡ written (now (output .entry)) (16 * k) (flat (idAt (entryTags mt) (now (me .entry)) (rows 61 m (now (t .entry))) (a .0))) ⌝ }
 {
-    let tag = counter::entry_tag(mt, a);
-    let i = table::place(t, 61, m, &tag);
+    let i = place(t, m, mt, a);
     if i < m {
         let id = counter::text_at(t, m, i, me);
         octets::copy_at(output, 16 * k, &id);

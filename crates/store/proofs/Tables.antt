@@ -1,17 +1,18 @@
 -- The tables as parts of the store. `Laid m c s b st` says that the bytes b are the store st with these sizes; a lent part that
 -- came back leaves it so, with that table replaced, whichever table it was.
-use Prim.Native.Nat.{ℕ, _+_, _*_, _-_, _≤_}
+use Prim.Native.Nat.{ℕ, _+_, _*_, _-_, _≤_, _<_}
 use mathlib.Core.Path.{_≡_, refl, sym, ap, ap₂, subst, _∙_}
 use mathlib.Core.List.{List, [], _++_, append-assoc, append-nil}
 use native.Mathlib.Omega.{arith}
-use lib.ListN.{length, take, drop, length-append, length-drop, take-append-drop}
+use native.Mathlib.Nat.{add-sub-cancel-left}
+use lib.ListN.{length, getD, take, drop, length-append, length-drop, take-append-drop}
 use lib.Seq.{take-at, drop-at, drop-drop, length-take-le}
 use Rattle.octets.specs.Part.{back}
 use Rattle.octets.proofs.Parts.{back-next}
 use Rattle.table.specs.Lists.{flat, All}
 use Rattle.table.specs.Table.{Table, rows}
 use Rattle.table.proofs.Rows.{flat-length, rows-flat, rows-length, rows-wide}
-use Rattle.table.proofs.Walk.{flat-rows, rows-take}
+use Rattle.table.proofs.Walk.{flat-rows, rows-take, row-at}
 use Rattle.scheme.specs.Store.{Store, sizesOf, cut, joined}
 use Rattle.store.specs.declared.Shape.{Shape}
 use Rattle.store.specs.declared.Checked.the-variants.{Fit}
@@ -146,6 +147,16 @@ module _ (m c s : ℕ) (b : List ℕ) (st : Store) (l : Laid m c s b st) where
 
   pub laid-rows : (k : Which) → rows (widthOf k) (rowsOf m c s k) (take (endOf m c s k - startOf m c s k) (drop (startOf m c s k) b)) ≡ tableIn k st
   laid-rows k = ap (rows (widthOf k) (rowsOf m c s k)) (laid-part k) ∙ wide-rows (widthOf k) (rowsOf m c s k) (tableIn k st) (l .wide k)
+
+  -- a row of a table stands so many bytes behind the table's start
+  pub laid-row : (k : Which) (i : ℕ) → i < rowsOf m c s k
+      → take (startOf m c s k + widthOf k * i + widthOf k - (startOf m c s k + widthOf k * i)) (drop (startOf m c s k + widthOf k * i) b) ≡ getD (tableIn k st) i []
+  laid-row k i h =
+      let w = widthOf k in
+      let a = startOf m c s k in
+      let n = rowsOf m c s k in
+      ap (λ (x : ℕ). take x (drop (a + w * i) b)) (add-sub-cancel-left (a + w * i) w) ∙ ap (take w) (sym (drop-drop (w * i) a b)) ∙ sym (row-at w n i (drop a b) h)
+      ∙ ap (λ (t : Table). getD t i []) (sym (rows-take w n (endOf m c s k - a) (drop a b) (omega (arith, part-long m c s k))) ∙ laid-rows k)
 
   -- the part came back as ys
   module _ (k : Which) (ys : List ℕ) (h : length ys ≡ widthOf k * rowsOf m c s k) where

@@ -124,6 +124,15 @@ free-where-all P w q (r ∷ rs) z a = (go (not (isFree r) && q (body r)), free-w
     go true = z
     go false = a .0
 
+-- nothing passes
+pub free-where-none : (w : ℕ) (t : Table) → freeWhere w (λ b. false) t ≡ t
+free-where-none w [] = refl
+free-where-none w (r ∷ rs) = ap₂ (λ (x : Row) (xs : Table). x ∷ xs) (go (isFree r)) (free-where-none w rs)
+  where
+    go : (b : Bool) → cond (not b && false) (zeroRow w) r ≡ r
+    go true = refl
+    go false = refl
+
 -- freed by one test, then by another
 pub free-where-or : (w : ℕ) (p q : List ℕ → Bool) (t : Table) → freeWhere w q (freeWhere w p t) ≡ freeWhere w (λ b. p b || q b) t
 free-where-or w p q [] = refl

@@ -40,7 +40,7 @@ pub row-length : (w n i : ℕ) (t : List ℕ) → i < n → length t ≡ w * n �
 row-length w n i t h e =
     length-part t (w * i) (w * i + w) (omega (arith, row-end w n i h)) ∙ add-sub-cancel-left (w * i) w
 
-drop-take : (a w : ℕ) (l : List ℕ) → drop a (take w l) ≡ take (w - a) (drop a l)
+pub drop-take : (a w : ℕ) (l : List ℕ) → drop a (take w l) ≡ take (w - a) (drop a l)
 drop-take zero w l = ap (λ (m : ℕ). take m l) (let e : w ≡ w - 0 = omega arith in e)
 drop-take (suc a) zero l = ap (λ (m : ℕ). take m (drop (suc a) l)) (let e : 0 ≡ 0 - suc a = omega arith in e)
 drop-take (suc a) (suc w) [] = sym (take-nil (suc w - suc a))

@@ -3,22 +3,14 @@
 // for each: the output in hexadecimal, or the refusal's number and whether the output was left as
 // lent. tests/vectors.py makes the records and the lines to expect.
 //
-// Input: a number of 4 bytes, big-endian, how many records follow. A record is its kind (1: hash,
-// 2: keyed hash, 3: cipher) and its byte strings in the order of the call's arguments. A byte
-// string is its form and its length in 4 bytes; form 0 has the bytes, form 1 a seed of 4 bytes.
+// Input: the number of records that follow. A record is its kind (1: hash, 2: keyed hash, 3: cipher)
+// and its byte strings in the order of the call's arguments; crates/records reads them.
 //
 // No contract can say what is read or written, so a function that only writes promises just that
 // it gives back nothing.
 use answer::Completion;
-use libc::STDIN_FILENO;
 use libc::STDOUT_FILENO;
-
-mod pattern;
-
 ghost use mathlib.Core.Path.{_≡_};
-ghost use Prim.Native.Nat.{_<_, _^_};
-ghost use lib.ListN.{length};
-ghost use Rattle.io.specs.Counts.{Counts};
 ghost use Rattle.chacha20.specs.Call.{cipherText};
 
 // Room for a byte string: the longest that a call accepts is 65,536 bytes, and the records have
@@ -28,71 +20,10 @@ const ROOM: usize = 65600;
 // What a digest's bytes are before the call.
 const LENT: u8 = 165;
 
-// A byte as a wider number.
-fn wide(x: u8) -> u64
-    ensures { λ r. ⌜ (r ≡ x) × (r < 256) ⌝ }
-{
-    x as u64
-}
-
-// Of what is read a contract can say its range alone.
-fn read_byte() -> u64
-    ensures { λ r. ⌜ r < 256 ⌝ }
-{
-    let mut one = [0u8; 1];
-    io::read_full(STDIN_FILENO, &mut one);
-    wide(one[0])
-}
-
-// A number of 4 bytes, big-endian.
-fn read_number() -> u64
-    ensures { λ r. ⌜ r < 2 ^ 32 ⌝ }
-{
-    let mut four = [0u8; 4];
-    io::read_full(STDIN_FILENO, &mut four);
-    wide(four[0]) * 0x1000000 + wide(four[1]) * 0x10000 + wide(four[2]) * 0x100 + wide(four[3])
-}
-
-// Fills the slice as the next byte string says.
-fn fill(form: u64, to: &mut [u8])
-    ensures { λ _. ⌜ length (now (to .exit)) ≡ length (now (to .entry)) ⌝ }
-{
-    if form == 0 {
-        io::read_full(STDIN_FILENO, to);
-    } else {
-        pattern::fill(to, read_number());
-    }
-}
-
-// Reads the next byte string to the start of the slice, and answers its length.
-fn read_bytes(to: &mut [u8]) -> usize
-    ensures { λ r. ⌜ Counts r (now (to .exit)) ⌝ }
-{
-    let form = read_byte();
-    let asked = read_number() as usize;
-    if asked <= to.len() {
-        fill(form, &mut to[..asked]);
-        asked
-    } else {
-        0
-    }
-}
-
-// The bytes in hexadecimal.
-fn write_hex(bytes: &[u8])
-    ensures { λ r. ⌜ r ≡ tt ⌝ }
-{
-    let mut i = 0;
-    while i < bytes.len() {
-        io::print_hex(STDOUT_FILENO, wide(bytes[i]), 2);
-        i += 1;
-    }
-}
-
 fn write_digest(digest: &[u8; 32])
     ensures { λ r. ⌜ r ≡ tt ⌝ }
 {
-    write_hex(digest);
+    records::write_hex(digest);
 }
 
 // An output of more than 1,024 bytes is told by its hash, to keep the lines short.
@@ -100,7 +31,7 @@ fn write_output(bytes: &[u8])
     ensures { λ r. ⌜ r ≡ tt ⌝ }
 {
     if bytes.len() <= 1024 {
-        write_hex(bytes);
+        records::write_hex(bytes);
         return;
     }
     let mut digest = [0u8; 32];
@@ -140,7 +71,7 @@ fn hash_record()
     ensures { λ r. ⌜ r ≡ tt ⌝ }
 {
     let mut message = [0u8; ROOM];
-    let n = read_bytes(&mut message);
+    let n = records::read_bytes(&mut message);
     let mut digest = [LENT; 32];
     let done = sha256::hash(&message[..n], &mut digest);
     write_digest_line(done, &digest);
@@ -150,9 +81,9 @@ fn mac_record()
     ensures { λ r. ⌜ r ≡ tt ⌝ }
 {
     let mut key = [0u8; ROOM];
-    let k = read_bytes(&mut key);
+    let k = records::read_bytes(&mut key);
     let mut message = [0u8; ROOM];
-    let n = read_bytes(&mut message);
+    let n = records::read_bytes(&mut message);
     let mut tag = [LENT; 32];
     let done = hmac::mac(&key[..k], &message[..n], &mut tag);
     write_digest_line(done, &tag);
@@ -170,11 +101,11 @@ fn cipher_record()
     ensures { λ r. ⌜ r ≡ tt ⌝ }
 {
     let mut key = [0u8; 128];
-    let k = read_bytes(&mut key);
+    let k = records::read_bytes(&mut key);
     let mut nonce = [0u8; 128];
-    let j = read_bytes(&mut nonce);
+    let j = records::read_bytes(&mut nonce);
     let mut text = [0u8; ROOM];
-    let n = read_bytes(&mut text);
+    let n = records::read_bytes(&mut text);
     let lent = text;
     cipher(&key[..k], &nonce[..j], &mut text[..n], &lent[..n]);
 }
@@ -182,7 +113,7 @@ fn cipher_record()
 fn record()
     ensures { λ r. ⌜ r ≡ tt ⌝ }
 {
-    let kind = read_byte();
+    let kind = records::read_byte();
     match kind {
         1 => hash_record(),
         2 => mac_record(),
@@ -194,7 +125,7 @@ fn record()
 }
 
 fn main() {
-    let mut left = read_number();
+    let mut left = records::read_number();
     while 0 < left {
         record();
         left -= 1;

@@ -1,23 +1,24 @@
 -- Anchor B's numbers and the last counter's are the scheme's; each way out is one of its three answers.
 use mathlib.Core.Path.{_≡_, sym, _∙_}
+use mathlib.Core.Bool.{false}
 use borrow.Author.Tests.{ltb-false}
 use lib.Dec.{ltb}
 use Rattle.table.specs.Table.{rows}
 use Rattle.table.proofs.Counting.{neither}
-use Rattle.scheme.specs.Reading.{limit, anchorNumbers, counterNumbers}
+use Rattle.scheme.specs.Reading.{limit, anchorNumbers, counterNumbers, countersHeld}
 use Rattle.suite.specs.Program.{program}
-use Rattle.counter.specs.Outcome.{numbersOf}
-use Rattle.counter.proofs.Readings.{anchors-are, anchor-numbers-are, counters-are, counter-numbers-are, damaged-anchor, damaged-counter, counted}
+use Rattle.counter.specs.Outcome.{numbersOf, anchorBad, placesNoted}
+use Rattle.counter.proofs.Readings.{anchors-are, anchor-numbers-are, counters-are, counter-numbers-are, damaged-anchor, damaged-counter, counted, places-kept, places-are}
 use borrow.Author.Needs.{needs}
 use Rattle.counter.proofs.read_by.Statement.{statement}
 use Rattle.counter.proofs.read_by.Tie as tie
 
 anchor : (c : tie.After-numbers-or) →
-    let a = c .before .before .before .before .before .before .args in
+    let a = c .before .before .before .before .before .before .before .args in
     numbersOf (c .numbers-or .result) ≡ anchorNumbers program (a .c) (a .cl .now) (rows 61 (a .c) (a .t .now))
 anchor c =
     let b = c .before .before .anchors-held in
-    let s = c .before .before .before .before .before .before in
+    let s = c .before .before .before .before .before .before .before in
     let a = s .args in
     c .numbers-or .ensures
     ∙ anchor-numbers-are (a .c) (a .cl .now) (rows 61 (a .c) (a .t .now)) (a .keys) (s .pre .1 .1) (b .result .b .0) (b .result .at) (b .ensures .0) (b .ensures .1)
@@ -25,54 +26,85 @@ anchor c =
 returns : tie.Need-returns
 returns c =
     let o = c .before .before in
-    let a = o .before .before .before .before .before .before .args in
-    damaged-anchor (a .c) (a .cl .now) (rows 61 (a .c) (a .t .now)) (numbersOf (o .numbers-or .result)) (anchor o) (sym (c .before .anchor-damaged .ensures) ∙ c .if1 .taken)
+    let a = o .before .before .before .before .before .before .before .args in
+    let t = rows 61 (a .c) (a .t .now) in
+    let x = numbersOf (o .numbers-or .result) in
+    let bad = sym (c .before .anchor-damaged .ensures) ∙ c .if1 .taken in
+    (damaged-anchor (a .c) (a .cl .now) t x (anchor o) bad, places-kept (a .c) (a .cl .now) t x (anchor o) (a .places .now) bad)
+
+-- anchor B is no damage
+good : (c : tie.Else1) → anchorBad (numbersOf (c .before .before .numbers-or .result)) ≡ false
+good c = sym (c .before .anchor-damaged .ensures) ∙ c .if1 .left
 
 counters-held-requires : tie.Need-counters-held-requires
 counters-held-requires c κs =
-    let o = c .before .before in
-    let s = o .before .before .before .before .before .before in
+    let o = c .before .before .before in
+    let s = o .before .before .before .before .before .before .before in
     let x = o .numbers-or .result in
-    (s .pre .0, (s .pre .1 .0, ltb-false limit (x .a) (neither (ltb limit (x .a)) (ltb limit (x .n)) (sym (c .before .anchor-damaged .ensures) ∙ c .if1 .left) .0)))
+    (s .pre .0, (s .pre .1 .0, ltb-false limit (x .a) (neither (ltb limit (x .a)) (ltb limit (x .n)) (good (c .before)) .0)))
 
 counter : (c : tie.After-numbers-or2) →
-    let a = c .before .before .before .before .before .before .before .before .before .before .before .args in
+    let a = c .before .before .before .before .before .before .before .before .before .before .before .before .before .before .before .args in
     numbersOf (c .numbers-or2 .result) ≡ counterNumbers program (a .c) (a .cl .now) (rows 61 (a .c) (a .t .now))
 counter c =
-    let h = c .before .before .counters-held in
-    let o = c .before .before .before .before .before in
-    let s = o .before .before .before .before .before .before in
+    let h = c .before .before .before .before .counters-held in
+    let o = c .before .before .before .before .before .before .before .before in
+    let s = o .before .before .before .before .before .before .before in
     let a = s .args in
     c .numbers-or2 .ensures
-    ∙ counter-numbers-are (a .c) (a .cl .now) (rows 61 (a .c) (a .t .now)) (a .keys) (s .pre .1 .1) (numbersOf (o .numbers-or .result)) (anchor o) (h .result .k) (h .result .at) (h .ensures .0) (h .ensures .1)
+    ∙ counter-numbers-are (a .c) (a .cl .now) (rows 61 (a .c) (a .t .now)) (a .keys) (s .pre .1 .1) (numbersOf (o .numbers-or .result)) (anchor o) (h .result .k) (h .result .at) (h .ensures .0 .0) (h .ensures .0 .1)
+
+walked : (c : tie.After-counters-held) →
+    let a = c .before .before .before .before .before .before .before .before .before .before .before .args in
+    c .counters-held .result .k ≡ countersHeld program (a .c) (a .cl .now) (rows 61 (a .c) (a .t .now))
+walked c =
+    let h = c .counters-held in
+    let o = c .before .before .before .before in
+    let s = o .before .before .before .before .before .before .before in
+    let a = s .args in
+    counters-are (a .c) (a .cl .now) (rows 61 (a .c) (a .t .now)) (a .keys) (s .pre .1 .1) (numbersOf (o .numbers-or .result)) (anchor o) (h .result .k) (h .result .at) (h .ensures .0 .0) (h .ensures .0 .1)
+
+-- what the walk noted
+noted : (c : tie.After-counters-held) →
+    let a = c .before .before .before .before .before .before .before .before .before .before .before .args in
+    c .counters-held .last .1 .1 .1 .1 .0 ≡ placesNoted (a .c) (a .cl .now) (rows 61 (a .c) (a .t .now)) (a .places .now)
+noted c =
+    let h = c .counters-held in
+    let o = c .before .before .before .before in
+    let s = o .before .before .before .before .before .before .before in
+    let a = s .args in
+    places-are (a .c) (a .cl .now) (rows 61 (a .c) (a .t .now)) (numbersOf (o .numbers-or .result)) (anchor o) (a .places .now) (a .keys) (s .pre .1 .1) (good (c .before .before)) (h .result .k) (walked c) (h .last .1 .1 .1 .1 .0) (h .ensures .1)
 
 returns-2 : tie.Need-returns-2
 returns-2 c =
     let y = c .before .before in
-    let d = y .before .before .before in
+    let d = y .before .before .before .before .before .before in
     let o = d .before .before in
-    let a = o .before .before .before .before .before .before .args in
-    damaged-counter (a .c) (a .cl .now) (rows 61 (a .c) (a .t .now)) (numbersOf (o .numbers-or .result)) (anchor o) (sym (d .before .anchor-damaged .ensures) ∙ d .if1 .left)
-    (numbersOf (y .numbers-or2 .result)) (counter y) (sym (c .before .counter-damaged .ensures) ∙ c .if2 .taken)
+    let a = o .before .before .before .before .before .before .before .args in (
+      damaged-counter (a .c) (a .cl .now) (rows 61 (a .c) (a .t .now)) (numbersOf (o .numbers-or .result)) (anchor o) (good d)
+          (numbersOf (y .numbers-or2 .result)) (counter y) (sym (c .before .counter-damaged .ensures) ∙ c .if2 .taken),
+      noted (y .before .before .before .before),
+    )
 
 returns-3 : tie.Need-returns-3
 returns-3 c =
     let y = c .before .before .before in
-    let h = y .before .before .counters-held in
-    let d = y .before .before .before in
+    let w = y .before .before .before .before in
+    let d = w .before .before in
     let o = d .before .before in
     let b = o .before .before .anchors-held in
-    let s = o .before .before .before .before .before .before in
+    let s = o .before .before .before .before .before .before .before in
     let a = s .args in
-    let x = numbersOf (o .numbers-or .result) in
-    let t = rows 61 (a .c) (a .t .now) in
-    counted (a .c) (a .cl .now) t x (anchor o) (sym (d .before .anchor-damaged .ensures) ∙ d .if1 .left) (numbersOf (y .numbers-or2 .result)) (counter y) (b .result .b .0) (h .result .k)
-    (anchors-are (a .c) (a .cl .now) t (a .keys) (s .pre .1 .1) (b .result .b .0) (b .result .at) (b .ensures .0) (b .ensures .1))
-    (counters-are (a .c) (a .cl .now) t (a .keys) (s .pre .1 .1) x (anchor o) (h .result .k) (h .result .at) (h .ensures .0) (h .ensures .1))
-    (sym (c .before .before .counter-damaged .ensures) ∙ c .before .if2 .left)
+    let t = rows 61 (a .c) (a .t .now) in (
+      counted (a .c) (a .cl .now) t (numbersOf (o .numbers-or .result)) (anchor o) (good d) (numbersOf (y .numbers-or2 .result)) (counter y) (b .result .b .0) (w .counters-held .result .k)
+          (anchors-are (a .c) (a .cl .now) t (a .keys) (s .pre .1 .1) (b .result .b .0) (b .result .at) (b .ensures .0) (b .ensures .1))
+          (walked w)
+          (sym (c .before .before .counter-damaged .ensures) ∙ c .before .if2 .left),
+      noted w,
+    )
 
 pub read-by-spec : {M : Type 1} → statement M
 read-by-spec =
     tie.close
     (tie.spec (λ c κs. search needs) (λ c κs. search needs) (λ c κs. search needs) returns counters-held-requires
-    (λ c κs. search needs) (λ c κs. search needs) returns-2 returns-3)
+    (λ c κs. search needs) (λ c κs. search needs) (λ c. search needs) returns-2 (λ c. search needs) returns-3)

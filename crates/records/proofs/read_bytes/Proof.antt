@@ -6,8 +6,8 @@ use mathlib.Core.Path.{_≡_, sym}
 use native.Mathlib.Omega.{arith}
 use Prim.Native.Nat.{ℕ, _≤_}
 use borrow.Author.Needs.{needs}
-use Rattle.vectors.proofs.read_bytes.Statement.{statement}
-use Rattle.vectors.proofs.read_bytes.Tie as tie
+use Rattle.records.proofs.read_bytes.Statement.{statement}
+use Rattle.records.proofs.read_bytes.Tie as tie
 
 kept : (a : ℕ) (to ys : List ℕ) → a ≤ length to → length ys ≡ length (take a to)
     → (a ≤ length (ys ++ drop a to)) × (a ≡ length (take a (ys ++ drop a to)))

@@ -2,8 +2,8 @@
 ghost use mathlib.Core.Path.{_≡_};
 ghost use Prim.Native.Nat.{_<_, _^_};
 ghost use lib.ListN.{length};
-ghost use Rattle.vectors.specs.Pattern.{pattern};
-ghost use Rattle.vectors.specs.Pattern.{following as Pattern·following};
+ghost use Rattle.records.specs.Pattern.{pattern};
+ghost use Rattle.records.specs.Pattern.{following as Pattern·following};
 
 fn following(x: u64) -> u64
     requires { ⌜ x < 2 ^ 32 ⌝ }

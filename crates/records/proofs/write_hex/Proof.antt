@@ -2,8 +2,8 @@
 use lib.ListN.{length}
 use Prim.Native.Nat.{_≤_, _-_}
 use borrow.Author.Needs.{needs}
-use Rattle.vectors.proofs.write_hex.Statement.{statement}
-use Rattle.vectors.proofs.write_hex.Tie as tie
+use Rattle.records.proofs.write_hex.Statement.{statement}
+use Rattle.records.proofs.write_hex.Tie as tie
 
 abbrev Inv-loop : tie.InvT-loop
 Inv-loop bytes i₀ i = i ≤ length bytes

@@ -7,10 +7,10 @@ use native.Mathlib.Numerals.{add-one}
 use native.Mathlib.Nat.{sub-zero}
 use native.Mathlib.Omega.{arith}
 use Prim.Native.Nat.{ℕ, _+_, _-_, _≤_, _<_, _^_, _/_, _%_}
-use Rattle.vectors.specs.Pattern.{following, pattern}
+use Rattle.records.specs.Pattern.{following, pattern}
 use borrow.Author.Needs.{needs}
-use Rattle.vectors.proofs.pattern.fill.Statement.{statement}
-use Rattle.vectors.proofs.pattern.fill.Tie as tie
+use Rattle.records.proofs.pattern.fill.Statement.{statement}
+use Rattle.records.proofs.pattern.fill.Tie as tie
 
 abbrev Inv-loop : tie.InvT-loop
 Inv-loop to₀ seed x₀ i₀ to x i =
