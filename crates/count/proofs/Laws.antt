@@ -2,9 +2,8 @@
 use Prim.Native.Nat.{ℕ, _+_, _*_, _-_}
 use mathlib.Core.Path.{_≡_, refl, sym, ap, ap₂, _∙_}
 use mathlib.Core.Bool.{Bool, true, false, cond}
-use mathlib.Core.Option.{Option, none, some}
+use mathlib.Core.Option.{Option}
 use mathlib.Core.List.{List, [], _∷_, map}
-use native.Mathlib.Omega.{arith}
 use lib.ListN.{length, take, drop}
 use borrow.Author.Tests.{eq-eqb, ne-eqb}
 use Rattle.hmac.specs.declared.Keyed.{Keyed}
@@ -13,7 +12,7 @@ use Rattle.answer.specs.declared.Refusal.{Refusal}
 use Rattle.answer.specs.Verdict.{_⇒_, verdict, answerOr}
 use Rattle.table.specs.Lists.{anyOf, sum, upTo}
 use Rattle.table.specs.Table.{rows}
-use Rattle.scheme.specs.Store.{sizesOf, cut, headerBad, marksBad}
+use Rattle.scheme.specs.Store.{sizesOf, cut}
 use Rattle.scheme.specs.Reading.{Reading, damaged, countOf}
 use Rattle.scheme.specs.Refusals.{tokenTests}
 use Rattle.scheme.specs.Find.{shareReading}

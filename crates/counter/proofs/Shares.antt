@@ -1,9 +1,9 @@
 -- The shares read one after the other, 0 to p: none is damaged, and their counts add up. And a share's reading is the
 -- scheme's.
-use Prim.Native.Nat.{ℕ, suc, _+_, _*_, _≤_, _<_}
-use mathlib.Core.Path.{_≡_, refl, sym, ap, ap₂, _∙_}
-use mathlib.Core.Bool.{Bool, true, false}
-use mathlib.Core.List.{List, [], _∷_, map}
+use Prim.Native.Nat.{ℕ, _+_, _*_, _≤_}
+use mathlib.Core.Path.{_≡_, refl, sym, ap}
+use mathlib.Core.Bool.{true, false}
+use mathlib.Core.List.{List, map}
 use native.Mathlib.Numerals.{add-one}
 use native.Mathlib.Omega.{arith}
 use Rattle.hmac.specs.declared.Keyed.{Keyed}
@@ -13,10 +13,9 @@ use Rattle.table.proofs.Below.{below, up-to-below, sum-next, none-next, any-bel
 use Rattle.scheme.specs.Store.{sizesOf, cut}
 use Rattle.scheme.specs.Reading.{limit, Reading, damaged, countOf, reading}
 use Rattle.scheme.specs.Reading.Reading.{counter, damage}
-use Rattle.scheme.specs.Keys.{share}
 use Rattle.scheme.specs.Find.{shareReading}
 use Rattle.suite.specs.Program.{program}
-use Rattle.counter.specs.Tags.{shareBy, Prepared}
+use Rattle.counter.specs.Tags.{Prepared}
 use Rattle.counter.specs.Outcome.{shareRead}
 use Rattle.counter.proofs.Tags.{share-is}
 

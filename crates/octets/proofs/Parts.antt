@@ -97,6 +97,21 @@ written-next front junk ys a f =
 pub length-written : (xs ys : List ℕ) (a : ℕ) → a + length ys ≤ length xs → length (written xs a ys) ≡ length xs
 length-written xs ys a h = length-back xs a (a + length ys) ys (omega arith) h (omega arith)
 
+-- nothing is written; a piece after another
+pub written-none : (xs : List ℕ) (a : ℕ) → written xs a [] ≡ xs
+written-none xs a =
+    ap (λ (k : ℕ). take a xs ++ drop k (drop a xs)) (let e : a + 0 - a ≡ 0 = omega arith in e) ∙ take-append-drop a xs
+
+pub written-more : (xs ys zs : List ℕ) (a : ℕ) → a ≤ length xs → written (written xs a ys) (a + length ys) zs ≡ written xs a (ys ++ zs)
+written-more xs ys zs a h =
+    let rest = drop a xs in
+    let f : length (take a xs ++ ys) ≡ a + length ys = length-append (take a xs) ys ∙ ap (λ (k : ℕ). k + length ys) (length-take-le a xs h) in
+    ap (λ (l : List ℕ). written l (a + length ys) zs) (sym (append-assoc (take a xs) ys (drop (a + length ys - a) rest)))
+    ∙ written-next (take a xs ++ ys) (drop (a + length ys - a) rest) zs (a + length ys) f
+    ∙ ap₂ (λ (l r : List ℕ). l ++ r) (append-assoc (take a xs) ys zs)
+    (drop-drop (length zs) (a + length ys - a) rest ∙ ap (λ (k : ℕ). drop k rest) (let e : a + length ys - a + length zs ≡ a + length (ys ++ zs) - a = omega (arith, length-append ys zs) in e))
+    ∙ append-assoc (take a xs) (ys ++ zs) (drop (a + length (ys ++ zs) - a) rest)
+
 -- three pieces fill a list
 pub three-written : (to a b c x y z : List ℕ) → length to ≡ length a + (length b + length c)
     → x ≡ written to 0 a → y ≡ written x (length a) b → z ≡ written y (length a + length b) c → z ≡ a ++ (b ++ c)

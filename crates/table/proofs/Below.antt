@@ -51,7 +51,15 @@ module _ {A : Type 0} where
       grows (λ n. length (flat (map f (below n))))
       (λ n. omega (arith, ap length (flat-next f n), length-append (flat (map f (below n))) (f n)))
 
+  pub flat-length-sum : (f : ℕ → List A) (l : List ℕ) → length (flat (map f l)) ≡ sum (map (λ u. length (f u)) l)
+  flat-length-sum f [] = refl
+  flat-length-sum f (u ∷ us) = length-append (f u) (flat (map f us)) ∙ ap (λ (n : ℕ). length (f u) + n) (flat-length-sum f us)
+
 -- ---- sums
+
+pub sum-le : (f g : ℕ → ℕ) → ((u : ℕ) → f u ≤ g u) → (l : List ℕ) → sum (map f l) ≤ sum (map g l)
+sum-le f g h [] = omega arith
+sum-le f g h (u ∷ us) = omega (arith, h u, sum-le f g h us)
 
 sum-append : (l r : List ℕ) → sum (l ++ r) ≡ sum l + sum r
 sum-append [] r = omega arith
@@ -60,6 +68,9 @@ sum-append (x ∷ xs) r = omega (arith, sum-append xs r)
 pub sum-next : (f : ℕ → ℕ) (n : ℕ) → sum (map f (below (suc n))) ≡ sum (map f (below n)) + f n
 sum-next f n =
     ap sum (map-append f (below n) (n ∷ [])) ∙ omega (arith, sum-append (map f (below n)) (f n ∷ []))
+
+pub sum-grows : (f : ℕ → ℕ) (u n : ℕ) → u ≤ n → sum (map f (below u)) ≤ sum (map f (below n))
+sum-grows f = grows (λ n. sum (map f (below n))) (λ n. omega (arith, sum-next f n))
 
 -- ---- tests
 

@@ -54,6 +54,11 @@ all-set P [] i row h a = tt
 all-set P (r ∷ rs) zero row h a = (h, a .1)
 all-set P (r ∷ rs) (suc i) row h a = (a .0, all-set P rs i row h (a .1))
 
+pub all-at : (P : Row → Type 0) (t : Table) (i : ℕ) → i < length t → All P t → P (getD t i [])
+all-at P [] i h a = absurd (not-suc-le-zero h)
+all-at P (r ∷ rs) zero h a = a .0
+all-at P (r ∷ rs) (suc i) h a = all-at P rs i (le-of-suc-le-suc h) (a .1)
+
 pub placed-all : (P : Row → Type 0) (t : Table) (row : Row) (t′ : Table) → Placed t row t′ → P row → All P t → All P t′
 placed-all P t row t′ p h a = rw (p .put) (all-set P t (p .at) row h a)
 

@@ -1,8 +1,6 @@
 -- Refused by the definition's tests, in its order; then the sum over the shares, read out of the part that holds C.
-use mathlib.Core.Path.{_≡_, sym, ap, _∙_}
+use mathlib.Core.Path.{_≡_, sym, _∙_}
 use native.Mathlib.Omega.{arith}
-use Rattle.answer.specs.Answer.{counted}
-use Rattle.store.specs.declared.Shape.{Shape}
 use Rattle.store.specs.declared.Checked.the-variants.{Fit}
 use Rattle.store.specs.Check.{checkedOf}
 use Rattle.store.proofs.Laws.{FitLength, fit-length}

@@ -3,7 +3,6 @@ use Prim.Native.Nat.{ℕ, _+_, _-_, _≤_}
 use mathlib.Core.Path.{_≡_, sym, ap, subst, _∙_}
 use native.Mathlib.Omega.{arith}
 use Rattle.table.specs.Table.{rows}
-use Rattle.scheme.specs.Reading.{Reading}
 use Rattle.counter.specs.Tags.{shareBy}
 use Rattle.counter.specs.Outcome.{readingOf, shareRead}
 use Rattle.counter.proofs.Readings.{reading-bounds}

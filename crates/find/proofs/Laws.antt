@@ -1,0 +1,196 @@
+-- The counts of the shares, the ids by them, and each way out of a find are the definitions'.
+use Prim.Native.Nat.{ℕ, zero, suc, _+_, _*_, _-_, _≤_, _<_}
+use mathlib.Core.Path.{_≡_, refl, sym, ap, ap₂, subst, _∙_}
+use mathlib.Core.Bool.{Bool, true, false, cond, true≢false}
+use mathlib.Core.Option.{Option, none, some}
+use mathlib.Core.List.{List, [], _∷_, _++_, map}
+use native.Mathlib.Nat.{not-suc-le-zero}
+use native.Mathlib.Omega.{arith}
+use lib.Dec.{ltb}
+use lib.ListN.{length, getD, take, drop, replicate, set, length-set, length-drop, length-replicate}
+use lib.Seq.{getD-set-same, getD-set-other, take-all}
+use borrow.Author.Tests.{eq-eqb, ne-eqb, lt-ltb, le-ltb, ltb-true, ltb-false}
+use Rattle.octets.specs.Part.{written}
+use Rattle.octets.proofs.Parts.{written-next}
+use Rattle.answer.specs.Answer.{Answer, done, refused, refusal}
+use Rattle.answer.specs.declared.Refusal.{Refusal}
+use Rattle.answer.specs.Verdict.{Test, _⇒_, _⇒_carrying_, verdict, answerOr, unlessRefused}
+use Rattle.table.specs.Lists.{anyOf, flat, sum, upTo}
+use Rattle.table.specs.Table.{Table, rows, lookup}
+use Rattle.hmac.specs.declared.Keyed.{Keyed}
+use Rattle.scheme.specs.Keys.{share, findMT, findME, findCL}
+use Rattle.scheme.specs.Store.{sizesOf, cut, headerBad, marksBad, entryTag}
+use Rattle.scheme.specs.Reading.{Reading, damaged, countOf}
+use Rattle.scheme.specs.Refusals.{tokenTests}
+use Rattle.scheme.specs.Find.{idOf, idsTo, shareReading, idsOfShare, idsFound, findVerdict, find}
+use Rattle.scheme.proofs.Verdicts.{map-upTo}
+use Rattle.suite.specs.Program.{program}
+use Rattle.store.specs.declared.Shape.{Shape}
+use Rattle.store.specs.declared.Checked.the-variants.{Fit, Refused}
+use Rattle.store.specs.Check.{checkedOf}
+use Rattle.store.proofs.Laws.{fit, unfit, fit-verdict, fit-length}
+use Rattle.store.proofs.Tables.{tableM, tableC, laid-fit, laid-rows}
+use Rattle.counter.specs.Tags.{Prepared}
+use Rattle.counter.specs.Outcome.{shareRead}
+use Rattle.counter.proofs.Tags.{share-is}
+use Rattle.counter.proofs.Shares.{share-read}
+use Rattle.find.specs.declared.Counts.{Counts}
+use Rattle.find.specs.declared.EntryKeys.{EntryKeys}
+use Rattle.find.specs.Counts.{filled, countsOf}
+use Rattle.find.specs.Ids.{idAt, idsBy, idsOf, idsIn}
+
+-- ---- the counts
+
+module _ (f : ℕ → Reading) (p : ℕ) where
+  pub counts-damage : anyOf (λ u. damaged (f u)) (upTo p) ≡ true → record { damaged = true; of = replicate 16 0; sum = 0 } ≡ countsOf f p
+  unfolding countsOf
+  counts-damage e = rw e
+
+  pub counts-done : (of : List ℕ) (n : ℕ) → of ≡ filled (λ u. countOf (f u)) (p + 1) (replicate 16 0)
+      → (anyOf (λ u. damaged (f u)) (upTo p) ≡ false) × (n ≡ sum (map (λ u. countOf (f u)) (upTo p))) → record { damaged = false; of = of; sum = n } ≡ countsOf f p
+  unfolding countsOf
+  counts-done of n o e = rw (e .0) (λ j. record { damaged = false; of = o j; sum = e .1 j })
+
+pub record Sound (f : ℕ → Reading) (p : ℕ) (c : Counts) : Type 0 where
+  pub none-damaged : anyOf (λ u. damaged (f u)) (upTo p) ≡ false
+  pub of : c .of ≡ filled (λ u. countOf (f u)) (p + 1) (replicate 16 0)
+  pub sum : c .sum ≡ sum (map (λ u. countOf (f u)) (upTo p))
+
+-- by whether one is damaged
+abbrev countsBy : (ℕ → Reading) → ℕ → Bool → Counts
+countsBy f p b =
+    cond b (record { damaged = true; of = replicate 16 0; sum = 0 })
+    (record { damaged = false; of = filled (λ u. countOf (f u)) (p + 1) (replicate 16 0); sum = sum (map (λ u. countOf (f u)) (upTo p)) })
+
+module _ (f : ℕ → Reading) (p : ℕ) (c : Counts) (e : c ≡ countsOf f p) where
+  pub told-damage : c .damaged ≡ true → anyOf (λ u. damaged (f u)) (upTo p) ≡ true
+  unfolding countsOf
+  told-damage d = go (anyOf (λ u. damaged (f u)) (upTo p)) (sym (ap (λ (c : Counts). c .damaged) e) ∙ d)
+    where
+      go : (b : Bool) → countsBy f p b .damaged ≡ true → b ≡ true
+      go true q = refl
+      go false q = q
+
+  pub told-sound : c .damaged ≡ false → Sound f p c
+  unfolding countsOf
+  told-sound d = go (anyOf (λ u. damaged (f u)) (upTo p)) refl e
+    where
+      go : (b : Bool) → anyOf (λ u. damaged (f u)) (upTo p) ≡ b → c ≡ countsBy f p b → Sound f p c
+      go true q r = absurd (true≢false (sym (ap (λ (c : Counts). c .damaged) r) ∙ d))
+      go false q r = record { none-damaged = q; of = ap (λ (c : Counts). c .of) r; sum = ap (λ (c : Counts). c .sum) r }
+
+length-filled : (g : ℕ → ℕ) (n : ℕ) (l : List ℕ) → length (filled g n l) ≡ length l
+length-filled g zero l = refl
+length-filled g (suc n) l = length-set (filled g n l) n (g n) ∙ length-filled g n l
+
+filled-at : (g : ℕ → ℕ) (l : List ℕ) (n u : ℕ) → u < n → n ≤ length l → getD (filled g n l) u 0 ≡ g u
+filled-at g l zero u h k = absurd (not-suc-le-zero h)
+filled-at g l (suc n) u h k = go (ltb u n) refl (filled-at g l n u)
+  where
+    go : (b : Bool) → ltb u n ≡ b → (u < n → n ≤ length l → getD (filled g n l) u 0 ≡ g u) → getD (set (filled g n l) n (g n)) u 0 ≡ g u
+    go true q r =
+        let m = ltb-true u n q in
+        getD-set-other (filled g n l) n u (g n) 0 (λ z. absurd (omega arith)) ∙ r m (omega arith)
+    go false q r =
+        let m : u ≡ n = omega (arith, ltb-false u n q) in
+        ap (λ (j : ℕ). getD (set (filled g n l) n (g n)) j 0) m ∙ getD-set-same (filled g n l) n (g n) 0 (omega (arith, length-filled g n l)) ∙ ap g (sym m)
+
+-- the count of a share, read again
+pub count-at : (f : ℕ → Reading) (p : ℕ) (c : Counts) → Sound f p c → p ≤ 15 → (u : ℕ) → u ≤ p → getD (c .of) u 0 ≡ countOf (f u)
+count-at f p c s l u h =
+    ap (λ (x : List ℕ). getD x u 0) (s .of) ∙ filled-at (λ u. countOf (f u)) (replicate 16 0) (p + 1) u (omega arith) (omega (arith, length-replicate {A = ℕ} 16 0))
+
+pub counts-sum : (f : ℕ → Reading) (p : ℕ) (c : Counts) → Sound f p c → p ≤ 15 → sum (map (λ u. getD (c .of) u 0) (upTo p)) ≡ c .sum
+counts-sum f p c s l = ap sum (map-upTo p (λ u. getD (c .of) u 0) (λ u. countOf (f u)) (count-at f p c s l)) ∙ sym (s .sum)
+
+-- ---- the ids are the scheme's
+
+ids-to : (mt me : List ℕ) (t : Table) (n : ℕ) → idsBy (entryTag program mt) me t n ≡ idsTo program mt me t n
+unfolding idsBy idAt
+ids-to mt me t zero = refl
+ids-to mt me t (suc n) = ap (λ (l : List (List ℕ)). l ++ idOf program me (lookup (entryTag program mt (suc n)) t)) (ids-to mt me t n)
+
+-- a part of the store or of the token
+token-CL : (token : List ℕ) → length token ≡ 96 → take 32 (drop 64 token) ≡ findCL token
+unfolding findCL
+token-CL token h = take-all 32 (drop 64 token) (omega (arith, length-drop 64 token))
+
+module _ (before token : List ℕ) (z : Shape) (e : checkedOf before ≡ Fit z) (h : length token ≡ 96) where
+  -- the readings of the shares
+  pub readings : (clx : Keyed) → Prepared clx (take 32 (drop 64 token))
+      → shareRead clx (z .c) (rows 61 (z .c) (take (8 + 110 * z .m + 61 * z .c - (8 + 110 * z .m)) (drop (8 + 110 * z .m) before))) ≡ shareReading program before (findCL token)
+  readings clx p =
+      share-read clx (findCL token) before (z .c) _ (subst (Prepared clx) (token-CL token h) p) (ap (λ (z : Shape). z .c) (fit before z e .shape)) (laid-rows (z .m) (z .c) (z .s) before (cut before) (laid-fit before z e) tableC)
+
+  pub shares-are : z .p ≡ sizesOf before .p
+  shares-are = ap (λ (z : Shape). z .p) (fit before z e .shape)
+
+  pub ids-are : (keys : EntryKeys) (c : Counts) → Prepared (keys .mt) (findMT token) → Prepared (keys .me) (findME token)
+      → Sound (shareReading program before (findCL token)) (z .p) c
+      → idsIn keys (rows 61 (z .m) (take (8 + 61 * z .m - 8) (drop 8 before))) (c .of) (z .p) ≡ idsFound program before token
+  unfolding idsIn idsFound idsOf idsOfShare
+  ids-are keys c km ke s =
+      let f = shareReading program before (findCL token) in
+      let t = rows 61 (z .m) (take (8 + 61 * z .m - 8) (drop 8 before)) in
+      let q : t ≡ cut before .tM = laid-rows (z .m) (z .c) (z .s) before (cut before) (laid-fit before z e) tableM in
+      ap flat (map-upTo (z .p) (λ u. idsOf keys t u (getD (c .of) u 0)) (idsOfShare program before token)
+      (λ u l.
+      ap₂ (λ (a b : List ℕ). idsBy (entryTag program a) b t (getD (c .of) u 0)) (share-is (keys .mt) (findMT token) u km) (share-is (keys .me) (findME token) u ke)
+      ∙ ids-to (share program (findMT token) u) (share program (findME token) u) t (getD (c .of) u 0)
+      ∙ ap₂ (idsTo program (share program (findMT token) u) (share program (findME token) u)) q (count-at f (z .p) c s (fit-length before z e .range .p-most) u l)))
+      ∙ ap (λ (p : ℕ). flat (map (idsOfShare program before token) (upTo p))) shares-are
+
+-- ---- each way out
+
+module _ (before token output : List ℕ) where
+  -- by the verdict
+  told : (o : Option Answer) → findVerdict program before token output ≡ o
+      → (answerOr o (done (length (idsFound program before token) ∷ [])) ≡ find program before token output .answer)
+      × (unlessRefused o (flat (idsFound program before token) ++ drop (16 * length (idsFound program before token)) output) output ≡ find program before token output .output)
+  unfolding find
+  told o q =
+      (ap (λ (v : Option Answer). answerOr v (done (length (idsFound program before token) ∷ []))) (sym q), ap (λ (v : Option Answer). unlessRefused v (flat (idsFound program before token) ++ drop (16 * length (idsFound program before token)) output) output) (sym q))
+
+  abbrev stateTests : List Test
+  stateTests =
+      (anyOf (λ u. damaged (shareReading program before (findCL token) u)) (upTo (sizesOf before .p)) ⇒ 13)
+      ∷ (ltb (length output) (16 * length (idsFound program before token)) ⇒ 18 carrying (length (idsFound program before token) ∷ []))
+      ∷ []
+
+  pub other-length : (length token ≡ 96 → ⊥) → (refused 6 [] ≡ find program before token output .answer) × (output ≡ find program before token output .output)
+  unfolding findVerdict tokenTests
+  other-length h = told (some (refused 6 [])) (rw (ne-eqb (length token) 96 h) refl)
+
+  module _ (h : length token ≡ 96) where
+    from-state : findVerdict program before token output ≡ verdict ((headerBad before ⇒ 10) ∷ (marksBad (cut before) ⇒ 11) ∷ stateTests)
+    unfolding findVerdict tokenTests
+    from-state = rw (eq-eqb (length token) 96 h) refl
+
+    pub unfit-store : (r : Refusal) → checkedOf before ≡ Refused r → (refusal r ≡ find program before token output .answer) × (output ≡ find program before token output .output)
+    unfit-store r e = told (some (refusal r)) (from-state ∙ unfit before r stateTests e)
+
+    module _ (z : Shape) (e : checkedOf before ≡ Fit z) where
+      passed : findVerdict program before token output ≡ verdict stateTests
+      passed = from-state ∙ fit-verdict before z stateTests e
+
+      pub damage-found : anyOf (λ u. damaged (shareReading program before (findCL token) u)) (upTo (z .p)) ≡ true
+          → (refused 13 [] ≡ find program before token output .answer) × (output ≡ find program before token output .output)
+      damage-found d = told (some (refused 13 [])) (passed ∙ rw (sym (ap (λ (p : ℕ). anyOf (λ u. damaged (shareReading program before (findCL token) u)) (upTo p)) (shares-are before token z e h)) ∙ d) refl)
+
+      module _ (d : anyOf (λ u. damaged (shareReading program before (findCL token) u)) (upTo (z .p)) ≡ false) (n : ℕ) (q : n ≡ length (idsFound program before token)) where
+        sound : anyOf (λ u. damaged (shareReading program before (findCL token) u)) (upTo (sizesOf before .p)) ≡ false
+        sound = sym (ap (λ (p : ℕ). anyOf (λ u. damaged (shareReading program before (findCL token) u)) (upTo p)) (shares-are before token z e h)) ∙ d
+
+        pub no-room : length output < 16 * n → (refused 18 (n ∷ []) ≡ find program before token output .answer) × (output ≡ find program before token output .output)
+        no-room l =
+            let v = told (some (refused 18 (length (idsFound program before token) ∷ []))) (passed ∙ rw (sound, lt-ltb (length output) (16 * length (idsFound program before token)) (omega arith)) refl) in
+            (ap (λ (k : ℕ). refused 18 (k ∷ [])) q ∙ v .0, v .1)
+
+        pub all-written : 16 * n ≤ length output → (o : List ℕ) → o ≡ written output 0 (flat (idsFound program before token)) → length (flat (idsFound program before token)) ≡ 16 * n
+            → (done (n ∷ []) ≡ find program before token output .answer) × (o ≡ find program before token output .output)
+        all-written l o w k =
+            let ids = idsFound program before token in
+            let v = told none (passed ∙ rw (sound, le-ltb (length output) (16 * length ids) (omega arith)) refl) in (
+              ap (λ (k : ℕ). done (k ∷ [])) q ∙ v .0,
+              w ∙ written-next [] output (flat ids) 0 refl ∙ ap (λ (j : ℕ). flat ids ++ drop j output) (k ∙ ap (λ (j : ℕ). 16 * j) q) ∙ v .1,
+            )
