@@ -213,7 +213,9 @@ class Scenario:
 
 
 def worked(s):
-    """G1 to G8 [01:DY1 to DY9], then the premise's tags for that list."""
+    """G1 to G8 [01:DY1 DY2 DY3 DY4 DY5 DY6 DY7 DY8 DY9 DY11], each call with its token made first
+    [01:LG16 LG20], answers and rows by the paper [01:SC1 SC4 OP3 OP8 OP13 OP14 FM14 FM15], one KS
+    for both compactions [01:KT11]; then the premise's tags for that list [01:LG13]."""
     s.make("a store, p = 1, m = c = s = 4", 1, 4, 4, 4)
     calls = examples.worked()
     for name, call, wanted in calls:
@@ -223,7 +225,8 @@ def worked(s):
 
 
 def token_makings(s):
-    """1 to 4 [01:RI2 to RI5], the lengths of fields [01:LB1] and of labels [01:LB3 to LB8]."""
+    """1 to 4 [01:RI2 RI3 RI4 RI5], the lengths of fields [01:LB1] and of labels [01:LB3 LB4 LB5 LB6
+    LB7 LB8], the tokens' bytes [01:KT1 KT4 KT6 KT7 KT8 KT9 KT10]."""
     for n in (0, 31, 33):
         for kind, rest in ((MAKE_INSERT_TOKEN, (b"a", b"", 0, 0, NONCE)),
                            (MAKE_FIND_TOKEN, (b"a", b"")), (MAKE_COUNT_TOKEN, (b"a", b"")),
@@ -248,7 +251,7 @@ def token_makings(s):
 
 
 def makings(s):
-    """7 and 8 [01:RI8 RI9] and the store's length [01:ST3]; 9 of the hash [01:RI10]."""
+    """7 and 8 [01:RI8 RI9], the header and the length [01:ST1 ST2 ST3 ST4]; 9 of the hash [01:RI10]."""
     for p, m, c, t in ((16, 1, 1, 1), (257, 1, 1, 1), (0, 0, 1, 1), (0, 1, 0, 1), (0, 1, 1, 0),
                        (0, 4097, 1, 1), (0, 1, 4097, 1), (0, 1, 1, 4097), (0, 65537, 1, 1)):
         s.make("p, m, c, s = %d, %d, %d, %d" % (p, m, c, t), p, m, c, t, 224)
@@ -268,7 +271,7 @@ def makings(s):
 
 
 def call_inputs(s):
-    """1 to 6 of the calls themselves, before the store is looked at [01:RI1 RI5 RI6 RI7]."""
+    """1 to 6 of the calls themselves, before the store is looked at [01:RI1 RI5 RI6 RI7 ST7 RS12]."""
     for good in (False, True):
         s.make("a store", 1, 64, 4, 4)
         if not good:
@@ -309,7 +312,7 @@ def each(s, title):
 
 
 def states(s):
-    """10, 11, 12 [01:RS2 RS3 RS4], 10 before 11 before 12."""
+    """10, 11, 12 [01:RS2 RS3 RS4], 10 before 11 before 12 [01:RS1]."""
     for at, byte in ((0, 0), (0, 2), (1, 16), (2, 17), (3, 0), (3, 5), (4, 17), (5, 0), (6, 17), (7, 0)):
         s.make("a store", 1, 4, 4, 4)
         s.set(8, b"\2")
@@ -333,7 +336,8 @@ def states(s):
 
 
 def damage(s):
-    """13 under its condition and no other [01:RS6]; only anchor B and counter Start+k count [01:RC6]."""
+    """13 under its condition and no other [01:RS6 RS12]; only anchor B and counter Start+k count
+    [01:RC2 RC5 RC6 RC7 SC3 FM8]."""
     for rows in ([("counter", 1, 1, 1)], [("counter", 1, 0, GREATEST + 1)],
                  [("anchor", 1, GREATEST + 1, 0)], [("anchor", 1, 0, GREATEST + 1)],
                  [("anchor", 1, 3, GREATEST + 1), ("counter", 4, 0, 1)],
@@ -360,7 +364,7 @@ def damage(s):
 
 
 def limits(s):
-    """14 to 17 and their order [01:RS7 to RS10]; 18 [01:RS11]; 19 before 13 [01:RS5]."""
+    """14 to 17 and their order [01:RS7 RS8 RS9 RS10]; 18 [01:RS11]; 19 before 13 [01:RS5]."""
     token = s.insert_token()
 
     def insert(title, n=1):
@@ -409,7 +413,8 @@ def limits(s):
 
 
 def compactions(s):
-    """13 keeps what was treated [01:RS13]; k = 0 takes no nonce [01:OP11]; the freed rows are those held."""
+    """13 keeps what was treated [01:RS13]; k = 0 takes no nonce [01:OP2 OP11]; the freed rows are those
+    held, in C and in S [01:ST10 ST12 OP12 OP13]."""
     ks, nonces = s.model.compact_token(KEY), b"1" * 12 + b"2" * 12 + b"3" * 12 + b"4" * 12
     s.make("a store", 1, 8, 8, 8)
     for field, letter in ((SIZE, "A"), (SIZE, "B"), (HUE, "C")):
@@ -446,7 +451,7 @@ def compactions(s):
 
 
 def rows(s):
-    """Lookup, freeing and free rows' bytes [01:ST5 ST13 ST14 ST15]; erase by tags [01:OP4]."""
+    """Lookup, freeing and free rows' bytes [01:ST5 ST13 ST14 ST15 OP15]; erase by tags [01:ST8 OP4]."""
     s.make("a store", 0, 4, 4, 4)
     junk = bytearray([7]) * (s.length - 8)
     for t in scheme.tables(s.store).values():
