@@ -8,9 +8,12 @@ ghost use Rattle.table.specs.Table.{rows, body};
 ghost use Rattle.scheme.specs.Suite.{number8};
 ghost use Rattle.scheme.specs.Reading.{limit, walk, reading};
 ghost use Rattle.suite.specs.Program.{program};
-ghost use Rattle.counter.specs.Tags.{tagBy, entryTagBy, counterTagBy, anchorTagBy, shareBy, KeysOf};
+ghost use Rattle.counter.specs.Tags.{entryTagBy, counterTagBy, anchorTagBy, shareBy, KeysOf};
 ghost use Rattle.counter.specs.Walks.{counterTags, anchorTags, heldIn, lastPlace, noted};
 ghost use Rattle.counter.specs.Outcome.{textIn, numbersIn, numbersOr, numbersOf, anchorBad, counterBad, readingOf, placesNoted, shareRead};
+
+pub mod row;
+
 use hmac::Keyed;
 
 // Entry address: the number in the tag of an M row. [01:ST17 FM10]
@@ -117,13 +120,7 @@ fn numbers_at(t: &[u8], c: usize, i: usize, ce: &[u8; 32]) -> Numbers
     requires { ⌜ (i < c) × (length (now t) ≡ 61 * c) ⌝ }
     ensures { λ r. ⌜ numbersOf r ≡ numbersIn (now (ce .entry)) (body (getD (rows 61 c (now (t .entry))) i [])) ⌝ }
 {
-    let at = 61 * i;
-    let nonce = at + 33;
-    let text = at + 45;
-    let e = at + 61;
-    let mut plain = [0u8; 16];
-    octets::copy(&mut plain, &t[text..e]);
-    chacha20::apply_short(ce, &t[nonce..text], &mut plain);
+    let plain = text_at(t, c, i, ce);
     Numbers {
         a: octets::get(&plain[0..8]),
         n: octets::get(&plain[8..16]),

@@ -1,6 +1,6 @@
 -- The mark, then the id and the tag.
 use native.Mathlib.Omega.{arith}
-use Rattle.insert.proofs.Laws.{marked-two}
+use Rattle.octets.proofs.Parts.{marked-two}
 use borrow.Author.Needs.{needs}
 use Rattle.insert.proofs.reverse_row.Statement.{statement}
 use Rattle.insert.proofs.reverse_row.Tie as tie
