@@ -12,7 +12,7 @@ ghost use Rattle.scheme.specs.Reading.{limit};
 ghost use Rattle.scheme.specs.Compaction.{Anchored, Compacted, Compact};
 ghost use Rattle.suite.specs.Program.{program};
 ghost use Rattle.store.specs.Check.{checkedOf};
-ghost use Rattle.store.proofs.Tables.{Laid};
+ghost use Rattle.store.specs.Layout.{Laid};
 ghost use Rattle.counter.specs.Tags.{KeysOf};
 ghost use Rattle.counter.specs.Outcome.{placesNoted};
 ghost use Rattle.compact.specs.Log.{opened, logs, freeLogged};

@@ -1,6 +1,6 @@
 // The store, one lent slice: making it, the checks 10 and 11 of every operation, and where its tables
 // stand (document 01, "Store"). A table is handed on as `&mut store[a..e]`: M from 8, V from 8 + 61 m,
-// C from 8 + 110 m, S from 8 + 110 m + 61 c; the laws of these parts are in proofs/Tables.antt.
+// C from 8 + 110 m, S from 8 + 110 m + 61 c; specs/Layout.antt says so, with laws in proofs/Tables.antt.
 ghost use mathlib.Core.Path.{_≡_};
 ghost use mathlib.Core.Bool.{false, _||_};
 ghost use Prim.Native.Nat.{_+_, _*_, _<_, _≤_};
