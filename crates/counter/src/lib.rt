@@ -203,7 +203,7 @@ fn counters_held(t: &[u8], c: usize, ct: Keyed, start: Position, places: &mut [u
 }
 
 // The greatest number of an anchor, and the greatest count. [01:RS6]
-const GREATEST: u64 = 4_294_967_295;
+pub const GREATEST: u64 = 4_294_967_295;
 
 // A number of anchor B is above the greatest. [01:RS6]
 fn anchor_damaged(x: Numbers) -> bool
@@ -264,13 +264,21 @@ pub fn read_by(t: &[u8], c: usize, cl: &[u8; 32], keys: Keys, places: &mut [u16]
     })
 }
 
+// Reads the counter of CL, whose keys are given; the places that the reading notes aren't needed.
+pub fn read_keyed(t: &[u8], c: usize, cl: &[u8; 32], keys: Keys) -> Reading
+    requires { ⌜ (length (now t) ≡ 61 * c) × ((c ≤ 4096) × KeysOf keys (now cl)) ⌝ }
+    ensures { λ r. ⌜ readingOf r ≡ reading program c (now (cl .entry)) (rows 61 c (now (t .entry))) ⌝ }
+{
+    let mut places = [0u16; 4096];
+    read_by(t, c, cl, keys, &mut places)
+}
+
 // Reads the counter of CL out of the part that holds table C.
 pub fn read(t: &[u8], c: usize, cl: &[u8; 32]) -> Reading
     requires { ⌜ (length (now t) ≡ 61 * c) × (c ≤ 4096) ⌝ }
     ensures { λ r. ⌜ readingOf r ≡ reading program c (now (cl .entry)) (rows 61 c (now (t .entry))) ⌝ }
 {
-    let mut places = [0u16; 4096];
-    read_by(t, c, cl, keys_of(cl), &mut places)
+    read_keyed(t, c, cl, keys_of(cl))
 }
 
 // Reads the counter of share u, whose CL comes from the prepared F(KC, x).

@@ -10,7 +10,7 @@ ghost use Rattle.table.specs.Table.{rows};
 ghost use Rattle.answer.specs.Answer.{counted};
 ghost use Rattle.answer.specs.Verdict.{verdict};
 ghost use Rattle.scheme.specs.Store.{entryRow, reverseRow, logRow};
-ghost use Rattle.scheme.specs.Reading.{limit, reading};
+ghost use Rattle.scheme.specs.Reading.{limit};
 ghost use Rattle.scheme.specs.Refusals.{idCount, idsIn, insertInputTests, tokenTests};
 ghost use Rattle.scheme.specs.Keys.{tokenMT, tokenME, tokenCL, tokenLog};
 ghost use Rattle.scheme.specs.Insert.{entryRows, reverseRows, insertReading, Insert};
@@ -24,6 +24,7 @@ use answer::Counted;
 use answer::Refusal;
 use counter::Address;
 use counter::Counter;
+use counter::GREATEST;
 use counter::Keys;
 use counter::Position;
 use counter::Reading;
@@ -75,9 +76,6 @@ fn crowded(free: Free, n: usize) -> bool
 {
     if free.m < n { true } else { free.v < n }
 }
-
-// The greatest count. [01:RS7]
-const GREATEST: u64 = 4_294_967_295;
 
 // 14 to 17, for a new count and the number of ids. [01:RS7 RS8 RS9 RS10]
 fn room(free: Free, count: u64, n: usize) -> Tested
@@ -282,22 +280,6 @@ fn insert_read(
     }
 }
 
-// A byte as a wider number.
-fn wide(x: u8) -> u64
-    ensures { λ r. ⌜ r ≡ x ⌝ }
-{
-    x as u64
-}
-
-// Reads the counter of CL, whose keys are given; the places that the reading notes aren't needed.
-fn read_counter(t: &[u8], c: usize, cl: &[u8; 32], keys: Keys) -> Reading
-    requires { ⌜ (length (now t) ≡ 61 * c) × ((c ≤ 4096) × KeysOf keys (now cl)) ⌝ }
-    ensures { λ r. ⌜ readingOf r ≡ reading program c (now (cl .entry)) (rows 61 c (now (t .entry))) ⌝ }
-{
-    let mut places = [0u16; 4096];
-    counter::read_by(t, c, cl, keys, &mut places)
-}
-
 // An insert into a store that passed the checks: 12, then the counter is read, or 13.
 // [01:RS4 RS6 RC5 FM8]
 fn insert_checked(store: &mut [u8], z: Shape, ids: &[u8], nonces: &[u8], token: &[u8]) -> Counted
@@ -305,7 +287,7 @@ fn insert_checked(store: &mut [u8], z: Shape, ids: &[u8], nonces: &[u8], token: 
     ensures { λ r. ⌜ Insert program (now (store .entry)) (now (ids .entry)) (now (nonces .entry)) (now (token .entry)) (counted r) (now (store .exit)) ⌝ }
 {
     let p = z.p;
-    if wide(token[0]) != p {
+    if octets::wide(token[0]) != p {
         return Counted::Refused(Refusal::TokenShares);
     }
     let m = z.m;
@@ -315,7 +297,7 @@ fn insert_checked(store: &mut [u8], z: Shape, ids: &[u8], nonces: &[u8], token: 
     let mut cl = [0u8; 32];
     octets::copy(&mut cl, &token[65..97]);
     let keys = counter::keys_of(&cl);
-    let Reading::Counter(x) = read_counter(&store[a..b], c, &cl, keys) else {
+    let Reading::Counter(x) = counter::read_keyed(&store[a..b], c, &cl, keys) else {
         return Counted::Refused(Refusal::Damage);
     };
     insert_read(store, z, x, keys, &cl, ids, nonces, token)

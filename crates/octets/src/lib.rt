@@ -21,7 +21,7 @@ pub fn put(to: &mut [u8], x: u64)
 }
 
 // A byte as a wider number.
-fn wide(x: u8) -> u64
+pub fn wide(x: u8) -> u64
     ensures { λ r. ⌜ (r ≡ x) × (r < 256) ⌝ }
 {
     x as u64

@@ -34,33 +34,6 @@ store₃ c = put (c .before .before .before .before .before .before .before .bef
 abbrev store₄ : (c : tie.After-put-rows4) → LaidStore (c .before .before .before .before .before .before .before .before .before .before .before .before .before .before .before .before .before .before .before .args .z)
 store₄ c = put (c .before .before .before .before .before .before .before .before .before .before .before .before .before .before .before .before .before .before .before .args .z) (store₃ (c .before .before .before .before)) tableS (c .put-rows4 .last .0) (c .put-rows4 .kept .0)
 
-mul-v : tie.Need-mul-v
-mul-v c = omega (arith, sized c .range)
-
-add-v : tie.Need-add-v
-add-v c = omega (arith, sized c .range)
-
-mul-a : tie.Need-mul-a
-mul-a c = omega (arith, sized c .range)
-
-add-a : tie.Need-add-a
-add-a c = omega (arith, sized c .range)
-
-mul-b : tie.Need-mul-b
-mul-b c = omega (arith, sized c .range)
-
-add-b : tie.Need-add-b
-add-b c = omega (arith, sized c .range)
-
-mul-e : tie.Need-mul-e
-mul-e c = omega (arith, sized c .range)
-
-add-e : tie.Need-add-e
-add-e c = omega (arith, sized c .range)
-
-part-put-rows-end : tie.Need-part-put-rows-end
-part-put-rows-end c = omega (arith, sized c .whole)
-
 put-rows-requires : tie.Need-put-rows-requires
 put-rows-requires c κs =
     let s = c .before .before .before .before .before .before in
@@ -116,9 +89,9 @@ returns c =
 pub place-spec : {M : Type 1} → statement M
 place-spec =
     tie.close
-    (tie.spec mul-v add-v mul-a add-a mul-b add-b mul-e add-e
-    (λ c. search needs) (λ c. search needs) part-put-rows-end put-rows-requires
-    (λ c. search needs) (λ c. search needs) part-put-rows-end-2 put-rows-requires-2
-    (λ c. search needs) (λ c. search needs) part-put-rows-end-3 put-rows-requires-3
-    (λ c. search needs) (λ c. search needs) part-put-rows-end-4 put-rows-requires-4
-    same-length returns)
+    (tie.spec (λ c. omega (arith, sized c .range)) (λ c. omega (arith, sized c .range)) (λ c. omega (arith, sized c .range))
+    (λ c. omega (arith, sized c .range)) (λ c. omega (arith, sized c .range)) (λ c. omega (arith, sized c .range))
+    (λ c. omega (arith, sized c .range)) (λ c. omega (arith, sized c .range)) (λ c. search needs) (λ c. search needs)
+    (λ c. omega (arith, sized c .whole)) put-rows-requires (λ c. search needs) (λ c. search needs) part-put-rows-end-2 put-rows-requires-2
+    (λ c. search needs) (λ c. search needs) part-put-rows-end-3 put-rows-requires-3 (λ c. search needs) (λ c. search needs) part-put-rows-end-4
+    put-rows-requires-4 same-length returns)
