@@ -1,0 +1,72 @@
+-- The token is made or its making refused; then the operation's contract.
+use Prim.Native.Nat.{ℕ}
+use mathlib.Core.Path.{_≡_, refl, sym, ap, subst, _∙_}
+use mathlib.Core.Option.{none}
+use mathlib.Core.List.{List}
+use lib.ListN.{length}
+use Rattle.answer.specs.Answer.{completion}
+use Rattle.answer.specs.Verdict.{verdict}
+use Rattle.scheme.specs.Keys.{compactionToken}
+use Rattle.scheme.specs.Refusals.{keyTests}
+use Rattle.scheme.specs.Compaction.{Compact}
+use Rattle.compact.specs.Outcome.{compactionAnswer}
+use Rattle.suite.specs.Program.{program}
+use Rattle.calls.proofs.Making.{made, unmade, token-made, one-refusal, not-both, compaction-length}
+use borrow.Author.Needs.{needs}
+use Rattle.calls.proofs.compact.Statement.{statement}
+use Rattle.calls.proofs.compact.Tie as tie
+
+-- the making passed its tests, and the token was made
+passed : (c : tie.After-enum-told) →
+    let a = c .before .before .before .before .before .before .before .args in
+    verdict (keyTests (a .key .now)) ≡ none
+passed c =
+    let a = c .before .before .before .before .before .before .before .args in
+    made (keyTests (a .key .now)) (sym (ap completion (c .enum-told .given .1)) ∙ c .before .before .compaction-token .ensures .0)
+
+token : (c : tie.After-enum-told) →
+    let t = c .before .before in
+    let a = t .before .before .before .before .before .args in
+    t .compaction-token .last .1 .0 ≡ compactionToken program (a .key .now)
+token c =
+    let t = c .before .before in
+    let a = t .before .before .before .before .before .args in
+    token-made (keyTests (a .key .now)) (compactionToken program (a .key .now)) _ (t .compaction-token .last .1 .0) (passed c) (t .compaction-token .ensures .1)
+
+slice-aggregate-compact : tie.Need-slice-aggregate-compact
+slice-aggregate-compact c =
+    let e = c .before .before in
+    let a = e .before .before .before .before .before .before .before .args in
+    sym (ap length (token e) ∙ compaction-length (a .key .now))
+
+returns : tie.Need-returns
+returns c =
+    let t = c .before .before .before in
+    let a = t .before .before .before .before .before .args in
+    let e = unmade (keyTests (a .key .now)) (c .before .r .given .0 .0) (sym (ap completion (c .before .r .given .1)) ∙ t .compaction-token .ensures .0) in
+    (record { unmade = λ r f. (one-refusal _ _ r e f, refl); made = λ f. absurd (not-both _ _ e f) }, refl)
+
+returns-2 : tie.Need-returns-2
+returns-2 c =
+    let n = c .before .before .compact in
+    let e = c .before .before .before .before .before in
+    let a = e .before .before .before .before .before .before .before .args in (
+      record {
+        unmade = λ r f. absurd (not-both _ r f (passed e));
+        made = λ f. subst (λ (t : List ℕ). Compact program (a .store .now) (a .nonces .now) t (compactionAnswer (n .result)) (n .last .0)) (token e) (n .ensures);
+      },
+      refl,
+    )
+
+pub compact-spec : {M : Type 1} → statement M
+compact-spec =
+    tie.close
+    (tie.spec
+    (λ c κs. search needs)
+    (λ c. search needs)
+    (λ c. search needs)
+    slice-aggregate-compact
+    (λ c κs. search needs)
+    returns
+    (λ c. search needs)
+    returns-2)

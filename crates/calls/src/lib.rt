@@ -1,0 +1,73 @@
+// A call of a list, on its raw arguments: the making of its token, where it takes one, then the operation
+// with it (document 01, "The ledger", last paragraph). Each contract is the step of the claim. [01:LG16]
+ghost use mathlib.Core.List.{[]};
+ghost use Rattle.answer.specs.Answer.{counted};
+ghost use Rattle.scheme.specs.Call.{Call};
+ghost use Rattle.scheme.specs.Run.{Step};
+ghost use Rattle.suite.specs.Program.{program};
+ghost use Rattle.client.specs.Making.{fieldOf};
+ghost use Rattle.compact.specs.Outcome.{compactionAnswer};
+use answer::Completion;
+use answer::Counted;
+use compact::Compaction;
+
+// Inserts ids under a field in share u. [01:OP1]
+pub fn insert(
+    store: &mut [u8],
+    key: &[u8],
+    name: &[u8],
+    value: &[u8],
+    p: u64,
+    u: u64,
+    nonce: &[u8],
+    ids: &[u8],
+    nonces: &[u8],
+) -> Counted
+    ensures { λ r. ⌜ Step program (Call.insert (now (key .entry)) (fieldOf (now (name .entry)) (now (value .entry))) p u (now (nonce .entry)) (now (ids .entry)) (now (nonces .entry))) (now (store .entry)) (record { answer = counted r; output = [] }) (now (store .exit)) ⌝ }
+{
+    let mut token = [0u8; 141];
+    match client::insert_token(key, name, value, p, u, nonce, &mut token) {
+        Completion::Refused(r) => Counted::Refused(r),
+        Completion::Done => insert::insert(store, ids, nonces, &token),
+    }
+}
+
+// Erases an id from every field. [01:OP4]
+pub fn erase(store: &mut [u8], id: &[u8]) -> Counted
+    ensures { λ r. ⌜ Step program (Call.erase (now (id .entry))) (now (store .entry)) (record { answer = counted r; output = [] }) (now (store .exit)) ⌝ }
+{
+    erase::erase(store, id)
+}
+
+// Finds the ids under a field, to the start of the output. [01:OP6 OP7]
+pub fn find(store: &[u8], key: &[u8], name: &[u8], value: &[u8], output: &mut [u8]) -> Counted
+    ensures { λ r. ⌜ Step program (Call.find (now (key .entry)) (fieldOf (now (name .entry)) (now (value .entry))) (now (output .entry))) (now (store .entry)) (record { answer = counted r; output = now (output .exit) }) (now (store .entry)) ⌝ }
+{
+    let mut token = [0u8; 96];
+    match client::find_token(key, name, value, &mut token) {
+        Completion::Refused(r) => Counted::Refused(r),
+        Completion::Done => find::find(store, &token, output),
+    }
+}
+
+// Counts the ids ever inserted under a field. [01:OP9]
+pub fn count(store: &[u8], key: &[u8], name: &[u8], value: &[u8]) -> Counted
+    ensures { λ r. ⌜ Step program (Call.count (now (key .entry)) (fieldOf (now (name .entry)) (now (value .entry)))) (now (store .entry)) (record { answer = counted r; output = [] }) (now (store .entry)) ⌝ }
+{
+    let mut token = [0u8; 32];
+    match client::count_token(key, name, value, &mut token) {
+        Completion::Refused(r) => Counted::Refused(r),
+        Completion::Done => count::count(store, &token),
+    }
+}
+
+// Compacts the counters of every field inserted under since the last compaction. [01:OP10]
+pub fn compact(store: &mut [u8], key: &[u8], nonces: &[u8]) -> Compaction
+    ensures { λ r. ⌜ Step program (Call.compact (now (key .entry)) (now (nonces .entry))) (now (store .entry)) (record { answer = compactionAnswer r; output = [] }) (now (store .exit)) ⌝ }
+{
+    let mut token = [0u8; 32];
+    match client::compaction_token(key, &mut token) {
+        Completion::Refused(r) => Compaction::Refused(r),
+        Completion::Done => compact::compact(store, nonces, &token),
+    }
+}
