@@ -13,6 +13,7 @@ import ctypes
 import functools
 import hashlib
 import hmac
+import mmap
 import pathlib
 import random
 import sys
@@ -72,21 +73,29 @@ class Other(Real):
 # The library
 
 
-class Lent:
-    """Bytes lent to be written, between guards that a call must leave."""
+class Arena:
+    """Where an argument lies: it ends at a page that can be neither read nor written, so that a call
+    that reaches past it stops the test; before it stand bytes that a call must leave."""
 
-    def __init__(self, content):
-        self.n = len(content)
-        self.whole = bytearray(GUARD + content + GUARD)
-        self.array = (ctypes.c_ubyte * len(self.whole)).from_buffer(self.whole)
+    SIZE = 1 << 20
 
-    def pointer(self):
-        return ctypes.byref(self.array, len(GUARD))
+    def __init__(self):
+        self.map = mmap.mmap(-1, self.SIZE + mmap.PAGESIZE)
+        self.start = ctypes.addressof(ctypes.c_char.from_buffer(self.map))
+        libc = ctypes.CDLL(None, use_errno=True)
+        libc.mprotect.argtypes = [ctypes.c_void_p, ctypes.c_size_t, ctypes.c_int]
+        assert libc.mprotect(self.start + self.SIZE, mmap.PAGESIZE, 0) == 0
+
+    def put(self, content):
+        self.n, self.at = len(content), self.SIZE - len(content)
+        self.map[self.at - len(GUARD):self.at] = GUARD
+        self.map[self.at:self.SIZE] = content
+        return self.start + self.at
 
     def content(self):
-        if self.whole[:32] != GUARD or self.whole[32 + self.n:] != GUARD:
-            raise Difference("a call wrote outside of what it was lent")
-        return bytes(self.whole[32:32 + self.n])
+        if self.map[self.at - len(GUARD):self.at] != GUARD:
+            raise Difference("a call wrote before what it was lent")
+        return self.map[self.at:self.SIZE]
 
 
 class Library:
@@ -99,26 +108,31 @@ class Library:
 
     def __init__(self, path):
         self.library = ctypes.CDLL(str(path))
+        self.arenas = [Arena() for _ in range(7)]
         for name, kinds in self.CALLS.items():
             function = getattr(self.library, "mazhkuri_" + name)
-            types = {"r": [ctypes.c_char_p, ctypes.c_size_t], "a": [ctypes.c_void_p],
-                     "w": [ctypes.c_void_p, ctypes.c_size_t], "n": [ctypes.c_uint64]}
+            slice = [ctypes.c_void_p, ctypes.c_size_t]
+            types = {"r": slice, "w": slice, "a": slice[:1], "n": [ctypes.c_uint64]}
             function.argtypes = [t for kind in kinds for t in types[kind]]
             function.restype = ctypes.c_int64
             setattr(self, name, functools.partial(self.call, function, kinds))
 
     def call(self, function, kinds, *arguments):
-        raw, lent = [], None
-        for kind, argument in zip(kinds, arguments):
+        raw, lent, written = [], [], None
+        for kind, argument, arena in zip(kinds, arguments, self.arenas):
             if kind == "n":
                 raw.append(argument)
-            elif kind == "r":
-                raw += [bytes(argument), len(argument)]
-            else:
-                lent = Lent(argument)
-                raw += [lent.pointer()] + ([lent.n] if kind == "w" else [])
+                continue
+            raw += [arena.put(argument)] + ([] if kind == "a" else [len(argument)])
+            lent.append((kind, argument, arena))
         told = function(*raw)
-        return told, lent.content() if lent else None
+        for kind, argument, arena in lent:
+            content = arena.content()
+            if kind != "r":
+                written = content
+            elif content != argument:
+                raise Difference("a call wrote to what it may only read")
+        return told, written
 
 
 def packed(values):
@@ -194,38 +208,49 @@ def token_of(library, model, call, generator):
     return wanted
 
 
-def operate(library, model, store, kind, token, call):
-    """One operation on the bytes of a store: by the library, then by the model with the library's row
-    placing. What both told, and the store after."""
-    before, after = bytes(store), bytes(store)
-    output = wanted_output = None
+def by_library(library, store, kind, token, call):
+    """What the library returns, the output after it, and the store after it."""
+    if kind == "Find":
+        told, output = library.find(store, token, call.output)
+        return told, output, store
+    if kind == "Count":
+        return library.count(store, token)[0], None, store
     if kind == "Insert":
-        told, after = library.insert(before, call.ids, call.nonces, token)
+        told, after = library.insert(store, call.ids, call.nonces, token)
     elif kind == "Erase":
-        told, after = library.erase(before, call.id)
-    elif kind == "Find":
-        told, output = library.find(before, token, call.output)
-    elif kind == "Count":
-        told, _ = library.count(before, token)
+        told, after = library.erase(store, call.id)
     else:
-        told, after = library.compact(before, call.nonces, token)
-    model.place = scheme.follow(after)
-    store = bytearray(before)
-    if kind == "Insert":
+        told, after = library.compact(store, call.nonces, token)
+    return told, None, after
+
+
+def by_model(model, store, kind, token, call):
+    """The model's answer, the output after it, and the store after it."""
+    store, output = bytearray(store), None
+    if kind == "Find":
+        output = bytearray(call.output)
+        answer = model.find(store, token, output)
+        output = bytes(output)
+    elif kind == "Count":
+        answer = model.count(store, token)
+    elif kind == "Insert":
         answer = model.insert(store, token, call.nonces, call.ids)
     elif kind == "Erase":
         answer = model.erase(store, call.id)
-    elif kind == "Find":
-        lent = bytearray(call.output)
-        answer = model.find(store, token, lent)
-        wanted_output = bytes(lent)
-    elif kind == "Count":
-        answer = model.count(store, token)
     else:
         answer = model.compact(store, token, call.nonces)
+    return answer, output, bytes(store)
+
+
+def operate(library, model, store, kind, token, call):
+    """One operation by the library, then by the model with the library's row placing: the answer, the
+    output and the store after it, which are alike."""
+    told, output, after = by_library(library, store, kind, token, call)
+    model.place = scheme.follow(after)
+    answer, wanted_output, wanted = by_model(model, store, kind, token, call)
     same(kind, told, encoded(answer))
     same(kind + ", output", output, wanted_output)
-    same(kind + ", store", after, bytes(store))
+    same(kind + ", store", after, wanted)
     return answer, output, after
 
 
@@ -257,21 +282,18 @@ def made(library, model, p, sizes, generator):
         same("make", library.make(q, *z, lent), (encoded(answer), bytes(store)))
     store = bytearray(n)
     model.make(store, p, *sizes)
-    return store
+    return bytes(store)
 
 
-def one_list(library, model, drawn, tally):
+def one_list(library, model, drawn, listed, tally):
     """A list of calls on a made store, against model store and ledger both."""
-    listed = drawn.draw()
     ledger = Ledger(drawn.p, *drawn.sizes)
     store = made(library, model, drawn.p, drawn.sizes, drawn.r)
     try:
         for at, call in enumerate(listed):
             kind = type(call).__name__
             wanted, wanted_output = ledger.call(call)
-            token = None
-            if kind != "Erase":
-                token = token_of(library, model, call, drawn.r)
+            token = None if kind == "Erase" else token_of(library, model, call, drawn.r)
             if kind != "Erase" and token is None:
                 answer, output = model.token(call), call.output if kind == "Find" else None
             else:
@@ -289,13 +311,36 @@ def lists(library, number, seed):
     model = scheme.Scheme(Other)
     began = shown = time.time()
     for i in range(number):
-        one_list(library, model, drawn, tally)
+        one_list(library, model, drawn, drawn.draw(), tally)
         shown = progress(began, shown, "lists", i + 1, number)
     if number >= 1000:
         often = {n: sum(v for (_, k), v in tally.items() if k == n) for n in (15, 16, 17, 18, 19)}
         if not compare.all_told(tally) or min(often.values()) < number / 40:
             raise Difference("not tried often enough: %r" % often)
     return "%d lists, %d calls, told %s" % (number, sum(tally.values()), numbers_told(tally))
+
+
+def large(library, seed):
+    """A list on the largest store: 64 ids at a time, in three of 16 shares."""
+    drawn, tally = compare.Lists(seed, 1), {}
+    drawn.draw()
+    r, drawn.p, drawn.sizes = drawn.r, 15, (4096, 4096, 4096)
+    ids = [r.randbytes(16) for _ in range(200)]
+    field, nonces = compare.FIELDS[0], r.randbytes
+
+    def insert(u, j):
+        return calls.Insert(drawn.key, *field, 15, u, nonces(12), nonces(12 * (j + 1)),
+                            b"".join(r.choice(ids) for _ in range(j)))
+
+    listed = []
+    for part in range(3):
+        listed += [insert(u, j) for u, j in ((0, 64), (7, 63), (15, 1), (0, 2))]
+        listed += [calls.Erase(id) for id in ids[part::50]]
+        listed += [calls.Find(drawn.key, *field, bytes(16 * n)) for n in (10, 4096)]
+        listed += [calls.Count(drawn.key, *field)]
+        listed += [calls.Compact(drawn.key, nonces(12 * n)) for n in (3, 4)]
+    one_list(library, scheme.Scheme(Other), drawn, listed, tally)
+    return "%d calls, told %s" % (sum(tally.values()), numbers_told(tally))
 
 
 # Hostile stores
@@ -410,6 +455,7 @@ def main():
         print("archive.py: two implementations of the cipher differ")
         return 1
     parts = [("hash, F and E", lambda: primitives(library, random.Random(given.seed))),
+             ("the largest store", lambda: large(library, given.seed)),
              ("lists", lambda: lists(library, many * given.lists, given.seed)),
              ("hostile stores", lambda: hostile_stores(library, many * given.hostile, given.seed))]
     for name, part in parts:
