@@ -24,6 +24,7 @@ use answer::Counted;
 use answer::Refusal;
 use compact::Compaction;
 
+// An answer's number. [01:FM14]
 fn positive(x: u64) -> i64
     requires { ⌜ x < 2 ^ 63 ⌝ }
     ensures { λ r. ⌜ r ≡ pos x ⌝ }
@@ -31,6 +32,7 @@ fn positive(x: u64) -> i64
     x as i64
 }
 
+// A refusal's number.
 fn negative(x: u64) -> i64
     requires { ⌜ x < 2 ^ 63 ⌝ }
     ensures { λ r. ⌜ r ≡ negℤ (pos x) ⌝ }
@@ -49,6 +51,7 @@ fn carried(r: Refusal) -> u64
     }
 }
 
+// A refusal, with what it carries.
 fn refused(r: Refusal) -> i64
     requires { ⌜ magnitude (refusal r) < 2 ^ 63 ⌝ }
     ensures { λ n. ⌜ n ≡ encoded (refusal r) ⌝ }
@@ -56,6 +59,7 @@ fn refused(r: Refusal) -> i64
     negative(answer::number(r) + 256 * carried(r))
 }
 
+// The answer of a call that gives no value: 0 where it is done.
 fn completed(r: Completion) -> i64
     requires { ⌜ magnitude (completionOf r) < 2 ^ 63 ⌝ }
     ensures { λ k. ⌜ k ≡ encoded (completionOf r) ⌝ }
@@ -77,6 +81,7 @@ fn made(r: Completion, n: u64) -> i64
     }
 }
 
+// The answer of a call that gives one number.
 fn counted(r: Counted) -> i64
     requires { ⌜ magnitude (countedOf r) < 2 ^ 63 ⌝ }
     ensures { λ k. ⌜ k ≡ encoded (countedOf r) ⌝ }
@@ -87,6 +92,7 @@ fn counted(r: Counted) -> i64
     }
 }
 
+// A compaction's two numbers as one, also where 13 carries them. [01:OP13 RS13]
 fn compacted(r: Compaction) -> i64
     requires { ⌜ magnitude (compactionAnswer r) < 2 ^ 63 ⌝ }
     ensures { λ k. ⌜ k ≡ encoded (compactionAnswer r) ⌝ }
