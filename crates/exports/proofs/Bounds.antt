@@ -1,0 +1,221 @@
+-- Every answer fits its number: what the definitions answer is below 2 ^ 63, with 256 times what a refusal carries.
+use Prim.Native.Nat.{ℕ, zero, suc, _+_, _*_, _/_, _%_, _^_, _≤_, _<_}
+use native.Mathlib.Omega.{arith}
+use native.Mathlib.Nat.{le-trans}
+use mathlib.Core.Path.{_≡_, refl, sym, subst}
+use mathlib.Core.Bool.{Bool, true, false, cond, not}
+use mathlib.Core.Option.{Option, none, some}
+use mathlib.Core.List.{List, [], _∷_, _++_, map}
+use lib.Dec.{T, ltb, eqb, lit<}
+use lib.ListN.{length, drop, length-append, length-map}
+use Rattle.answer.specs.Answer.{Answer, done, refused}
+use Rattle.answer.specs.Verdict.{Test, _⇒_, _⇒_carrying_, verdict, answerOr}
+use Rattle.table.specs.Lists.{anyOf, same, sum, upTo, distinct}
+use Rattle.table.specs.Table.{Table, used, lookup}
+use Rattle.table.proofs.Counting.{count-le, count-split}
+use Rattle.table.proofs.Rows.{rows-length, free-used}
+use Rattle.table.proofs.Below.{flat-length-sum}
+use Rattle.sha256.specs.Hash.{hashTests, hashAnswer}
+use Rattle.hmac.specs.Hmac.{macTests, macAnswer}
+use Rattle.chacha20.specs.Call.{cipherTests, cipherAnswer}
+use Rattle.client.specs.Making.{makingAnswer}
+use Rattle.scheme.specs.Labels.{Field}
+use Rattle.scheme.specs.Keys.{tokenCL, findCL}
+use Rattle.scheme.specs.Store.{Sizes, makeTests, make, cut, sizesOf, headerBad, marksBad, entryTag, clIn}
+use Rattle.scheme.specs.Reading.{Reading, damage, counter, limit, countOf, damaged, reading}
+use Rattle.scheme.specs.Refusals.{lengthNot, tokenTests, eraseInputTests, insertInputTests, compactionInputTests, insertTokenTests, fieldTokenTests, keyTests}
+use Rattle.scheme.specs.Insert.{insertReading, newCount, insertStateTests, insertVerdict}
+use Rattle.scheme.specs.Erase.{isReverse, eraseVerdict, erase}
+use Rattle.scheme.specs.Find.{idOf, idsTo, shareReading, idsOfShare, idsFound, findVerdict, find}
+use Rattle.scheme.specs.Count.{countVerdict, sumOfCounts, count}
+use Rattle.scheme.specs.Compaction.{Treats, finished, stopped, skipped, anchored, logOf, logged, compactVerdict, Compact}
+use Rattle.suite.specs.Program.{program}
+use Rattle.store.proofs.Laws.{good-header}
+use Rattle.counter.proofs.Readings.{reading-bounds}
+use Rattle.exports.specs.Encoding.{packed, magnitude}
+
+-- the answer of a list of conditions, each looked at where those before it do not hold
+abbrev pub Bounded : List Test → Answer → Type 0
+Bounded [] a = magnitude a < 2 ^ 63
+Bounded ((b ⇒ n) ∷ ts) a = T (ltb n 256) × (b ≡ false → Bounded ts a)
+Bounded ((b ⇒ n carrying l) ∷ ts) a = (n + 256 * packed l < 2 ^ 63) × (b ≡ false → Bounded ts a)
+
+chosen : (b : Bool) (r a : Answer) (v : Option Answer) → magnitude r < 2 ^ 63 → (b ≡ false → magnitude (answerOr v a) < 2 ^ 63)
+    → magnitude (answerOr (cond b (some r) v) a) < 2 ^ 63
+chosen true r a v h f = h
+chosen false r a v h f = f refl
+
+pub bounded : (ts : List Test) (a : Answer) → Bounded ts a → magnitude (answerOr (verdict ts) a) < 2 ^ 63
+bounded [] a h = h
+bounded ((b ⇒ n) ∷ ts) a h = chosen b (refused n []) a (verdict ts) (omega (arith, lit< {m = n} {n = 256} (h .0))) (λ e. bounded ts a (h .1 e))
+bounded ((b ⇒ n carrying l) ∷ ts) a h = chosen b (refused n l) a (verdict ts) (h .0) (λ e. bounded ts a (h .1 e))
+
+-- a reading's count
+count-small : (c : ℕ) (cl : List ℕ) (t : Table) → countOf (reading program c cl t) ≤ limit
+count-small c cl t = go (reading program c cl t) refl
+  where
+    go : (r : Reading) → r ≡ reading program c cl t → countOf r ≤ limit
+    go damage e = omega arith
+    go (counter b s k n) e = reading-bounds c cl t b s k n e .count-limit
+
+share-small : (before clx : List ℕ) (u : ℕ) → countOf (shareReading program before clx u) ≤ limit
+unfolding shareReading
+share-small before clx u = count-small _ _ _
+
+sum-few : (f : ℕ → ℕ) → ((u : ℕ) → f u ≤ limit) → (l : List ℕ) → sum (map f l) ≤ limit * length l
+sum-few f h [] = omega arith
+sum-few f h (u ∷ l) = omega (arith, h u, sum-few f h l)
+
+length-up-to : (p : ℕ) → length (upTo p) ≡ p + 1
+length-up-to zero = refl
+length-up-to (suc p) = simp length-append (omega (arith, length-up-to p))
+
+-- the tables' rows
+module _ (before : List ℕ) where
+  used-V : length (used (cut before .tV)) ≤ sizesOf before .m
+  unfolding cut
+  used-V = let z = sizesOf before in omega (arith, free-used (cut before .tV), rows-length 49 (z .m) (drop (8 + 61 * z .m) before))
+
+  used-S : length (used (cut before .tS)) ≤ sizesOf before .s
+  unfolding cut
+  used-S = let z = sizesOf before in omega (arith, free-used (cut before .tS), rows-length 45 (z .s) (drop (8 + 110 * z .m + 61 * z .c) before))
+
+-- the calls' answers
+pub insert-small : (before ids nonces token : List ℕ) → length ids < 2 ^ 64
+    → magnitude (answerOr (insertVerdict program before ids nonces token) (done (newCount program before ids token ∷ []))) < 2 ^ 63
+unfolding insertVerdict insertInputTests tokenTests insertStateTests newCount insertReading
+insert-small before ids nonces token h =
+    let n = count-small (sizesOf before .c) (tokenCL token) (cut before .tC) in
+    bounded (insertInputTests ids nonces ++ (tokenTests 141 token ++ insertStateTests program before ids nonces token)) (done (newCount program before ids token ∷ []))
+    (tt, λ _. (tt, λ _. (tt, λ _. (tt, λ _. (tt, λ _. (tt, λ _. (tt, λ _. (tt, λ _. (tt, λ _. (tt, λ _. (tt, λ _. omega (arith, n, h))))))))))))
+
+pub erase-small : (before id : List ℕ) → magnitude (erase before id .answer) < 2 ^ 63
+unfolding erase eraseVerdict eraseInputTests
+erase-small before id =
+    bounded (eraseInputTests id ++ ((headerBad before ⇒ 10) ∷ (marksBad (cut before) ⇒ 11) ∷ [])) _
+    (tt, λ _. (tt, λ h. (tt, λ _. omega (arith, good-header before h .range .m-most, used-V before, count-le (isReverse before id) (used (cut before .tV))))))
+
+pub count-answer-small : (before token : List ℕ) → magnitude (count program before token .answer) < 2 ^ 63
+unfolding count countVerdict tokenTests sumOfCounts
+count-answer-small before token =
+    bounded (tokenTests 32 token ++ ((headerBad before ⇒ 10) ∷ (marksBad (cut before) ⇒ 11) ∷ (anyOf (λ u. damaged (shareReading program before token u)) (upTo (sizesOf before .p)) ⇒ 13) ∷ [])) _ (
+      tt,
+      λ _. (
+        tt,
+        λ h. (
+          tt,
+          λ _. (
+            tt,
+            λ _.
+                omega (arith, good-header before h .range .p-most, length-up-to (sizesOf before .p), sum-few (λ u. countOf (shareReading program before token u)) (share-small before token) (upTo (sizesOf before .p))),
+          ),
+        ),
+      ),
+    )
+
+ids-few : (mt me : List ℕ) (t : Table) (n : ℕ) → length (idsTo program mt me t n) ≤ n
+ids-few mt me t zero = omega arith
+ids-few mt me t (suc n) = rw length-append (omega (arith, ids-few mt me t n, one (lookup (entryTag program mt (suc n)) t)))
+  where
+    one : (o : Option (List ℕ)) → length (idOf program me o) ≤ 1
+    one none = omega arith
+    one (some b) = omega arith
+
+share-few : (before token : List ℕ) (u : ℕ) → length (idsOfShare program before token u) ≤ limit
+unfolding idsOfShare
+share-few before token u = le-trans (ids-few _ _ _ _) (share-small before (findCL token) u)
+
+found-few : (before token : List ℕ) → headerBad before ≡ false → length (idsFound program before token) ≤ limit * 16
+unfolding idsFound
+found-few before token h =
+    omega (
+      arith,
+      good-header before h .range .p-most,
+      length-up-to (sizesOf before .p),
+      flat-length-sum (idsOfShare program before token) (upTo (sizesOf before .p)),
+      sum-few (λ u. length (idsOfShare program before token u)) (share-few before token) (upTo (sizesOf before .p)),
+    )
+
+pub find-small : (before token output : List ℕ) → magnitude (find program before token output .answer) < 2 ^ 63
+unfolding find findVerdict tokenTests
+find-small before token output =
+    let n = length (idsFound program before token) in
+    bounded (tokenTests 96 token ++ ((headerBad before ⇒ 10) ∷ (marksBad (cut before) ⇒ 11)
+    ∷ (anyOf (λ u. damaged (shareReading program before (findCL token) u)) (upTo (sizesOf before .p)) ⇒ 13) ∷ (ltb (length output) (16 * n) ⇒ 18 carrying (n ∷ [])) ∷ [])) _
+    (tt, λ _. (tt, λ h. (tt, λ _. (tt, λ _. (omega (arith, found-few before token h), λ _. omega (arith, found-few before token h))))))
+
+distinct-few : (l : List (List ℕ)) → length (distinct l) ≤ length l
+distinct-few [] = omega arith
+distinct-few (x ∷ xs) = omega (arith, distinct-few xs, count-split (λ y. same y x) (distinct xs))
+
+treats-few : {c : ℕ} {ks : List ℕ} {cls : List (List ℕ)} {tC tS : Table} {nonces : List ℕ} {anchors counters : ℕ} {answer : Answer} {tC′ tS′ : Table} → c ≤ 4096
+    → Treats program c ks cls tC tS nonces anchors counters answer tC′ tS′
+    → magnitude answer ≤ 13 + 256 * ((anchors + length cls) * 65536 + (counters + 4096 * length cls))
+treats-few h finished = omega arith
+treats-few h (stopped e) = omega arith
+treats-few h (skipped e r) = omega (arith, treats-few h r)
+treats-few {c} h (anchored {cl} {cls} {tC} {B = B} {start} {k} {n} e a r) = omega (arith, treats-few h r, reading-bounds c cl tC B start (suc k) n (sym e) .counters)
+
+-- the third condition does not hold where nothing refuses
+third : (x y z : Bool) (n m k : ℕ) (ts : List Test) → verdict ((x ⇒ n) ∷ (y ⇒ m) ∷ (z ⇒ k) ∷ ts) ≡ none → z ≡ false
+third true y z n m k ts e = let c : _≡_ {A = ℕ} 0 1 = cc in absurd (omega arith)
+third false true z n m k ts e = let c : _≡_ {A = ℕ} 0 1 = cc in absurd (omega arith)
+third false false true n m k ts e = let c : _≡_ {A = ℕ} 0 1 = cc in absurd (omega arith)
+third false false false n m k ts e = refl
+
+module _ (before nonces token : List ℕ) where
+  header-good : compactVerdict program before nonces token ≡ none → headerBad before ≡ false
+  unfolding compactVerdict compactionInputTests tokenTests
+  header-good e =
+      third (not (eqb (length nonces % 12) 0)) (lengthNot 32 token) (headerBad before) 4 6 10
+      ((marksBad (cut before) ⇒ 11) ∷ (ltb (length nonces / 12) (length (used (cut before .tS))) ⇒ 19) ∷ []) e
+
+  compact-refused : (r : Answer) → compactVerdict program before nonces token ≡ some r → magnitude r < 2 ^ 63
+  unfolding compactVerdict compactionInputTests tokenTests
+  compact-refused r e =
+      subst (λ (o : Option Answer). magnitude (answerOr o (done [])) < 2 ^ 63) e
+      (bounded (compactionInputTests nonces ++ (tokenTests 32 token ++
+      ((headerBad before ⇒ 10) ∷ (marksBad (cut before) ⇒ 11) ∷ (ltb (length nonces / 12) (length (used (cut before .tS))) ⇒ 19) ∷ []))) (done [])
+      (tt, λ _. (tt, λ _. (tt, λ _. (tt, λ _. (tt, λ _. omega arith))))))
+
+  logged-few : length (logged program before token) ≤ sizesOf before .s
+  unfolding logged logOf
+  logged-few = omega (arith, distinct-few (map (clIn program token) (used (cut before .tS))), length-map (used (cut before .tS)) (clIn program token), used-S before)
+
+  pub compact-small : (a : Answer) (after : List ℕ) → Compact program before nonces token a after → magnitude a < 2 ^ 63
+  compact-small a after k = go (compactVerdict program before nonces token) refl
+    where
+      go : (v : Option Answer) → compactVerdict program before nonces token ≡ v → magnitude a < 2 ^ 63
+      go none e =
+          let z = good-header before (header-good e) .range in
+          omega (arith, treats-few (z .c-most) (k .wrote e .treats), logged-few, z .s-most)
+      go (some r) e = subst (λ (x : Answer). magnitude x < 2 ^ 63) (sym (k .kept r e .0)) (compact-refused r e)
+
+-- the calls that answer no value
+pub hash-small : (m : List ℕ) → magnitude (hashAnswer m) < 2 ^ 63
+unfolding hashAnswer hashTests
+hash-small m = bounded (hashTests m) (done []) (tt, λ _. omega arith)
+
+pub mac-small : (key m : List ℕ) → magnitude (macAnswer key m) < 2 ^ 63
+unfolding macAnswer macTests
+mac-small key m = bounded (macTests key m) (done []) (tt, λ _. omega arith)
+
+pub cipher-small : (key nonce text : List ℕ) → magnitude (cipherAnswer key nonce text) < 2 ^ 63
+unfolding cipherAnswer cipherTests
+cipher-small key nonce text = bounded (cipherTests key nonce text) (done []) (tt, λ _. (tt, λ _. (tt, λ _. omega arith)))
+
+pub make-small : (z : Sizes) (slice : List ℕ) → magnitude (make z slice .answer) < 2 ^ 63
+unfolding make makeTests
+make-small z slice = bounded (makeTests z slice) (done []) (tt, λ _. (tt, λ _. omega arith))
+
+pub insert-token-small : (key : List ℕ) (f : Field) (p u : ℕ) (nonce : List ℕ) → magnitude (makingAnswer (insertTokenTests key f p u nonce)) < 2 ^ 63
+unfolding insertTokenTests
+insert-token-small key f p u nonce = bounded (insertTokenTests key f p u nonce) (done []) (tt, λ _. (tt, λ _. (tt, λ _. (tt, λ _. omega arith))))
+
+pub field-token-small : (key : List ℕ) (f : Field) → magnitude (makingAnswer (fieldTokenTests key f)) < 2 ^ 63
+unfolding fieldTokenTests
+field-token-small key f = bounded (fieldTokenTests key f) (done []) (tt, λ _. (tt, λ _. omega arith))
+
+pub key-token-small : (key : List ℕ) → magnitude (makingAnswer (keyTests key)) < 2 ^ 63
+unfolding keyTests
+key-token-small key = bounded (keyTests key) (done []) (tt, λ _. omega arith)

@@ -1,0 +1,240 @@
+// The library as C sees it: each public call on pointers and lengths, with its answer as one number
+// (specs/Encoding.antt). include/mazhkuri.h declares and documents these functions.
+ghost use mathlib.Core.Path.{_≡_};
+ghost use Prim.Native.Nat.{_^_, _<_};
+ghost use lib.IntN.{pos, negℤ};
+ghost use Rattle.answer.specs.Answer.{carriedBy, refusal, completion as completionOf, counted as countedOf};
+ghost use Rattle.sha256.specs.Hash.{hashAnswer, hashDigest};
+ghost use Rattle.hmac.specs.Hmac.{macAnswer, macTag};
+ghost use Rattle.chacha20.specs.Call.{cipherAnswer, cipherText};
+ghost use Rattle.scheme.specs.Keys.{insertToken, findToken, countToken, compactionToken};
+ghost use Rattle.scheme.specs.Refusals.{insertTokenTests, fieldTokenTests, keyTests};
+ghost use Rattle.scheme.specs.Store.{make as makeOf};
+ghost use Rattle.scheme.specs.Insert.{Insert};
+ghost use Rattle.scheme.specs.Erase.{erase as eraseOf};
+ghost use Rattle.scheme.specs.Find.{find as findOf};
+ghost use Rattle.scheme.specs.Count.{count as countOf};
+ghost use Rattle.scheme.specs.Compaction.{Compact};
+ghost use Rattle.suite.specs.Program.{program};
+ghost use Rattle.client.specs.Making.{makingAnswer, makingToken, fieldOf};
+ghost use Rattle.compact.specs.Outcome.{compactionAnswer};
+ghost use Rattle.exports.specs.Encoding.{packed, magnitude, encoded, answering, Told};
+use answer::Completion;
+use answer::Counted;
+use answer::Refusal;
+use compact::Compaction;
+
+// An answer's number. [01:FM14]
+fn positive(x: u64) -> i64
+    requires { ⌜ x < 2 ^ 63 ⌝ }
+    ensures { λ r. ⌜ r ≡ pos x ⌝ }
+{
+    x as i64
+}
+
+// A refusal's number.
+fn negative(x: u64) -> i64
+    requires { ⌜ x < 2 ^ 63 ⌝ }
+    ensures { λ r. ⌜ r ≡ negℤ (pos x) ⌝ }
+{
+    -(x as i64)
+}
+
+// What a refusal carries, as one number.
+fn carried(r: Refusal) -> u64
+    ensures { λ n. ⌜ n ≡ packed (carriedBy r) ⌝ }
+{
+    if let Refusal::OutputLength(n) = r {
+        n
+    } else {
+        0
+    }
+}
+
+// A refusal, with what it carries.
+fn refused(r: Refusal) -> i64
+    requires { ⌜ magnitude (refusal r) < 2 ^ 63 ⌝ }
+    ensures { λ n. ⌜ n ≡ encoded (refusal r) ⌝ }
+{
+    negative(answer::number(r) + 256 * carried(r))
+}
+
+// The answer of a call that gives no value: 0 where it is done.
+fn completed(r: Completion) -> i64
+    requires { ⌜ magnitude (completionOf r) < 2 ^ 63 ⌝ }
+    ensures { λ k. ⌜ k ≡ encoded (completionOf r) ⌝ }
+{
+    match r {
+        Completion::Done => 0,
+        Completion::Refused(z) => refused(z),
+    }
+}
+
+// A token making answers the token's length.
+fn made(r: Completion, n: u64) -> i64
+    requires { ⌜ (magnitude (completionOf r) < 2 ^ 63) × (n < 2 ^ 63) ⌝ }
+    ensures { λ k. ⌜ k ≡ encoded (answering n (completionOf r)) ⌝ }
+{
+    match r {
+        Completion::Done => positive(n),
+        Completion::Refused(z) => refused(z),
+    }
+}
+
+// The answer of a call that gives one number.
+fn counted(r: Counted) -> i64
+    requires { ⌜ magnitude (countedOf r) < 2 ^ 63 ⌝ }
+    ensures { λ k. ⌜ k ≡ encoded (countedOf r) ⌝ }
+{
+    match r {
+        Counted::Number(n) => positive(n),
+        Counted::Refused(z) => refused(z),
+    }
+}
+
+// A compaction's two numbers as one, also where 13 carries them. [01:OP13 RS13]
+fn compacted(r: Compaction) -> i64
+    requires { ⌜ magnitude (compactionAnswer r) < 2 ^ 63 ⌝ }
+    ensures { λ k. ⌜ k ≡ encoded (compactionAnswer r) ⌝ }
+{
+    match r {
+        Compaction::Done(t) => positive(t.anchors * 65536 + t.counters),
+        Compaction::Refused(z) => refused(z),
+        Compaction::Damage(t) => negative(13 + 256 * (t.anchors * 65536 + t.counters)),
+    }
+}
+
+// The hash of a message. [01:KF1]
+#[no_mangle]
+pub extern "C" fn mazhkuri_sha256(message: &[u8], digest: &mut [u8; 32]) -> i64
+    ensures { λ r. ⌜ r ≡ encoded (hashAnswer (now (message .entry))) ⌝ }
+    ensures { λ _. ⌜ now (digest .exit) ≡ hashDigest (now (message .entry)) (now (digest .entry)) ⌝ }
+{
+    completed(sha256::hash(message, digest))
+}
+
+// F, the keyed function, of a key and a message. [01:KF1]
+#[no_mangle]
+pub extern "C" fn mazhkuri_hmac(key: &[u8], message: &[u8], tag: &mut [u8; 32]) -> i64
+    ensures { λ r. ⌜ r ≡ encoded (macAnswer (now (key .entry)) (now (message .entry))) ⌝ }
+    ensures { λ _. ⌜ now (tag .exit) ≡ macTag (now (key .entry)) (now (message .entry)) (now (tag .entry)) ⌝ }
+{
+    completed(hmac::mac(key, message, tag))
+}
+
+// E, the cipher, over a text in its place. [01:KF2]
+#[no_mangle]
+pub extern "C" fn mazhkuri_chacha20(key: &[u8], nonce: &[u8], text: &mut [u8]) -> i64
+    ensures { λ r. ⌜ r ≡ encoded (cipherAnswer (now (key .entry)) (now (nonce .entry)) (now (text .entry))) ⌝ }
+    ensures { λ _. ⌜ now (text .exit) ≡ cipherText (now (key .entry)) (now (nonce .entry)) (now (text .entry)) ⌝ }
+{
+    completed(chacha20::apply(key, nonce, text))
+}
+
+// Makes the token for an insert into share u. [01:KT7]
+#[no_mangle]
+pub extern "C" fn mazhkuri_insert_token(
+    key: &[u8],
+    name: &[u8],
+    value: &[u8],
+    p: u64,
+    u: u64,
+    nonce: &[u8],
+    token: &mut [u8; 141],
+) -> i64
+    ensures { λ r. ⌜ r ≡ encoded (answering 141 (makingAnswer (insertTokenTests (now (key .entry)) (fieldOf (now (name .entry)) (now (value .entry))) p u (now (nonce .entry))))) ⌝ }
+    ensures { λ _. ⌜ now (token .exit) ≡ makingToken (insertTokenTests (now (key .entry)) (fieldOf (now (name .entry)) (now (value .entry))) p u (now (nonce .entry))) (insertToken program (now (key .entry)) (fieldOf (now (name .entry)) (now (value .entry))) p u (now (nonce .entry))) (now (token .entry)) ⌝ }
+{
+    made(
+        client::insert_token(key, name, value, p, u, nonce, token),
+        141,
+    )
+}
+
+// Makes the token for a find. [01:KT8]
+#[no_mangle]
+pub extern "C" fn mazhkuri_find_token(
+    key: &[u8],
+    name: &[u8],
+    value: &[u8],
+    token: &mut [u8; 96],
+) -> i64
+    ensures { λ r. ⌜ r ≡ encoded (answering 96 (makingAnswer (fieldTokenTests (now (key .entry)) (fieldOf (now (name .entry)) (now (value .entry)))))) ⌝ }
+    ensures { λ _. ⌜ now (token .exit) ≡ makingToken (fieldTokenTests (now (key .entry)) (fieldOf (now (name .entry)) (now (value .entry)))) (findToken program (now (key .entry)) (fieldOf (now (name .entry)) (now (value .entry)))) (now (token .entry)) ⌝ }
+{
+    made(client::find_token(key, name, value, token), 96)
+}
+
+// Makes the token for a count. [01:KT9]
+#[no_mangle]
+pub extern "C" fn mazhkuri_count_token(
+    key: &[u8],
+    name: &[u8],
+    value: &[u8],
+    token: &mut [u8; 32],
+) -> i64
+    ensures { λ r. ⌜ r ≡ encoded (answering 32 (makingAnswer (fieldTokenTests (now (key .entry)) (fieldOf (now (name .entry)) (now (value .entry)))))) ⌝ }
+    ensures { λ _. ⌜ now (token .exit) ≡ makingToken (fieldTokenTests (now (key .entry)) (fieldOf (now (name .entry)) (now (value .entry)))) (countToken program (now (key .entry)) (fieldOf (now (name .entry)) (now (value .entry)))) (now (token .entry)) ⌝ }
+{
+    made(client::count_token(key, name, value, token), 32)
+}
+
+// Makes the token for a compaction. [01:KT10]
+#[no_mangle]
+pub extern "C" fn mazhkuri_compaction_token(key: &[u8], token: &mut [u8; 32]) -> i64
+    ensures { λ r. ⌜ r ≡ encoded (answering 32 (makingAnswer (keyTests (now (key .entry))))) ⌝ }
+    ensures { λ _. ⌜ now (token .exit) ≡ makingToken (keyTests (now (key .entry))) (compactionToken program (now (key .entry))) (now (token .entry)) ⌝ }
+{
+    made(client::compaction_token(key, token), 32)
+}
+
+// Makes a store of m rows of entries, c of counters and s of the log. [01:ST16]
+#[no_mangle]
+pub extern "C" fn mazhkuri_make(p: u64, m: u64, c: u64, s: u64, store: &mut [u8]) -> i64
+    ensures { λ r. ⌜ r ≡ encoded (makeOf (record { p = p; m = m; c = c; s = s }) (now (store .entry)) .answer) ⌝ }
+    ensures { λ _. ⌜ now (store .exit) ≡ makeOf (record { p = p; m = m; c = c; s = s }) (now (store .entry)) .store ⌝ }
+{
+    completed(store::make(p, m, c, s, store))
+}
+
+// Inserts 1 to 64 ids. [01:OP1 OP3]
+#[no_mangle]
+pub extern "C" fn mazhkuri_insert(store: &mut [u8], ids: &[u8], nonces: &[u8], token: &[u8]) -> i64
+    ensures { λ r. ⌜ Told (λ a. Insert program (now (store .entry)) (now (ids .entry)) (now (nonces .entry)) (now (token .entry)) a (now (store .exit))) r ⌝ }
+{
+    counted(insert::insert(store, ids, nonces, token))
+}
+
+// Erases an id from every field. [01:OP4 OP5]
+#[no_mangle]
+pub extern "C" fn mazhkuri_erase(store: &mut [u8], id: &[u8]) -> i64
+    ensures { λ r. ⌜ r ≡ encoded (eraseOf (now (store .entry)) (now (id .entry)) .answer) ⌝ }
+    ensures { λ _. ⌜ now (store .exit) ≡ eraseOf (now (store .entry)) (now (id .entry)) .store ⌝ }
+{
+    counted(erase::erase(store, id))
+}
+
+// Finds the ids under a field, to the start of the output. [01:OP6 OP7 OP8]
+#[no_mangle]
+pub extern "C" fn mazhkuri_find(store: &[u8], token: &[u8], output: &mut [u8]) -> i64
+    ensures { λ r. ⌜ r ≡ encoded (findOf program (now (store .entry)) (now (token .entry)) (now (output .entry)) .answer) ⌝ }
+    ensures { λ _. ⌜ now (output .exit) ≡ findOf program (now (store .entry)) (now (token .entry)) (now (output .entry)) .output ⌝ }
+{
+    counted(find::find(store, token, output))
+}
+
+// Counts the ids ever inserted under a field. [01:OP9]
+#[no_mangle]
+pub extern "C" fn mazhkuri_count(store: &[u8], token: &[u8]) -> i64
+    ensures { λ r. ⌜ r ≡ encoded (countOf program (now (store .entry)) (now (token .entry)) .answer) ⌝ }
+{
+    counted(count::count(store, token))
+}
+
+// Compacts the counters of every field inserted under since the last compaction. [01:OP10 OP13]
+#[no_mangle]
+pub extern "C" fn mazhkuri_compact(store: &mut [u8], nonces: &[u8], token: &[u8]) -> i64
+    ensures { λ r. ⌜ Told (λ a. Compact program (now (store .entry)) (now (nonces .entry)) (now (token .entry)) a (now (store .exit))) r ⌝ }
+{
+    compacted(compact::compact(store, nonces, token))
+}

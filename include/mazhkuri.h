@@ -1,0 +1,161 @@
+/* Mazhkuri: a stateless encrypted multi-map, proved. The C interface of the static library.
+ *
+ * A client holds one key of 32 bytes, remembers nothing, and makes tokens. A server holds a store
+ * and no key: it inserts, erases, finds, counts and compacts. docs/API.md tells each call at length,
+ * docs/FORMAT.md the bytes of stores and tokens.
+ *
+ * What a call returns
+ *   0 or more   the call was done, and this is its answer; 0 where a call has none.
+ *   below 0     the call was refused: minus (the refusal's number + 256 * what it carries).
+ *               mazhkuri_refusal and mazhkuri_carried take the two apart. Only refusal 18 carries a
+ *               number, and refusal 13 of a compaction, which carries its two numbers so far.
+ * A refused call changes no byte of what it was lent, with one exception: see mazhkuri_compact.
+ *
+ * Memory
+ *   Every byte belongs to the caller, before, during and after a call. A call allocates nothing,
+ *   frees nothing, and keeps no pointer and no state: whatever it knows stands in its arguments.
+ *   A pointer with a length is read, or written, from its first byte to its length and no further.
+ *   A pointer to const is never written. digest, tag and token of the functions that write them have
+ *   exactly the size given in brackets, and the caller provides that many bytes.
+ *   A length may be 0, and then the pointer may be any non-null pointer; it is not read through. NULL
+ *   must not be passed, not even with length 0. No alignment is asked for. A length is at most
+ *   PTRDIFF_MAX.
+ *   What a call writes (digest, tag, text, token, store, output) must not overlap any other argument.
+ *   Arguments that a call only reads may overlap one another.
+ *   What a call writes has to hold some value before the call (a refused call leaves it).
+ *
+ * Threads
+ *   Calls that share no written memory may run at the same time. A store that one call writes must
+ *   not be lent to another call at that time.
+ *
+ * The refusals, each call's in the order in which it tests them: 1 to 9 by number, then 10, 11, 12,
+ * 19, 13, 14, 15, 16, 17, 18.
+ */
+#ifndef MAZHKURI_H
+#define MAZHKURI_H
+
+#include <stddef.h>
+#include <stdint.h>
+
+#ifdef __cplusplus
+extern "C" {
+#endif
+
+enum {
+  MAZHKURI_KEY_LENGTH = 1,     /* the key is not 32 bytes */
+  MAZHKURI_FIELD_LENGTH = 2,   /* the name is not 1 to 255 bytes, or the value above 1,024 */
+  MAZHKURI_SHARE_RANGE = 3,    /* p is above 15, or u above p */
+  MAZHKURI_NONCE_LENGTH = 4,   /* the nonce bytes are not as many as the call asks for */
+  MAZHKURI_ID_LENGTH = 5,      /* the id bytes are not as many as the call asks for */
+  MAZHKURI_TOKEN_LENGTH = 6,   /* the token has another length */
+  MAZHKURI_SIZE_RANGE = 7,     /* p is above 15, or m, c or s is not 1 to 4,096 */
+  MAZHKURI_SLICE_LENGTH = 8,   /* the store's length is not 8 + 110 m + 61 c + 45 s */
+  MAZHKURI_TEXT_LENGTH = 9,    /* a message, a text or an HMAC key is above 65,536 bytes */
+  MAZHKURI_HEADER = 10,        /* the bytes are no store: header or length */
+  MAZHKURI_MARK = 11,          /* a row's mark is neither 0 nor 1 */
+  MAZHKURI_TOKEN_SHARES = 12,  /* the insert token's p is not the store's */
+  MAZHKURI_DAMAGE = 13,        /* a counter that was read is damaged */
+  MAZHKURI_COUNT_RANGE = 14,   /* the new count would be above 4,294,967,295 */
+  MAZHKURI_ENTRY_ROWS = 15,    /* fewer free entry rows than ids */
+  MAZHKURI_COUNTER_ROWS = 16,  /* no free counter row: compact, or make a larger store */
+  MAZHKURI_LOG_ROWS = 17,      /* no free log row: compact */
+  MAZHKURI_OUTPUT_LENGTH = 18, /* the output is shorter than the ids found; carries how many */
+  MAZHKURI_NONCE_COUNT = 19    /* a compaction has fewer nonces than used log rows */
+};
+
+enum {
+  MAZHKURI_KEY = 32,
+  MAZHKURI_ID = 16,
+  MAZHKURI_NONCE = 12,
+  MAZHKURI_DIGEST = 32,
+  MAZHKURI_INSERT_TOKEN = 141,
+  MAZHKURI_FIND_TOKEN = 96,
+  MAZHKURI_COUNT_TOKEN = 32,
+  MAZHKURI_COMPACTION_TOKEN = 32
+};
+
+/* The bytes of a store with m entry rows, c counter rows and s log rows, each 1 to 4,096. */
+#define MAZHKURI_STORE(m, c, s) (8 + 110 * (size_t)(m) + 61 * (size_t)(c) + 45 * (size_t)(s))
+
+/* The refusal's number of what a call returned, 0 where it was done; and what it carries. */
+static inline int mazhkuri_refusal(int64_t told) { return told < 0 ? (int)(-told % 256) : 0; }
+static inline int64_t mazhkuri_carried(int64_t told) { return told < 0 ? -told / 256 : 0; }
+
+/* SHA-256 of the message. Returns 0; or -9. */
+int64_t mazhkuri_sha256(const uint8_t *message, size_t message_length, uint8_t digest[32]);
+
+/* HMAC-SHA-256 of the message under a key of any length. Returns 0; or -9. */
+int64_t mazhkuri_hmac(const uint8_t *key, size_t key_length, const uint8_t *message,
+                      size_t message_length, uint8_t tag[32]);
+
+/* ChaCha20 over the text in its place, first block counter 1; the same call undoes it.
+ * Returns 0; or -1, -4 (the nonce is not 12 bytes), -9. */
+int64_t mazhkuri_chacha20(const uint8_t *key, size_t key_length, const uint8_t *nonce,
+                          size_t nonce_length, uint8_t *text, size_t text_length);
+
+/* The four token makings: what the client does with its key. Each returns the token's length and
+ * writes all of the token, or is refused and leaves the token's bytes as they were.
+ *
+ * Insert: for a field (name, value) in share u of a store with shares 0 to p, under a nonce of 12
+ * bytes. Returns 141; or -1, -2, -3, -4. */
+int64_t mazhkuri_insert_token(const uint8_t *key, size_t key_length, const uint8_t *name,
+                              size_t name_length, const uint8_t *value, size_t value_length,
+                              uint64_t p, uint64_t u, const uint8_t *nonce, size_t nonce_length,
+                              uint8_t token[141]);
+
+/* Find. Returns 96; or -1, -2. */
+int64_t mazhkuri_find_token(const uint8_t *key, size_t key_length, const uint8_t *name,
+                            size_t name_length, const uint8_t *value, size_t value_length,
+                            uint8_t token[96]);
+
+/* Count. Returns 32; or -1, -2. */
+int64_t mazhkuri_count_token(const uint8_t *key, size_t key_length, const uint8_t *name,
+                             size_t name_length, const uint8_t *value, size_t value_length,
+                             uint8_t token[32]);
+
+/* Compaction. Returns 32; or -1. */
+int64_t mazhkuri_compaction_token(const uint8_t *key, size_t key_length, uint8_t token[32]);
+
+/* Makes an empty store with shares 0 to p and m entry, c counter and s log rows; store_length is
+ * exactly MAZHKURI_STORE(m, c, s). Returns 0; or -7, -8. */
+int64_t mazhkuri_make(uint64_t p, uint64_t m, uint64_t c, uint64_t s, uint8_t *store,
+                      size_t store_length);
+
+/* Inserts 1 to 64 ids of 16 bytes each, one after the other, with a nonce of 12 bytes for each id
+ * and one more. Returns how many ids were ever inserted under the token's field and share, the new
+ * ones included, 1 to 4,294,967,295; or -4, -5, -6, -10, -11, -12, -13, -14, -15, -16, -17. */
+int64_t mazhkuri_insert(uint8_t *store, size_t store_length, const uint8_t *ids, size_t ids_length,
+                        const uint8_t *nonces, size_t nonces_length, const uint8_t *token,
+                        size_t token_length);
+
+/* Erases the id of 16 bytes from every field and share. Returns how many entries were freed, 0 to
+ * 4,096; or -5, -10, -11. */
+int64_t mazhkuri_erase(uint8_t *store, size_t store_length, const uint8_t *id, size_t id_length);
+
+/* Finds the ids under the token's field, in all shares, and writes them to the start of the output;
+ * bytes after them stay. Returns how many; or -6, -10, -11, -13, or -(18 + 256 * how many) where
+ * the output is shorter than 16 times that. The output may be empty. The time grows with how many
+ * ids were ever inserted under the field. */
+int64_t mazhkuri_find(const uint8_t *store, size_t store_length, const uint8_t *token,
+                      size_t token_length, uint8_t *output, size_t output_length);
+
+/* Counts the ids ever inserted under the token's field, erased ones included, in all shares.
+ * Returns 0 to 68,719,476,720; or -6, -10, -11, -13. */
+int64_t mazhkuri_count(const uint8_t *store, size_t store_length, const uint8_t *token,
+                       size_t token_length);
+
+/* Compacts: for every field and share inserted under since the last compaction, frees its counter
+ * rows and writes one anchor row in their place; then frees the log rows. At least as many nonces of
+ * 12 bytes as the log has used rows. Returns anchors written * 65,536 + counters freed; or -4, -6,
+ * -10, -11, -19, or -(13 + 256 * (anchors * 65,536 + counters)): a counter is damaged, and what was
+ * compacted before it stays compacted, as both numbers tell. This is the one refusal after which
+ * bytes of the store have changed. (Counters freed are below 65,536 in every store that only these
+ * calls have written.) */
+int64_t mazhkuri_compact(uint8_t *store, size_t store_length, const uint8_t *nonces,
+                         size_t nonces_length, const uint8_t *token, size_t token_length);
+
+#ifdef __cplusplus
+}
+#endif
+
+#endif

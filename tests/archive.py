@@ -1,0 +1,472 @@
+"""The static library against the model, through the C interface: hash, F and E; random lists of
+calls against the model store and the model ledger; calls on hostile stores against the model store.
+Expected values come from tests/model, Python's hashlib and hmac, and OpenSSL's libcrypto, never from
+our own code. Exit status 1 at the first difference.
+
+  archive.py LIBRARY [--lists N] [--hostile N] [--seed N] [--long]
+
+LIBRARY is the archive linked as a shared object (tests/run makes it). --long runs ten times as many.
+The row placing is read off the store that the library left, so that stores are compared byte for byte.
+"""
+import argparse
+import ctypes
+import functools
+import hashlib
+import hmac
+import mmap
+import pathlib
+import random
+import sys
+import time
+
+HERE = pathlib.Path(__file__).resolve().parent
+sys.path.insert(0, str(HERE / "model"))
+
+import calls  # noqa: E402
+import compare  # noqa: E402
+import hostile  # noqa: E402
+import scheme  # noqa: E402
+from calls import Done, Refused  # noqa: E402
+from hostile import FIELDS, KEY, Hostile  # noqa: E402
+from ledger import Ledger  # noqa: E402
+from primitives import Real  # noqa: E402
+
+GUARD = bytes([0xA5]) * 32
+
+
+class Difference(Exception):
+    pass
+
+
+# Another implementation of F and E
+
+
+def libcrypto_cipher():
+    """ChaCha20 of OpenSSL's libcrypto, or None where that cannot be loaded."""
+    try:
+        lib = ctypes.CDLL("libcrypto.so.3")
+    except OSError:
+        return None
+    pointer, number = ctypes.c_void_p, ctypes.c_int
+    lib.EVP_CIPHER_CTX_new.restype = lib.EVP_chacha20.restype = pointer
+    lib.EVP_EncryptInit_ex.argtypes = [pointer] * 3 + [ctypes.c_char_p] * 2
+    lib.EVP_EncryptUpdate.argtypes = [pointer, pointer, pointer, ctypes.c_char_p, number]
+    context, chacha20 = lib.EVP_CIPHER_CTX_new(), lib.EVP_chacha20()
+
+    def cipher(key, nonce, text):
+        out, length = ctypes.create_string_buffer(len(text) + 64), number()
+        assert lib.EVP_EncryptInit_ex(context, chacha20, None, key, b"\1\0\0\0" + nonce) == 1
+        assert lib.EVP_EncryptUpdate(context, out, ctypes.byref(length), text, len(text)) == 1
+        assert length.value == len(text)
+        return out.raw[:len(text)]
+    return cipher
+
+
+class Other(Real):
+    """The model's suite: F as Python's hmac gives it, kept once computed; E of libcrypto, or the
+    model's own where that is missing."""
+
+    F = staticmethod(functools.lru_cache(maxsize=1 << 18)(Real.F))
+    E = staticmethod(libcrypto_cipher() or Real.E)
+
+
+# The library
+
+
+class Arena:
+    """Where an argument lies: it ends at a page that can be neither read nor written, so that a call
+    that reaches past it stops the test; before it stand bytes that a call must leave."""
+
+    SIZE = 1 << 20
+
+    def __init__(self):
+        self.map = mmap.mmap(-1, self.SIZE + mmap.PAGESIZE)
+        self.start = ctypes.addressof(ctypes.c_char.from_buffer(self.map))
+        libc = ctypes.CDLL(None, use_errno=True)
+        libc.mprotect.argtypes = [ctypes.c_void_p, ctypes.c_size_t, ctypes.c_int]
+        assert libc.mprotect(self.start + self.SIZE, mmap.PAGESIZE, 0) == 0
+
+    def put(self, content):
+        self.n, self.at = len(content), self.SIZE - len(content)
+        self.map[self.at - len(GUARD):self.at] = GUARD
+        self.map[self.at:self.SIZE] = content
+        return self.start + self.at
+
+    def content(self):
+        if self.map[self.at - len(GUARD):self.at] != GUARD:
+            raise Difference("a call wrote before what it was lent")
+        return self.map[self.at:self.SIZE]
+
+
+class Library:
+    """Each call takes bytes and gives what it returned, and the bytes after it of what it writes."""
+
+    CALLS = {  # r: bytes that are read; w: bytes that are written; a: an array; n: a number
+        "sha256": "ra", "hmac": "rra", "chacha20": "rrw", "insert_token": "rrrnnra",
+        "find_token": "rrra", "count_token": "rrra", "compaction_token": "ra", "make": "nnnnw",
+        "insert": "wrrr", "erase": "wr", "find": "rrw", "count": "rr", "compact": "wrr"}
+
+    def __init__(self, path):
+        self.library = ctypes.CDLL(str(path))
+        self.arenas = [Arena() for _ in range(7)]
+        for name, kinds in self.CALLS.items():
+            function = getattr(self.library, "mazhkuri_" + name)
+            slice = [ctypes.c_void_p, ctypes.c_size_t]
+            types = {"r": slice, "w": slice, "a": slice[:1], "n": [ctypes.c_uint64]}
+            function.argtypes = [t for kind in kinds for t in types[kind]]
+            function.restype = ctypes.c_int64
+            setattr(self, name, functools.partial(self.call, function, kinds))
+
+    def call(self, function, kinds, *arguments):
+        raw, lent, written = [], [], None
+        for kind, argument, arena in zip(kinds, arguments, self.arenas):
+            if kind == "n":
+                raw.append(argument)
+                continue
+            raw += [arena.put(argument)] + ([] if kind == "a" else [len(argument)])
+            lent.append((kind, argument, arena))
+        told = function(*raw)
+        for kind, argument, arena in lent:
+            content = arena.content()
+            if kind != "r":
+                written = content
+            elif content != argument:
+                raise Difference("a call wrote to what it may only read")
+        return told, written
+
+
+def packed(values):
+    return functools.reduce(lambda n, value: n * 65536 + value, values, 0)
+
+
+def encoded(answer):
+    """The number that stands for an answer."""
+    if isinstance(answer, Refused):
+        return -(answer.number + 256 * packed(answer.carried))
+    return packed(answer.values)
+
+
+def same(what, got, wanted):
+    if got != wanted:
+        show = [x.hex() if isinstance(x, bytes) else x for x in (got, wanted)]
+        raise Difference("%s: the library gives %s, expected %s" % (what, *show))
+
+
+# Hash, F and E
+
+EDGES = [319, 320, 321, 1023, 1024, 1025, 4095, 4096, 65535, 65536, 65537]
+
+
+def primitives(library, generator):
+    tried = 0
+    for n in list(range(301)) + EDGES:
+        message, lent = generator.randbytes(n), generator.randbytes(32)
+        long = n > 65536
+        told = (-9, lent) if long else (0, hashlib.sha256(message).digest())
+        same("hash of %d bytes" % n, library.sha256(message, lent), told)
+        for m in (0, 1, 31, 32, 33, 63, 64, 65, 127, 128, 129, 200) if n < 301 else (32, 65536, 65537):
+            key = generator.randbytes(m)
+            refused = long or m > 65536
+            told = (-9, lent) if refused else (0, hmac.digest(key, message, "sha256"))
+            same("F of a key of %d and %d bytes" % (m, n), library.hmac(key, message, lent), told)
+            tried += 1
+        key, nonce = generator.randbytes(32), generator.randbytes(12)
+        told = (-9, message) if long else (0, Other.E(key, nonce, message))
+        same("E of %d bytes" % n, library.chacha20(key, nonce, message), told)
+        if not long:
+            same("E undone", library.chacha20(key, nonce, told[1]), (0, message))
+        tried += 3
+    for k in (0, 12, 31, 32, 33):
+        for n in (0, 11, 12, 13, 32):
+            for t in (0, 1, 64, 65536, 65537):
+                key, nonce, text = (generator.randbytes(x) for x in (k, n, t))
+                told = (-1 if k != 32 else -4 if n != 12 else -9, text)
+                if k == 32 and n == 12 and t <= 65536:
+                    told = (0, Other.E(key, nonce, text))
+                same("E, lengths %d, %d, %d" % (k, n, t), library.chacha20(key, nonce, text), told)
+                tried += 1
+    return "%d calls" % tried
+
+
+# Tokens and calls
+
+
+def token_of(library, model, call, generator):
+    """The token that the call takes, by the library, held to the model's; or its refusal."""
+    wanted = model.token(call)
+    makings = {calls.Insert: (library.insert_token, 141), calls.Find: (library.find_token, 96),
+               calls.Count: (library.count_token, 32), calls.Compact: (library.compaction_token, 32)}
+    making, length = makings[type(call)]
+    arguments = {calls.Insert: "key name value p u nonce", calls.Compact: "key"}
+    names = arguments.get(type(call), "key name value").split()
+    lent = generator.randbytes(length)
+    told = making(*(getattr(call, n) for n in names), lent)
+    if isinstance(wanted, Refused):
+        same("%s token" % type(call).__name__, told, (encoded(wanted), lent))
+        return None
+    same("%s token" % type(call).__name__, told, (length, wanted))
+    return wanted
+
+
+def by_library(library, store, kind, token, call):
+    """What the library returns, the output after it, and the store after it."""
+    if kind == "Find":
+        told, output = library.find(store, token, call.output)
+        return told, output, store
+    if kind == "Count":
+        return library.count(store, token)[0], None, store
+    if kind == "Insert":
+        told, after = library.insert(store, call.ids, call.nonces, token)
+    elif kind == "Erase":
+        told, after = library.erase(store, call.id)
+    else:
+        told, after = library.compact(store, call.nonces, token)
+    return told, None, after
+
+
+def by_model(model, store, kind, token, call):
+    """The model's answer, the output after it, and the store after it."""
+    store, output = bytearray(store), None
+    if kind == "Find":
+        output = bytearray(call.output)
+        answer = model.find(store, token, output)
+        output = bytes(output)
+    elif kind == "Count":
+        answer = model.count(store, token)
+    elif kind == "Insert":
+        answer = model.insert(store, token, call.nonces, call.ids)
+    elif kind == "Erase":
+        answer = model.erase(store, call.id)
+    else:
+        answer = model.compact(store, token, call.nonces)
+    return answer, output, bytes(store)
+
+
+def operate(library, model, store, kind, token, call):
+    """One operation by the library, then by the model with the library's row placing: the answer, the
+    output and the store after it, which are alike."""
+    told, output, after = by_library(library, store, kind, token, call)
+    model.place = scheme.follow(after)
+    answer, wanted_output, wanted = by_model(model, store, kind, token, call)
+    same(kind, told, encoded(answer))
+    same(kind + ", output", output, wanted_output)
+    same(kind + ", store", after, wanted)
+    return answer, output, after
+
+
+def note(tally, kind, answer):
+    key = (kind, answer.number if isinstance(answer, Refused) else "done")
+    tally[key] = tally.get(key, 0) + 1
+
+
+def numbers_told(tally):
+    return sorted({n for _, n in tally if n != "done"})
+
+
+def progress(began, shown, what, i, number):
+    if time.time() - shown < 10:
+        return shown
+    print("  %s: %d of %d, %.0f s" % (what, i, number, time.time() - began), flush=True)
+    return time.time()
+
+
+def made(library, model, p, sizes, generator):
+    """A made store; before it, makings that are refused."""
+    n = scheme.length_of(*sizes)
+    for q, z, length in ((p, sizes, n), (generator.choice((16, 257)), sizes, n),
+                         (p, (0,) + sizes[1:], n), (p, sizes[:2] + (4097,), n),
+                         (p, sizes, n - 1), (p, sizes, n + 1)):
+        lent = generator.randbytes(length)
+        store = bytearray(lent)
+        answer = model.make(store, q, *z)
+        same("make", library.make(q, *z, lent), (encoded(answer), bytes(store)))
+    store = bytearray(n)
+    model.make(store, p, *sizes)
+    return bytes(store)
+
+
+def one_list(library, model, drawn, listed, tally):
+    """A list of calls on a made store, against model store and ledger both."""
+    ledger = Ledger(drawn.p, *drawn.sizes)
+    store = made(library, model, drawn.p, drawn.sizes, drawn.r)
+    try:
+        for at, call in enumerate(listed):
+            kind = type(call).__name__
+            wanted, wanted_output = ledger.call(call)
+            token = None if kind == "Erase" else token_of(library, model, call, drawn.r)
+            if kind != "Erase" and token is None:
+                answer, output = model.token(call), call.output if kind == "Find" else None
+            else:
+                answer, output, store = operate(library, model, store, kind, token, call)
+            if (answer, output) != (wanted, wanted_output):
+                raise Difference("%s: the library gives %r, the ledger %r" % (kind, answer, wanted))
+            note(tally, kind, answer)
+    except Difference as difference:
+        compare.show(drawn, listed, difference, "call %d of a list" % at)
+        raise
+
+
+def lists(library, number, seed):
+    drawn, tally = compare.Lists(seed, 40), {}
+    model = scheme.Scheme(Other)
+    began = shown = time.time()
+    for i in range(number):
+        one_list(library, model, drawn, drawn.draw(), tally)
+        shown = progress(began, shown, "lists", i + 1, number)
+    if number >= 1000:
+        often = {n: sum(v for (_, k), v in tally.items() if k == n) for n in (15, 16, 17, 18, 19)}
+        if not compare.all_told(tally) or min(often.values()) < number / 40:
+            raise Difference("not tried often enough: %r" % often)
+    return "%d lists, %d calls, told %s" % (number, sum(tally.values()), numbers_told(tally))
+
+
+def large(library, seed):
+    """A list on the largest store: 64 ids at a time, in three of 16 shares."""
+    drawn, tally = compare.Lists(seed, 1), {}
+    drawn.draw()
+    r, drawn.p, drawn.sizes = drawn.r, 15, (4096, 4096, 4096)
+    ids = [r.randbytes(16) for _ in range(200)]
+    field, nonces = compare.FIELDS[0], r.randbytes
+
+    def insert(u, j):
+        return calls.Insert(drawn.key, *field, 15, u, nonces(12), nonces(12 * (j + 1)),
+                            b"".join(r.choice(ids) for _ in range(j)))
+
+    listed = []
+    for part in range(3):
+        listed += [insert(u, j) for u, j in ((0, 64), (7, 63), (15, 1), (0, 2))]
+        listed += [calls.Erase(id) for id in ids[part::50]]
+        listed += [calls.Find(drawn.key, *field, bytes(16 * n)) for n in (10, 4096)]
+        listed += [calls.Count(drawn.key, *field)]
+        listed += [calls.Compact(drawn.key, nonces(12 * n)) for n in (3, 4)]
+    one_list(library, scheme.Scheme(Other), drawn, listed, tally)
+    return "%d calls, told %s" % (sum(tally.values()), numbers_told(tally))
+
+
+# Hostile stores
+
+
+class Stores(Hostile):
+    """Broken stores; what they are made from is drawn once for many of them."""
+
+    def __init__(self, seed, suite, bases):
+        super().__init__(seed, suite)
+        self.bases = []
+        for _ in range(bases):
+            self.p, self.sizes = self.r.choice((0, 1, 2)), [self.r.randint(1, 6) for _ in range(3)]
+            model, store = scheme.Scheme(suite), bytearray(scheme.length_of(*self.sizes))
+            model.make(store, self.p, *self.sizes)
+            for _ in range(self.r.randint(0, 10)):
+                model.call(store, self.call())
+            self.bases.append((self.p, self.sizes, bytes(store)))
+
+    def broken(self):
+        r, model = self.r, scheme.Scheme(self.suite)
+        self.p, self.sizes, base = r.choice(self.bases)
+        store = bytearray(base)
+        self.counts = [0, 1, 2, 5, scheme.GREATEST + 1, 2 ** 64 - 1]
+        if r.random() < 0.3:
+            self.counts += [scheme.GREATEST - 2, scheme.GREATEST - 1, scheme.GREATEST]
+        for _ in range(r.choice((1, 1, 2, 3, 5))):
+            r.choices((self.forge, self.repeat, self.damage, self.swap, self.free_bytes, self.mark,
+                       self.header, self.length, self.noise, self.rows),
+                      (10, 4, 4, 3, 2, 1, 1, 1, 1, 1))[0](model, store)
+            if scheme.header(store) is None:
+                break
+        return bytes(store)
+
+    def rows(self, model, store):
+        """Any bytes behind good marks."""
+        for t in scheme.tables(store).values():
+            for i in range(t.rows):
+                scheme.set_row(store, t, i, bytes([self.r.randrange(2)]) + self.bytes(t.width - 1))
+
+    def other(self, right):
+        """Mostly the right token; now and then damaged, random or of another length."""
+        kind = self.r.random()
+        if kind < 0.9:
+            return right
+        if kind < 0.94:
+            at = self.r.randrange(len(right))
+            return right[:at] + bytes([right[at] ^ self.r.randint(1, 255)]) + right[at + 1:]
+        return self.bytes(len(right)) if kind < 0.97 else right[:-1] if kind < 0.985 else right + b"\0"
+
+    def five(self):
+        """A call of each kind, with its token."""
+        r, model = self.r, scheme.Scheme(self.suite)
+        field, u = r.choice(FIELDS), r.randint(0, self.p)
+        id, j = bytes([r.randint(0, 3)]) * 16, r.choice((1, 1, 2, 3))
+        insert = calls.Insert(KEY, *field, self.p, u, self.bytes(12), self.bytes(12 * (j + 1)), id * j)
+        nonces = r.choice((self.sizes[2], self.sizes[2], r.randint(0, self.sizes[2])))
+        for call in (insert, calls.Erase(id), calls.Count(KEY, *field),
+                     calls.Find(KEY, *field, self.bytes(r.choice((0, 15, 16, 96, 200)))),
+                     calls.Compact(KEY, self.bytes(12 * nonces))):
+            token = model.token(call)
+            yield type(call).__name__, token and self.other(token), call
+
+
+def walks_far(model, store, token):
+    """Whether a find would walk a forged count, for which there is no time."""
+    if len(token) != 96 or scheme.header(store) is None or scheme.marks_wrong(store):
+        return False
+    counts = model.counts(store, token[64:])
+    return counts is not None and sum(counts) > 1000
+
+
+def hostile_stores(library, number, seed):
+    drawn, tally, left_out = Stores(seed, Other, 400), {}, 0
+    model = scheme.Scheme(Other)
+    began = shown = time.time()
+    for i in range(number):
+        store = drawn.broken()
+        for kind, token, call in drawn.five():
+            if kind == "Find" and walks_far(model, store, token):
+                left_out += 1
+                continue
+            try:
+                answer, output, after = operate(library, model, store, kind, token, call)
+                fault = hostile.fault_of(call, answer, output, store, after)
+                if fault:
+                    raise Difference(fault)
+            except Difference:
+                print("store %d, seed %d: %s\n%r %s" % (i, seed, store.hex(), call, token.hex()))
+                raise
+            note(tally, kind, answer)
+        shown = progress(began, shown, "hostile stores", i + 1, number)
+    missing = {6, 10, 11, 12, 13, 14, 15, 16, 17, 18, 19} - set(numbers_told(tally))
+    if number >= 5000 and missing:
+        raise Difference("not tried: %s" % sorted(missing))
+    return "%d stores, %d calls, %d finds of forged counts left out, told %s" % (
+        number, sum(tally.values()), left_out, numbers_told(tally))
+
+
+def main():
+    options = argparse.ArgumentParser(description=__doc__.split("\n")[0])
+    options.add_argument("library")
+    options.add_argument("--lists", type=int, default=2000)
+    options.add_argument("--hostile", type=int, default=20000)
+    options.add_argument("--seed", type=int, default=1)
+    options.add_argument("--long", action="store_true", help="ten times as many lists and stores")
+    given = options.parse_args()
+    many = 10 if given.long else 1
+    library = Library(pathlib.Path(given.library).resolve())
+    text = bytes(range(200))
+    if Other.E(KEY, bytes(12), text) != Real.E(KEY, bytes(12), text):
+        print("archive.py: two implementations of the cipher differ")
+        return 1
+    parts = [("hash, F and E", lambda: primitives(library, random.Random(given.seed))),
+             ("the largest store", lambda: large(library, given.seed)),
+             ("lists", lambda: lists(library, many * given.lists, given.seed)),
+             ("hostile stores", lambda: hostile_stores(library, many * given.hostile, given.seed))]
+    for name, part in parts:
+        began = time.time()
+        try:
+            print("%s: alike, %s, %.1f s" % (name, part(), time.time() - began), flush=True)
+        except Difference as difference:
+            print("DIFFERENCE in %s: %s" % (name, difference))
+            return 1
+    return 0
+
+
+if __name__ == "__main__":
+    sys.exit(main())

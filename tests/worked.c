@@ -1,0 +1,170 @@
+/* The worked list of calls of document 01 (G1 to G8) through the C interface, with every answer and
+ * find checked. Each argument has a heap block of exactly its size, so that valgrind sees a read or
+ * write past it; tests/run runs it so. */
+#include "../include/mazhkuri.h"
+
+#include <stdio.h>
+#include <stdlib.h>
+#include <string.h>
+
+static int failed;
+
+static void expect(const char *what, int64_t got, int64_t wanted) {
+  if (got == wanted) return;
+  printf("%s: got %lld, expected %lld\n", what, (long long)got, (long long)wanted);
+  failed = 1;
+}
+
+/* A heap block of n bytes with the given content, or with the given byte. */
+static uint8_t *block(const void *content, int byte, size_t n) {
+  uint8_t *p = malloc(n ? n : 1);
+  if (!p) exit(2);
+  if (content)
+    memcpy(p, content, n);
+  else
+    memset(p, byte, n);
+  return p;
+}
+
+static const char *const HUE[2] = {"hue", "red"};
+static const char *const SIZE[2] = {"size", "L"};
+
+static uint8_t *key, *store;
+static size_t store_length;
+
+/* The ids of a word: each letter 16 times. */
+static uint8_t *ids_of(const char *letters) {
+  size_t n = strlen(letters);
+  uint8_t *ids = block(NULL, 0, 16 * n);
+  for (size_t i = 0; i < n; i++) memset(ids + 16 * i, letters[i], 16);
+  return ids;
+}
+
+static uint8_t *bytes_of(const char *text) { return block(text, 0, strlen(text)); }
+
+static void insert(const char *what, const char *const field[2], uint64_t u, const char *letters,
+                   int64_t wanted) {
+  size_t n = strlen(letters);
+  uint8_t *name = bytes_of(field[0]), *value = bytes_of(field[1]), *ids = ids_of(letters);
+  uint8_t *nonce = block(NULL, 7, 12), *nonces = block(NULL, 9, 12 * (n + 1));
+  uint8_t *token = block(NULL, 0, MAZHKURI_INSERT_TOKEN);
+  expect("insert token",
+         mazhkuri_insert_token(key, 32, name, strlen(field[0]), value, strlen(field[1]), 1, u, nonce,
+                               12, token),
+         MAZHKURI_INSERT_TOKEN);
+  expect(what, mazhkuri_insert(store, store_length, ids, 16 * n, nonces, 12 * (n + 1), token, 141),
+         wanted);
+  free(name), free(value), free(ids), free(nonce), free(nonces), free(token);
+}
+
+static void erase(const char *what, const char *letter, int64_t wanted) {
+  uint8_t *id = ids_of(letter);
+  expect(what, mazhkuri_erase(store, store_length, id, 16), wanted);
+  free(id);
+}
+
+/* The find gives these ids, and nothing but their bytes is written: with room to spare, with just
+ * enough, and refused with one byte less. */
+static void find(const char *what, const char *const field[2], const char *letters) {
+  size_t n = strlen(letters), room = 16 * n;
+  uint8_t *name = bytes_of(field[0]), *value = bytes_of(field[1]), *ids = ids_of(letters);
+  uint8_t *token = block(NULL, 0, MAZHKURI_FIND_TOKEN);
+  expect("find token",
+         mazhkuri_find_token(key, 32, name, strlen(field[0]), value, strlen(field[1]), token),
+         MAZHKURI_FIND_TOKEN);
+  for (int spare = 20; spare >= -1; spare -= spare > 0 ? 20 : 1) {
+    if (spare < 0 && room == 0) break;
+    size_t length = room + (size_t)spare;
+    uint8_t *output = block(NULL, 0xee, length);
+    int64_t told = mazhkuri_find(store, store_length, token, 96, output, length);
+    if (spare >= 0) {
+      expect(what, told, (int64_t)n);
+      expect("the ids found", memcmp(output, ids, room), 0);
+    } else {
+      expect("find without room", told, -(18 + 256 * (int64_t)n));
+      expect("its refusal", mazhkuri_refusal(told), MAZHKURI_OUTPUT_LENGTH);
+      expect("what it carries", mazhkuri_carried(told), (int64_t)n);
+    }
+    for (size_t i = spare < 0 ? 0 : room; i < length; i++) expect("output as lent", output[i], 0xee);
+    free(output);
+  }
+  free(name), free(value), free(ids), free(token);
+}
+
+static void count(const char *what, const char *const field[2], int64_t wanted) {
+  uint8_t *name = bytes_of(field[0]), *value = bytes_of(field[1]);
+  uint8_t *token = block(NULL, 0, MAZHKURI_COUNT_TOKEN);
+  expect("count token",
+         mazhkuri_count_token(key, 32, name, strlen(field[0]), value, strlen(field[1]), token), 32);
+  expect(what, mazhkuri_count(store, store_length, token, 32), wanted);
+  free(name), free(value), free(token);
+}
+
+static void compact(const char *what, size_t nonces, int64_t wanted) {
+  uint8_t *token = block(NULL, 0, MAZHKURI_COMPACTION_TOKEN), *bytes = block(NULL, 5, 12 * nonces);
+  expect("compaction token", mazhkuri_compaction_token(key, 32, token), 32);
+  expect(what, mazhkuri_compact(store, store_length, bytes, 12 * nonces, token, 32), wanted);
+  free(token), free(bytes);
+}
+
+/* Every call on pointers of length 0, and the primitives on their shortest inputs. */
+static void empty(void) {
+  uint8_t *none = block(NULL, 0, 0), *out = block(NULL, 1, 32);
+  uint8_t *token = block(NULL, 0, MAZHKURI_INSERT_TOKEN);
+  expect("hash of nothing", mazhkuri_sha256(none, 0, out), 0);
+  expect("its first byte", out[0], 0xe3);
+  expect("F of nothing", mazhkuri_hmac(none, 0, none, 0, out), 0);
+  expect("its first byte", out[0], 0xb6);
+  expect("E without a key", mazhkuri_chacha20(none, 0, none, 0, token, 0), -1);
+  expect("E without a nonce", mazhkuri_chacha20(key, 32, none, 0, token, 0), -4);
+  expect("no key", mazhkuri_insert_token(none, 0, none, 0, none, 0, 0, 0, none, 0, token), -1);
+  expect("no name", mazhkuri_find_token(key, 32, none, 0, none, 0, token), -2);
+  expect("no name", mazhkuri_count_token(key, 32, none, 0, none, 0, out), -2);
+  expect("no key", mazhkuri_compaction_token(none, 0, out), -1);
+  expect("making in no bytes", mazhkuri_make(0, 1, 1, 1, none, 0), -8);
+  expect("insert of nothing", mazhkuri_insert(none, 0, out, 0, out, 0, out, 0), -4);
+  expect("erase of nothing", mazhkuri_erase(none, 0, out, 0), -5);
+  expect("find by nothing", mazhkuri_find(none, 0, out, 0, token, 0), -6);
+  expect("find in nothing", mazhkuri_find(none, 0, token, 96, out, 0), -10);
+  expect("count by nothing", mazhkuri_count(none, 0, out, 0), -6);
+  expect("compaction of nothing", mazhkuri_compact(none, 0, out, 0, out + 1, 0), -6);
+  free(none), free(out), free(token);
+}
+
+int main(void) {
+  store_length = MAZHKURI_STORE(4, 4, 4);
+  store = block(NULL, 0xaa, store_length);
+  key = block("0123456789abcdef0123456789abcdef", 0, 32);
+  expect("store length", (int64_t)store_length, 872);
+  expect("make", mazhkuri_make(1, 4, 4, 4, store, store_length), 0);
+  insert("G1", HUE, 0, "AB", 2);
+  insert("G1", HUE, 1, "C", 1);
+  find("G1", HUE, "ABC");
+  count("G1", HUE, 3);
+  erase("G2", "B", 1);
+  find("G2", HUE, "AC");
+  count("G2", HUE, 3);
+  compact("too few nonces", 1, -19);
+  compact("G3", 2, 2 * 65536 + 2);
+  find("G3", HUE, "AC");
+  insert("G4", HUE, 0, "D", 3);
+  find("G4", HUE, "ADC");
+  insert("G5", HUE, 0, "EF", -15);
+  find("G5", HUE, "ADC");
+  erase("G6", "A", 1);
+  insert("G6", HUE, 0, "EF", 5);
+  find("G6", HUE, "DEFC");
+  erase("G7", "C", 1);
+  insert("G7", SIZE, 0, "G", -16);
+  find("G7", HUE, "DEF");
+  compact("G8", 2, 1 * 65536 + 2);
+  insert("G8", SIZE, 0, "G", 1);
+  find("G8", HUE, "DEF");
+  find("G8", SIZE, "G");
+  count("G8", HUE, 6);
+  count("G8", SIZE, 1);
+  empty();
+  free(store), free(key);
+  if (!failed) printf("G1 to G8 over the archive: as document 01 says\n");
+  return failed;
+}
