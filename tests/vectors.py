@@ -1,5 +1,5 @@
 """The records and lines of the program crates/vectors: document 01, 'Keyed function and cipher'
-[01:KF7]. The lines come from published files and from other implementations (Python's hashlib
+[01:SC2 KF3 KF7]. The lines come from published files and from other implementations (Python's hashlib
 and hmac, the openssl command) and never from our own program.
 
   vectors.py            compares crates/vectors/stdin and stdout with what is derived here

@@ -2,7 +2,8 @@
 
 Each call's answer, or refusal with what it carries, and a find's whole output are compared;
 exit status 1 at the first difference, with the list of calls. `--mutants` shows that the
-comparison can fail: each deliberately wrong version has to be caught.
+comparison can fail: each deliberately wrong version has to be caught. Whole lists, from a fresh
+store of any sizes, under any row placing [01:LG2 LG5 LG6 LG14 LG15 LG17 LG18 LG19].
 """
 import argparse
 import random

@@ -1,4 +1,4 @@
-"""Fixed examples: document 01's L1 to L6 and its day G1 to G8, on store and ledger both;
+"""Fixed examples: document 01's L1 to L6 and its worked list G1 to G8, on store and ledger both;
 and refusals 7 to 19 on made and forged stores, in the paper's order.
 """
 import scheme
@@ -89,7 +89,7 @@ def made(build, suite, p, m, c, s):
     return model, store
 
 
-def run_day(build, build_ledger):
+def run_worked(build, build_ledger):
     for suite in (Cheap, Real):
         model, store = made(build, suite, 1, 4, 4, 4)
         ledger = build_ledger(1, 4, 4, 4)
@@ -301,7 +301,7 @@ def rows():
 def shared(build, build_ledger):
     """The examples that a wrong version of store or ledger is held against."""
     labels(build)
-    run_day(build, build_ledger)
+    run_worked(build, build_ledger)
 
 
 def all_examples():

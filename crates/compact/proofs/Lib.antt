@@ -1,6 +1,5 @@
 pub mod Logs
 pub mod Places
-pub mod Sealing
 pub mod Turns
 pub mod Running
 pub mod Verdicts

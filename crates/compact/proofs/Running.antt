@@ -24,7 +24,8 @@ use Rattle.store.specs.declared.Shape.{Shape}
 use Rattle.store.specs.declared.Checked.the-variants.{Fit}
 use Rattle.store.specs.Check.{checkedOf}
 use Rattle.store.proofs.Laws.{fit}
-use Rattle.store.proofs.Tables.{Laid, tableS, laid-rows, laid-fit}
+use Rattle.store.specs.Layout.{Laid}
+use Rattle.store.proofs.Tables.{tableS, laid-rows, laid-fit}
 use Rattle.compact.specs.declared.Tally.{Tally}
 use Rattle.compact.specs.declared.Treated.{Treated}
 use Rattle.compact.specs.declared.Treated.the-variants.{Damage, Skipped, Anchored as Written}

@@ -10,7 +10,8 @@ use Rattle.octets.proofs.Parts.{length-part}
 use Rattle.octets.specs.Part.{back}
 use Rattle.table.specs.Table.{Table, rows}
 use Rattle.scheme.specs.Store.{Store}
-use Rattle.store.proofs.Tables.{Laid, tableC, tableS, putIn, laid-long, laid-rows, laid-back}
+use Rattle.store.specs.Layout.{Laid, putIn}
+use Rattle.store.proofs.Tables.{tableC, tableS, laid-rows, laid-back}
 use Rattle.compact.specs.declared.Tally.{Tally}
 use Rattle.compact.specs.declared.Treated.{Treated}
 use Rattle.compact.specs.Log.{freeLogged}
@@ -47,7 +48,7 @@ module _ (m c s : ℕ) (b : List ℕ) (st : Store) (l : Laid m c s b st) (cl x n
         (subst (λ (k : Table). Treatment c x nonce k (rows 61 c ys) r) (laid-rows m c s b st l tableC) t)
 
     between : Laid m c s middle (putIn tableC (rows 61 c ys) st)
-    between = laid-back m c s b st l tableC ys (h ∙ laid-long m c s b st l tableC)
+    between = laid-back m c s b st l tableC ys h
 
     pub stepped-stop : stops r ≡ true → Stepped m c s cl nonce log st r middle
     stepped-stop e = record {
@@ -67,5 +68,5 @@ module _ (m c s : ℕ) (b : List ℕ) (st : Store) (l : Laid m c s b st) (cl x n
             tC′ = rows 61 c ys;
             treated = treated;
             laid = subst (λ (x : Table). Laid m c s after (withTables st (rows 61 c ys) x)) tS
-                (laid-back m c s middle (putIn tableC (rows 61 c ys) st) between tableS zs (k ∙ laid-long m c s middle (putIn tableC (rows 61 c ys) st) between tableS));
+                (laid-back m c s middle (putIn tableC (rows 61 c ys) st) between tableS zs k);
           }

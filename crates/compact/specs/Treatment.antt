@@ -10,7 +10,7 @@ use Rattle.scheme.specs.Reading.Reading.{counter, damage}
 use Rattle.scheme.specs.Compaction.{Anchored, heldPlaces}
 use Rattle.scheme.specs.Store.{Store}
 use Rattle.suite.specs.Program.{program}
-use Rattle.store.proofs.Tables.{Laid}
+use Rattle.store.specs.Layout.{Laid, putIn, tableC, tableS}
 use Rattle.counter.specs.declared.Counter.{Counter}
 use Rattle.compact.specs.declared.Tally.{Tally}
 use Rattle.compact.specs.declared.Treated.{Treated}
@@ -74,7 +74,7 @@ tallyAfter t r = record { anchors = t .anchors + anchorsIn r; counters = t .coun
 
 -- the store with other tables C and S
 abbrev pub withTables : Store → Table → Table → Store
-withTables st tC tS = record { header = st .header; tM = st .tM; tV = st .tV; tC = tC; tS = tS }
+withTables st tC tS = putIn tableS tS (putIn tableC tC st)
 
 -- one CL treated in the store st: its table C, and the bytes after it; all rows of the CL are freed unless damage stopped it [01:OP12 RS13]
 pub record Stepped (m c s : ℕ) (cl nonce : List ℕ) (log : List (List ℕ)) (st : Store) (r : Treated) (after : List ℕ) : Type 0 where

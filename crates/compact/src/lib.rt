@@ -2,19 +2,17 @@
 // 01, "Operations"). The store's tables C and S alone are changed.
 ghost use mathlib.Core.Path.{_≡_};
 ghost use mathlib.Core.Bool.{not};
-ghost use mathlib.Core.List.{[], _∷_, _++_};
+ghost use mathlib.Core.List.{[]};
 ghost use Prim.Native.Nat.{_+_, _*_, _/_, _≤_, _<_};
 ghost use lib.ListN.{length, getD, take};
-ghost use Rattle.chacha20.specs.Cipher.{E};
 ghost use Rattle.table.specs.Lists.{All};
 ghost use Rattle.table.specs.Table.{rows, isFree, body, used, freeAt};
-ghost use Rattle.scheme.specs.Suite.{number8};
-ghost use Rattle.scheme.specs.Store.{Store, cut, clIn, anchorRow};
+ghost use Rattle.scheme.specs.Store.{Store, cut, clIn};
 ghost use Rattle.scheme.specs.Reading.{limit};
 ghost use Rattle.scheme.specs.Compaction.{Anchored, Compacted, Compact};
 ghost use Rattle.suite.specs.Program.{program};
 ghost use Rattle.store.specs.Check.{checkedOf};
-ghost use Rattle.store.proofs.Tables.{Laid};
+ghost use Rattle.store.specs.Layout.{Laid};
 ghost use Rattle.counter.specs.Tags.{KeysOf};
 ghost use Rattle.counter.specs.Outcome.{placesNoted};
 ghost use Rattle.compact.specs.Log.{opened, logs, freeLogged};
@@ -26,6 +24,7 @@ use counter::Counter;
 use counter::Keys;
 use counter::Position;
 use counter::Reading;
+use counter::row;
 use store::Checked;
 use store::Shape;
 
@@ -141,50 +140,6 @@ fn free_places(t: &mut [u8], c: usize, places: &[u16], k: usize)
     }
 }
 
-// A row of C: mark, tag, nonce, and 16 bytes under a key. [01:ST9]
-fn sealed_row(tag: &[u8], key: &[u8], nonce: &[u8], plain: &[u8]) -> [u8; 61]
-    requires { ⌜ ((length (now tag) ≡ 32) × (length (now key) ≡ 32)) × ((length (now nonce) ≡ 12) × (length (now plain) ≡ 16)) ⌝ }
-    ensures { λ r. ⌜ r ≡ 1 ∷ now (tag .entry) ++ (now (nonce .entry) ++ E (now (key .entry)) (now (nonce .entry)) (now (plain .entry))) ⌝ }
-{
-    let mut text = [0u8; 16];
-    octets::copy(&mut text, plain);
-    chacha20::apply_short(key, nonce, &mut text);
-    let mut row = [1u8; 61];
-    octets::copy_at(&mut row, 1, tag);
-    octets::copy_at(&mut row, 33, nonce);
-    octets::copy_at(&mut row, 45, &text);
-    row
-}
-
-// The plaintext of a row of C: two numbers. [01:ST9]
-fn put_numbers(to: &mut [u8], a: u64, n: u64)
-    requires { ⌜ length (now to) ≡ 16 ⌝ }
-    ensures { λ _. ⌜ now (to .exit) ≡ number8 a ++ number8 n ⌝ }
-{
-    octets::put(&mut to[0..8], a);
-    octets::put(&mut to[8..16], n);
-}
-
-// The anchor row of a number, of CL, whose keys are given: position, then count. [01:ST11]
-fn anchor_row(
-    keys: Keys,
-    cl: &[u8; 32],
-    b: AnchorNumber,
-    nonce: &[u8],
-    a: Position,
-    count: u64,
-) -> [u8; 61]
-    requires { ⌜ KeysOf keys (now cl) × (length (now nonce) ≡ 12) ⌝ }
-    ensures { λ r. ⌜ r ≡ anchorRow program (now (cl .entry)) (b .0) (now (nonce .entry)) (a .0) count ⌝ }
-{
-    let ct = keys.ct;
-    let ce = keys.ce;
-    let tag = counter::anchor_tag(ct, b);
-    let mut plain = [0u8; 16];
-    put_numbers(&mut plain, a.0, count);
-    sealed_row(&tag, &ce, nonce, &plain)
-}
-
 // What the next anchor says.
 struct NextAnchor {
     number: AnchorNumber,
@@ -220,7 +175,7 @@ fn anchor(
 {
     free_places(t, c, places, z.k as usize);
     let next = next_anchor(z);
-    let row = anchor_row(keys, cl, next.number, nonce, next.position, next.count);
+    let row = row::anchor_row(keys, cl, next.number, nonce, next.position, next.count);
     table::put_row(t, 61, c, places[0] as usize, &row);
 }
 

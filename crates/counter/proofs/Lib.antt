@@ -2,3 +2,4 @@ pub mod Tags
 pub mod Walks
 pub mod Readings
 pub mod Shares
+pub mod Sealing

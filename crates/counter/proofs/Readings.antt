@@ -11,7 +11,6 @@ use lib.Dec.{ltb, eqb, lit≤}
 use lib.ListN.{length, getD, take, drop, length-drop}
 use lib.Seq.{take-all, drop-drop}
 use Rattle.octets.specs.Number.{number}
-use Rattle.chacha20.specs.Cipher.{E}
 use Rattle.table.specs.Table.{Table, rows, body, lookup, placeOf}
 use Rattle.table.proofs.Counting.{neither}
 use Rattle.table.proofs.Rows.{place-held}
@@ -26,7 +25,7 @@ use Rattle.suite.specs.Program.{program}
 use Rattle.counter.specs.declared.Keys.{Keys}
 use Rattle.counter.specs.Tags.{KeysOf}
 use Rattle.counter.specs.Walks.{counterTags, anchorTags, heldIn, lastPlace, placesOf, noted}
-use Rattle.counter.specs.Outcome.{numbersIn, numbersOr, anchorBad, counterBad, placesNoted}
+use Rattle.counter.specs.Outcome.{textIn, numbersIn, numbersOr, anchorBad, counterBad, placesNoted}
 use Rattle.counter.proofs.Tags.{counter-tags, anchor-tags}
 use Rattle.counter.proofs.Walks.{walk-held, walk-le}
 
@@ -47,7 +46,7 @@ module _ (c i : ℕ) (t : List ℕ) (h : i < c) where
       ∙ sym (field-at 61 c i 45 16 t h (lit≤ tt)) ∙ take-all 16 (drop 45 row) (omega (arith, length-drop 45 row)) ∙ sym (drop-drop 44 1 row)
 
 -- the two numbers of the plaintext
-pub numbers-are : (ce b plain : List ℕ) (a n : ℕ) → length plain ≡ 16 → plain ≡ E ce (take 12 (drop 32 b)) (drop 44 b)
+pub numbers-are : (ce b plain : List ℕ) (a n : ℕ) → length plain ≡ 16 → plain ≡ textIn ce b
     → a ≡ number (take 8 plain) → n ≡ number (take 8 (drop 8 plain)) → _≡_ {A = Numbers} (record { a = a; n = n }) (numbersIn ce b)
 unfolding numbersIn valueOf
 numbers-are ce b plain a n l e p q =
@@ -56,7 +55,7 @@ numbers-are ce b plain a n l e p q =
     λ j. record { a = x j; n = y j }
 
 numbers-in : (cl b : List ℕ) → numbersIn (CE program cl) b ≡ numbersAt program cl (some b)
-unfolding numbersIn numbersAt plainIn program
+unfolding numbersIn textIn numbersAt plainIn program
 numbers-in cl b = refl
 
 -- the numbers in the last row that a walk held

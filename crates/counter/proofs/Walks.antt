@@ -9,7 +9,7 @@ use native.Mathlib.Omega.{arith}
 use borrow.Author.Tests.{lt-ltb, le-ltb}
 use lib.ListN.{length, length-append, length-drop, getD, drop, set}
 use lib.Seq.{drop-cons, set-at}
-use Rattle.table.specs.Table.{Table, holds, placeOf}
+use Rattle.table.specs.Table.{Table, placeOf}
 use Rattle.table.proofs.Walk.{place-holds}
 use Rattle.scheme.specs.Reading.{walk}
 use Rattle.counter.specs.Walks.{heldIn, lastPlace, placesOf, noted}

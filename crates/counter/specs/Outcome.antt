@@ -24,10 +24,7 @@ textIn key b = E key (take 12 (drop 32 b)) (drop 44 b)
 
 -- the numbers in a row of C without its mark, under CE [01:ST9]
 unfoldable pub numbersIn : List ℕ → List ℕ → SchemeNumbers
-numbersIn ce b = record {
-  a = valueOf (take 8 (E ce (take 12 (drop 32 b)) (drop 44 b)));
-  n = valueOf (drop 8 (E ce (take 12 (drop 32 b)) (drop 44 b)));
-}
+numbersIn ce b = record { a = valueOf (take 8 (textIn ce b)); n = valueOf (drop 8 (textIn ce b)) }
 
 -- the numbers in the row at a place; others past the end
 unfoldable pub numbersOr : List ℕ → Table → ℕ → SchemeNumbers → SchemeNumbers

@@ -8,9 +8,12 @@ ghost use Rattle.table.specs.Table.{rows, body};
 ghost use Rattle.scheme.specs.Suite.{number8};
 ghost use Rattle.scheme.specs.Reading.{limit, walk, reading};
 ghost use Rattle.suite.specs.Program.{program};
-ghost use Rattle.counter.specs.Tags.{tagBy, entryTagBy, counterTagBy, anchorTagBy, shareBy, KeysOf};
+ghost use Rattle.counter.specs.Tags.{entryTagBy, counterTagBy, anchorTagBy, shareBy, KeysOf};
 ghost use Rattle.counter.specs.Walks.{counterTags, anchorTags, heldIn, lastPlace, noted};
 ghost use Rattle.counter.specs.Outcome.{textIn, numbersIn, numbersOr, numbersOf, anchorBad, counterBad, readingOf, placesNoted, shareRead};
+
+pub mod row;
+
 use hmac::Keyed;
 
 // Entry address: the number in the tag of an M row. [01:ST17 FM10]
@@ -117,13 +120,7 @@ fn numbers_at(t: &[u8], c: usize, i: usize, ce: &[u8; 32]) -> Numbers
     requires { ⌜ (i < c) × (length (now t) ≡ 61 * c) ⌝ }
     ensures { λ r. ⌜ numbersOf r ≡ numbersIn (now (ce .entry)) (body (getD (rows 61 c (now (t .entry))) i [])) ⌝ }
 {
-    let at = 61 * i;
-    let nonce = at + 33;
-    let text = at + 45;
-    let e = at + 61;
-    let mut plain = [0u8; 16];
-    octets::copy(&mut plain, &t[text..e]);
-    chacha20::apply_short(ce, &t[nonce..text], &mut plain);
+    let plain = text_at(t, c, i, ce);
     Numbers {
         a: octets::get(&plain[0..8]),
         n: octets::get(&plain[8..16]),
@@ -206,7 +203,7 @@ fn counters_held(t: &[u8], c: usize, ct: Keyed, start: Position, places: &mut [u
 }
 
 // The greatest number of an anchor, and the greatest count. [01:RS6]
-const GREATEST: u64 = 4_294_967_295;
+pub const GREATEST: u64 = 4_294_967_295;
 
 // A number of anchor B is above the greatest. [01:RS6]
 fn anchor_damaged(x: Numbers) -> bool
@@ -267,13 +264,21 @@ pub fn read_by(t: &[u8], c: usize, cl: &[u8; 32], keys: Keys, places: &mut [u16]
     })
 }
 
+// Reads the counter of CL, whose keys are given; the places that the reading notes aren't needed.
+pub fn read_keyed(t: &[u8], c: usize, cl: &[u8; 32], keys: Keys) -> Reading
+    requires { ⌜ (length (now t) ≡ 61 * c) × ((c ≤ 4096) × KeysOf keys (now cl)) ⌝ }
+    ensures { λ r. ⌜ readingOf r ≡ reading program c (now (cl .entry)) (rows 61 c (now (t .entry))) ⌝ }
+{
+    let mut places = [0u16; 4096];
+    read_by(t, c, cl, keys, &mut places)
+}
+
 // Reads the counter of CL out of the part that holds table C.
 pub fn read(t: &[u8], c: usize, cl: &[u8; 32]) -> Reading
     requires { ⌜ (length (now t) ≡ 61 * c) × (c ≤ 4096) ⌝ }
     ensures { λ r. ⌜ readingOf r ≡ reading program c (now (cl .entry)) (rows 61 c (now (t .entry))) ⌝ }
 {
-    let mut places = [0u16; 4096];
-    read_by(t, c, cl, keys_of(cl), &mut places)
+    read_keyed(t, c, cl, keys_of(cl))
 }
 
 // Reads the counter of share u, whose CL comes from the prepared F(KC, x).

@@ -1,6 +1,6 @@
 -- V row by row: the rows gone through are freed where they are the id's, and what is left of V decides what is still to be freed in M.
 use Prim.Native.Nat.{ℕ, suc, _+_, _*_, _-_, _≤_, _<_}
-use mathlib.Core.Path.{_≡_, refl, sym, ap, ap₂, subst, _∙_}
+use mathlib.Core.Path.{_≡_, refl, sym, ap, ap₂, _∙_}
 use mathlib.Core.Bool.{Bool, true, false, cond, not, _&&_, _||_}
 use mathlib.Core.List.{List, [], _∷_, map}
 use native.Mathlib.Numerals.{add-one}
@@ -23,7 +23,8 @@ use Rattle.store.specs.declared.Shape.{Shape}
 use Rattle.store.specs.declared.Checked.the-variants.{Fit, Refused}
 use Rattle.store.specs.Check.{checkedOf}
 use Rattle.store.proofs.Laws.{unfit, fit-verdict}
-use Rattle.store.proofs.Tables.{Laid, tableM, tableV, laid-rows, laid-back, laid-row}
+use Rattle.store.specs.Layout.{Laid, putIn}
+use Rattle.store.proofs.Tables.{tableM, tableV, laid-rows, laid-back, laid-row}
 
 module _ (before id : List ℕ) where
   -- whether an M row has a tag of the id's rows in a part of V
@@ -46,7 +47,7 @@ module _ (before id : List ℕ) where
 
   -- the store with other tables M and V
   abbrev with : Table → Table → Store
-  with tM tV = record { header = cut before .header; tM = tM; tV = tV; tC = cut before .tC; tS = cut before .tS }
+  with tM tV = putIn tableV tV (putIn tableM tM (cut before))
 
   -- i rows of V gone through, k of them freed, and the bytes b
   pub record Erasing (m c s i k : ℕ) (b : List ℕ) : Type 0 where
@@ -107,7 +108,8 @@ module _ (before id : List ℕ) where
           ap₂ (λ (k : ℕ) (l : List ℕ). take k l) n (sym (drop-drop 17 at b)) ∙ sym (drop-take 17 (at + 49 - at) (drop at b)) ∙ ap (drop 17) (row ∙ at₀) ∙ sym (drop-drop 16 1 (getD v₀ i []))
 
       -- the id's row: its tag's rows of M are freed, then it is freed
-      pub erasing-hit : (tag ysM ysV : List ℕ) → tag ≡ take (8 + 61 * m + 49 * i + 49 - (8 + 61 * m + 49 * i + 17)) (drop (8 + 61 * m + 49 * i + 17) b) → length ysM ≡ 61 * m → length ysV ≡ 49 * m
+      pub erasing-hit : (tag ysM ysV : List ℕ) → tag ≡ take (8 + 61 * m + 49 * i + 49 - (8 + 61 * m + 49 * i + 17)) (drop (8 + 61 * m + 49 * i + 17) b)
+          → length ysM ≡ length (take (8 + 61 * m - 8) (drop 8 b)) → length ysV ≡ length (take (8 + 110 * m - (8 + 61 * m)) (drop (8 + 61 * m) (back b 8 (8 + 61 * m) ysM)))
           → rows 61 m ysM ≡ freeWhere 61 (λ x. same (take 32 x) tag) (rows 61 m (take (8 + 61 * m - 8) (drop 8 b)))
           → rows 49 m ysV ≡ set (rows 49 m (take (8 + 110 * m - (8 + 61 * m)) (drop (8 + 61 * m) (back b 8 (8 + 61 * m) ysM)))) i (zeroRow 49)
           → hit ≡ true → Erasing m c s (i + 1) (k + 1) (back (back b 8 (8 + 61 * m) ysM) (8 + 61 * m) (8 + 110 * m) ysV)

@@ -1,59 +1,24 @@
--- Rows put together piece by piece behind their mark, as the scheme's; rows made one after the other.
+-- The rows of M and V under a prepared MT are the scheme's; rows made one after the other.
 use Prim.Native.Nat.{ℕ, zero, suc, _+_, _-_, _*_, _≤_, _<_}
 use mathlib.Core.Path.{_≡_, refl, sym, ap, ap₂, _∙_}
-use mathlib.Core.List.{List, [], _∷_, _++_, append-nil}
+use mathlib.Core.List.{List, [], _∷_, _++_}
 use native.Mathlib.Nat.{not-suc-le-zero, le-of-suc-le-suc, add-sub-cancel-left}
 use native.Mathlib.Numerals.{add-one}
 use native.Mathlib.Omega.{arith}
-use lib.ListN.{length, getD, take, drop, set, drop-of-length-le}
+use lib.ListN.{length, getD, take, drop, set}
 use lib.Seq.{take-all, take-suc, take-suc-set, drop-drop}
-use Rattle.octets.specs.Number.{bytes}
-use Rattle.octets.specs.Part.{back, written}
-use Rattle.octets.proofs.Parts.{length-part, three-written, halves}
+use Rattle.octets.proofs.Parts.{length-part}
 use Rattle.hmac.specs.declared.Keyed.{Keyed}
 use Rattle.chacha20.specs.Cipher.{E}
 use Rattle.table.specs.Table.{Row, Table, rows}
 use Rattle.table.proofs.Rows.{rows-length}
 use Rattle.table.proofs.Walk.{row-part}
-use Rattle.scheme.specs.Suite.{number8}
-use Rattle.scheme.specs.Store.{entryRow, reverseRow, countedRow, counterRow}
+use Rattle.scheme.specs.Store.{entryRow, reverseRow}
 use Rattle.scheme.specs.Insert.{entryRows, reverseRows}
 use Rattle.suite.specs.Program.{program}
 use Rattle.counter.specs.declared.Address.{Address}
-use Rattle.counter.specs.declared.Position.{Position}
-use Rattle.counter.specs.declared.Keys.{Keys}
-use Rattle.counter.specs.Tags.{entryTagBy, counterTagBy, Prepared, KeysOf}
-use Rattle.counter.proofs.Tags.{entry-tag-is, counter-tag-is}
-
--- writing behind the first byte
-behind : (x : ℕ) (to ys : List ℕ) (k : ℕ) → written (x ∷ to) (suc k) ys ≡ x ∷ written to k ys
-behind x to ys k =
-    let e : suc k + length ys - suc k ≡ k + length ys - k = omega arith in
-    ap (λ (j : ℕ). x ∷ take k to ++ (ys ++ drop j (drop k to))) e
-
-module _ (x : ℕ) (to : List ℕ) where
-  pub marked-one : (a p : List ℕ) → length to ≡ length a → p ≡ written (x ∷ to) 1 a → p ≡ x ∷ a
-  marked-one a p h e =
-      let k : 0 + length a - 0 ≡ length a = omega arith in
-      e ∙ behind x to a 0
-      ∙ ap (λ (l : List ℕ). x ∷ a ++ l) (ap (λ (j : ℕ). drop j to) k ∙ drop-of-length-le to {i = length a} (omega arith))
-      ∙ ap (λ (l : List ℕ). x ∷ l) (append-nil a)
-
-  pub marked-two : (a b p q : List ℕ) (i : ℕ) → length a ≡ i → length to ≡ i + length b
-      → p ≡ written (x ∷ to) 1 a → q ≡ written p (suc i) b → q ≡ x ∷ a ++ b
-  marked-two a b p q i f h d e =
-      let k : 0 + length a ≡ i = omega arith in
-      e ∙ ap (λ (l : List ℕ). written l (suc i) b) (d ∙ behind x to a 0 ∙ ap (λ (j : ℕ). x ∷ back to 0 j a) k) ∙ behind x (back to 0 i a) b i
-      ∙ ap (λ (l : List ℕ). x ∷ l) (halves to a b i (i + length b) h f)
-
-  pub marked-three : (a b c p q r : List ℕ) (i j : ℕ) → length a ≡ i → length a + length b ≡ j → length to ≡ length a + (length b + length c)
-      → p ≡ written (x ∷ to) 1 a → q ≡ written p (suc i) b → r ≡ written q (suc j) c → r ≡ x ∷ a ++ (b ++ c)
-  marked-three a b c p q r i j f g h d e k =
-      let y : q ≡ x ∷ written (written to 0 a) i b = e ∙ ap (λ (l : List ℕ). written l (suc i) b) (d ∙ behind x to a 0) ∙ behind x (written to 0 a) b i in
-      k ∙ ap (λ (l : List ℕ). written l (suc j) c) y ∙ behind x (written (written to 0 a) i b) c j
-      ∙ ap (λ (l : List ℕ). x ∷ l)
-      (three-written to a b c (written to 0 a) (written (written to 0 a) i b) (written (written (written to 0 a) i b) j c) h refl
-      (ap (λ (n : ℕ). written (written to 0 a) n b) (sym f)) (ap (λ (n : ℕ). written (written (written to 0 a) i b) n c) (sym g)))
+use Rattle.counter.specs.Tags.{entryTagBy, Prepared}
+use Rattle.counter.proofs.Tags.{entry-tag-is}
 
 -- ---- the scheme's rows
 
@@ -65,19 +30,6 @@ module _ (k : Keyed) (mt : List ℕ) (a : Address) (p : Prepared k mt) (tag : Li
   pub reverse-row-is : (id : List ℕ) (row : Row) → row ≡ 1 ∷ id ++ tag → row ≡ reverseRow program mt (a .0) id
   unfolding reverseRow
   reverse-row-is id row f = f ∙ ap (λ (l : List ℕ). 1 ∷ id ++ l) (e ∙ entry-tag-is k mt a p)
-
--- number 0, then the count
-pub plain-is : (count : ℕ) (l : List ℕ) → l ≡ bytes 8 count → 0 ∷ 0 ∷ 0 ∷ 0 ∷ 0 ∷ 0 ∷ 0 ∷ 0 ∷ l ++ [] ≡ number8 0 ++ number8 count
-unfolding number8 bytes
-plain-is count l e = ap (λ (x : List ℕ). 0 ∷ 0 ∷ 0 ∷ 0 ∷ 0 ∷ 0 ∷ 0 ∷ 0 ∷ x) (append-nil l ∙ e)
-
-pub counter-row-is : (keys : Keys) (cl : List ℕ) (a : Position) (nonce : List ℕ) (count : ℕ) (tag plain : List ℕ) (row : Row) → KeysOf keys cl → tag ≡ counterTagBy (keys .ct) a
-    → plain ≡ number8 0 ++ number8 count → row ≡ 1 ∷ tag ++ (nonce ++ E (keys .ce) nonce plain) → row ≡ counterRow program cl (a .0) nonce count
-unfolding counterRow countedRow program
-counter-row-is keys cl a nonce count tag plain row p e f g =
-    g
-    ∙ ap₂ (λ (x y : List ℕ). 1 ∷ x ++ (nonce ++ y)) (e ∙ counter-tag-is (keys .ct) cl a (p .ct))
-    (ap₂ (λ (x y : List ℕ). E x nonce y) (p .ce) f)
 
 -- ---- rows made one after the other
 

@@ -1,8 +1,9 @@
 -- The four tables lent one after the other: each comes back with its rows placed, and the store is laid out as before.
-use Prim.Native.Nat.{ℕ, _-_, _≤_}
-use mathlib.Core.Path.{_≡_, sym, ap, subst, _∙_}
+use Prim.Native.Nat.{ℕ, _-_, _*_, _≤_}
+use mathlib.Core.Path.{_≡_, subst}
 use mathlib.Core.List.{List, [], _∷_}
 use native.Mathlib.Omega.{arith}
+use lib.Dec.{lit≤}
 use lib.ListN.{length, take, drop}
 use lib.Seq.{take-all}
 use Rattle.octets.specs.Part.{back}
@@ -10,41 +11,53 @@ use Rattle.table.specs.Table.{Row, Table, rows, freeRows, Placed, PlacedAll}
 use Rattle.table.proofs.Placing.{placed-only}
 use Rattle.scheme.specs.Store.{Store, cut}
 use Rattle.scheme.specs.Insert.{insertedStore}
-use Rattle.store.specs.declared.Free.{Free}
 use Rattle.store.specs.declared.Shape.{Shape}
-use Rattle.store.specs.declared.Checked.the-variants.{Fit}
-use Rattle.store.specs.Check.{checkedOf}
-use Rattle.store.proofs.Laws.{fit}
-use Rattle.store.proofs.Tables.{Which, tableM, tableV, tableC, tableS, widthOf, rowsOf, startOf, endOf, tableIn, putIn, Laid, laid-long, laid-rows, laid-back}
+use Rattle.store.specs.Layout.{Which, tableM, tableV, tableC, tableS, widthOf, rowsOf, startOf, endOf, tableIn, putIn, Laid}
+use Rattle.store.proofs.Tables.{laid-long, laid-rows, laid-back, laid-placed}
 use Rattle.insert.specs.Writing.{Written}
 
-abbrev pub freeIn : Which → Free → ℕ
-freeIn tableM f = f .m
-freeIn tableV f = f .v
-freeIn tableC f = f .c
-freeIn tableS f = f .s
+some-width : (k : Which) → 1 ≤ widthOf k
+some-width tableM = lit≤ tt
+some-width tableV = lit≤ tt
+some-width tableC = lit≤ tt
+some-width tableS = lit≤ tt
 
--- what the check told of the free rows
-pub free-rows : (b : List ℕ) (z : Shape) → checkedOf b ≡ Fit z → (k : Which) → freeRows (tableIn k (cut b)) ≡ freeIn k (z .free)
-free-rows b z e tableM = sym (ap (λ (z : Shape). z .free .m) (fit b z e .shape))
-free-rows b z e tableV = sym (ap (λ (z : Shape). z .free .v) (fit b z e .shape))
-free-rows b z e tableC = sym (ap (λ (z : Shape). z .free .c) (fit b z e .shape))
-free-rows b z e tableS = sym (ap (λ (z : Shape). z .free .s) (fit b z e .shape))
+-- the bytes of a store with these sizes
+pub record LaidStore (z : Shape) : Type 0 where
+  pub bytes : List ℕ
+  pub store : Store
+  pub laid : Laid (z .m) (z .c) (z .s) bytes store
 
-module _ (m c s : ℕ) (b : List ℕ) (st : Store) (l : Laid m c s b st) (k : Which) where
-  -- there is room in the lent part
-  pub part-room : (n : ℕ) → n ≤ freeRows (tableIn k st) → n ≤ freeRows (rows (widthOf k) (rowsOf m c s k) (take (endOf m c s k - startOf m c s k) (drop (startOf m c s k) b)))
-  part-room n h = rw (laid-rows m c s b st l k) h
+module _ (z : Shape) (g : LaidStore z) (k : Which) where
+  abbrev start : ℕ
+  start = startOf (z .m) (z .c) (z .s) k
 
-  module _ (ys : List ℕ) where
-    pub part-placed : (new : List Row)
-        → PlacedAll (rows (widthOf k) (rowsOf m c s k) (take (endOf m c s k - startOf m c s k) (drop (startOf m c s k) b))) new (rows (widthOf k) (rowsOf m c s k) ys)
-        → PlacedAll (tableIn k st) new (rows (widthOf k) (rowsOf m c s k) ys)
-    part-placed new p = subst (λ (t : Table). PlacedAll t new (rows (widthOf k) (rowsOf m c s k) ys)) (laid-rows m c s b st l k) p
+  abbrev end : ℕ
+  end = endOf (z .m) (z .c) (z .s) k
 
-    pub part-back : length ys ≡ length (take (endOf m c s k - startOf m c s k) (drop (startOf m c s k) b))
-        → Laid m c s (back b (startOf m c s k) (endOf m c s k) ys) (putIn k (rows (widthOf k) (rowsOf m c s k) ys) st)
-    part-back h = laid-back m c s b st l k ys (h ∙ laid-long m c s b st l k)
+  abbrev number : ℕ
+  number = rowsOf (z .m) (z .c) (z .s) k
+
+  -- the part that is lent
+  abbrev part : List ℕ
+  part = take (end - start) (drop start (g .bytes))
+
+  -- it came back
+  abbrev pub put : (ys : List ℕ) → length ys ≡ length part → LaidStore z
+  put ys h = record {
+    bytes = back (g .bytes) start end ys;
+    store = putIn k (rows (widthOf k) number ys) (g .store);
+    laid = laid-back (z .m) (z .c) (z .s) (g .bytes) (g .store) (g .laid) k ys h;
+  }
+
+  -- there is room in it
+  pub may-put : (new : List ℕ) (n : ℕ) → length new ≡ widthOf k * n → n ≤ freeRows (tableIn k (g .store))
+      → (1 ≤ widthOf k) × ((length part ≡ widthOf k * number) × ((length new ≡ widthOf k * n) × (n ≤ freeRows (rows (widthOf k) number part))))
+  may-put new n e h =
+      (some-width k, (laid-long (z .m) (z .c) (z .s) (g .bytes) (g .store) (g .laid) k, (e, rw (laid-rows (z .m) (z .c) (z .s) (g .bytes) (g .store) (g .laid) k) h)))
+
+  pub put-placed : (new : List Row) (ys : List ℕ) → PlacedAll (rows (widthOf k) number part) new (rows (widthOf k) number ys) → PlacedAll (tableIn k (g .store)) new (rows (widthOf k) number ys)
+  put-placed = laid-placed (z .m) (z .c) (z .s) (g .bytes) (g .store) (g .laid) k
 
 -- one row as a list of rows
 only : (w : ℕ) (t : Table) (row : Row) (t′ : Table) → length row ≡ w → PlacedAll t (rows w 1 row) t′ → Placed t row t′

@@ -6,12 +6,11 @@ ghost use mathlib.Core.List.{_∷_, _++_};
 ghost use Prim.Native.Nat.{_*_, _/_, _%_, _≤_};
 ghost use lib.Dec.{eqb, ltb};
 ghost use lib.ListN.{length, replicate};
-ghost use Rattle.chacha20.specs.Cipher.{E};
 ghost use Rattle.table.specs.Table.{rows};
 ghost use Rattle.answer.specs.Answer.{counted};
 ghost use Rattle.answer.specs.Verdict.{verdict};
-ghost use Rattle.scheme.specs.Store.{entryRow, reverseRow, counterRow, logRow};
-ghost use Rattle.scheme.specs.Reading.{limit, reading};
+ghost use Rattle.scheme.specs.Store.{entryRow, reverseRow, logRow};
+ghost use Rattle.scheme.specs.Reading.{limit};
 ghost use Rattle.scheme.specs.Refusals.{idCount, idsIn, insertInputTests, tokenTests};
 ghost use Rattle.scheme.specs.Keys.{tokenMT, tokenME, tokenCL, tokenLog};
 ghost use Rattle.scheme.specs.Insert.{entryRows, reverseRows, insertReading, Insert};
@@ -25,9 +24,11 @@ use answer::Counted;
 use answer::Refusal;
 use counter::Address;
 use counter::Counter;
+use counter::GREATEST;
 use counter::Keys;
 use counter::Position;
 use counter::Reading;
+use counter::row;
 use hmac::Keyed;
 use store::Checked;
 use store::Free;
@@ -76,9 +77,6 @@ fn crowded(free: Free, n: usize) -> bool
     if free.m < n { true } else { free.v < n }
 }
 
-// The greatest count. [01:RS7]
-const GREATEST: u64 = 4_294_967_295;
-
 // 14 to 17, for a new count and the number of ids. [01:RS7 RS8 RS9 RS10]
 fn room(free: Free, count: u64, n: usize) -> Tested
     ensures { λ r. ⌜ testedOf r ≡ verdict (roomTests free count n) ⌝ }
@@ -96,21 +94,6 @@ fn room(free: Free, count: u64, n: usize) -> Tested
         return Tested::Refused(Refusal::LogRows);
     }
     Tested::Passed
-}
-
-// A row of M or of C: mark, tag, nonce, and 16 bytes under a key. [01:ST6 ST9]
-fn sealed_row(tag: &[u8], key: &[u8], nonce: &[u8], plain: &[u8]) -> [u8; 61]
-    requires { ⌜ ((length (now tag) ≡ 32) × (length (now key) ≡ 32)) × ((length (now nonce) ≡ 12) × (length (now plain) ≡ 16)) ⌝ }
-    ensures { λ r. ⌜ r ≡ 1 ∷ now (tag .entry) ++ (now (nonce .entry) ++ E (now (key .entry)) (now (nonce .entry)) (now (plain .entry))) ⌝ }
-{
-    let mut text = [0u8; 16];
-    octets::copy(&mut text, plain);
-    chacha20::apply_short(key, nonce, &mut text);
-    let mut row = [1u8; 61];
-    octets::copy_at(&mut row, 1, tag);
-    octets::copy_at(&mut row, 33, nonce);
-    octets::copy_at(&mut row, 45, &text);
-    row
 }
 
 // A row of V: mark, id, and the M row's tag. [01:ST8]
@@ -134,19 +117,6 @@ fn log_row(log: &[u8]) -> [u8; 45]
     row
 }
 
-// The counter row of CL, whose keys are given, at a position: number 0, then the count. [01:ST10]
-fn counter_row(keys: Keys, cl: &[u8; 32], a: Position, nonce: &[u8], count: u64) -> [u8; 61]
-    requires { ⌜ KeysOf keys (now cl) × (length (now nonce) ≡ 12) ⌝ }
-    ensures { λ r. ⌜ r ≡ counterRow program (now (cl .entry)) (a .0) (now (nonce .entry)) count ⌝ }
-{
-    let ct = keys.ct;
-    let ce = keys.ce;
-    let tag = counter::counter_tag(ct, a);
-    let mut plain = [0u8; 16];
-    octets::put(&mut plain[8..16], count);
-    sealed_row(&tag, &ce, nonce, &plain)
-}
-
 // The rows of M and of V for one id.
 struct IdRows {
     entry: [u8; 61],
@@ -160,7 +130,7 @@ fn rows_for(k: Keyed, mt: &[u8], me: &[u8], a: Address, nonce: &[u8], id: &[u8])
     ensures { λ r. ⌜ r .reverse ≡ reverseRow program (now (mt .entry)) (a .0) (now (id .entry)) ⌝ }
 {
     let tag = counter::entry_tag(k, a);
-    let entry = sealed_row(&tag, me, nonce, id);
+    let entry = row::sealed_row(&tag, me, nonce, id);
     let reverse = reverse_row(id, &tag);
     IdRows { entry, reverse }
 }
@@ -303,27 +273,11 @@ fn insert_read(
         Tested::Passed => {
             let e = 12 * n;
             let start = x.start;
-            let row = counter_row(keys, cl, Position(start.0 + x.k + 1), &nonces[e..], count);
+            let row = row::counter_row(keys, cl, Position(start.0 + x.k + 1), &nonces[e..], count);
             write(store, z, x.count, ids, nonces, token, &row);
             Counted::Number(count)
         }
     }
-}
-
-// A byte as a wider number.
-fn wide(x: u8) -> u64
-    ensures { λ r. ⌜ r ≡ x ⌝ }
-{
-    x as u64
-}
-
-// Reads the counter of CL, whose keys are given; the places that the reading notes aren't needed.
-fn read_counter(t: &[u8], c: usize, cl: &[u8; 32], keys: Keys) -> Reading
-    requires { ⌜ (length (now t) ≡ 61 * c) × ((c ≤ 4096) × KeysOf keys (now cl)) ⌝ }
-    ensures { λ r. ⌜ readingOf r ≡ reading program c (now (cl .entry)) (rows 61 c (now (t .entry))) ⌝ }
-{
-    let mut places = [0u16; 4096];
-    counter::read_by(t, c, cl, keys, &mut places)
 }
 
 // An insert into a store that passed the checks: 12, then the counter is read, or 13.
@@ -333,7 +287,7 @@ fn insert_checked(store: &mut [u8], z: Shape, ids: &[u8], nonces: &[u8], token: 
     ensures { λ r. ⌜ Insert program (now (store .entry)) (now (ids .entry)) (now (nonces .entry)) (now (token .entry)) (counted r) (now (store .exit)) ⌝ }
 {
     let p = z.p;
-    if wide(token[0]) != p {
+    if octets::wide(token[0]) != p {
         return Counted::Refused(Refusal::TokenShares);
     }
     let m = z.m;
@@ -343,7 +297,7 @@ fn insert_checked(store: &mut [u8], z: Shape, ids: &[u8], nonces: &[u8], token: 
     let mut cl = [0u8; 32];
     octets::copy(&mut cl, &token[65..97]);
     let keys = counter::keys_of(&cl);
-    let Reading::Counter(x) = read_counter(&store[a..b], c, &cl, keys) else {
+    let Reading::Counter(x) = counter::read_keyed(&store[a..b], c, &cl, keys) else {
         return Counted::Refused(Refusal::Damage);
     };
     insert_read(store, z, x, keys, &cl, ids, nonces, token)

@@ -5,7 +5,7 @@ use Prim.Native.Nat.{ℕ, zero, suc, _+_, _-_, _*_, _/_, _%_, _^_, _<_, _≤_}
 use native.Mathlib.Omega.{arith}
 use native.Mathlib.Nat.{pow-suc, one-le-pow, mod-one, mod-eq-of-lt, not-suc-le-zero, lt-of-lt-of-le, mul-add}
 use native.Mathlib.Numerals.{add-one}
-use lib.ListN.{length, length-append, length-set, take, drop, set, getD, drop-of-length-le}
+use lib.ListN.{length, length-append, length-set, drop, set, getD, drop-of-length-le}
 use lib.Seq.{drop-cons, drop-length, getD-set-same, drop-set-lt}
 use lib.Arith.{mod-mul, digits-lt}
 use lib.Pow.{pow-add, pow-mono}

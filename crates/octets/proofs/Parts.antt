@@ -1,7 +1,7 @@
 -- Laws of copying in place, and of a part that was lent and has come back (specs/Part): what stands before, in and after it.
 use mathlib.Core.Path.{_≡_, refl, sym, ap, ap₂, _∙_}
 use mathlib.Core.List.{List, [], _∷_, _++_, map, map-append, append-assoc, append-nil}
-use Prim.Native.Nat.{ℕ, zero, suc, _+_, _-_, _<_, _≤_}
+use Prim.Native.Nat.{ℕ, suc, _+_, _-_, _<_, _≤_}
 use native.Mathlib.Omega.{arith}
 use native.Mathlib.Numerals.{add-one}
 use lib.ListN.{length, length-append, length-take, length-drop, length-map, drop-of-length-le, take, drop, set, getD, take-append-drop}
@@ -137,3 +137,23 @@ halves to x y a e h k =
     ∙ ap (λ (l : List ℕ). (x ++ y) ++ l)
     (drop-of-length-le (drop (a - 0) to) {i = e - a} (omega (arith, length-drop (a - 0) to)))
     ∙ append-nil (x ++ y)
+
+-- ---- pieces written behind a mark, one after the other
+
+module _ (x : ℕ) (to : List ℕ) where
+  pub marked-one : (a p : List ℕ) → length to ≡ length a → p ≡ written (x ∷ to) 1 a → p ≡ x ∷ a
+  marked-one a p h e =
+      e ∙ written-next (x ∷ []) to a 1 refl ∙ ap (λ (l : List ℕ). x ∷ a ++ l) (drop-of-length-le to {i = length a} (omega arith)) ∙ append-nil (x ∷ a)
+
+  pub marked-two : (a b p q : List ℕ) (i : ℕ) → length a ≡ i → length to ≡ i + length b
+      → p ≡ written (x ∷ to) 1 a → q ≡ written p (suc i) b → q ≡ x ∷ a ++ b
+  marked-two a b p q i f h d e =
+      let k : suc i ≡ 1 + length a = omega arith in
+      marked-one (a ++ b) q (omega (arith, length-append a b)) (e ∙ ap₂ (λ (l : List ℕ) (j : ℕ). written l j b) d k ∙ written-more (x ∷ to) a b 1 (omega arith))
+
+  pub marked-three : (a b c p q r : List ℕ) (i j : ℕ) → length a ≡ i → i + length b ≡ j → length to ≡ j + length c
+      → p ≡ written (x ∷ to) 1 a → q ≡ written p (suc i) b → r ≡ written q (suc j) c → r ≡ x ∷ a ++ (b ++ c)
+  marked-three a b c p q r i j f g h d e k =
+      let n : suc i ≡ 1 + length a = omega arith in
+      marked-two (a ++ b) c q r j (omega (arith, length-append a b)) h (e ∙ ap₂ (λ (l : List ℕ) (j : ℕ). written l j b) d n ∙ written-more (x ∷ to) a b 1 (omega arith)) k
+      ∙ ap (λ (l : List ℕ). x ∷ l) (append-assoc a b c)

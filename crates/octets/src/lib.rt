@@ -1,7 +1,6 @@
 // Bytes: compare, copy, zero, and numbers big-endian (document 01, "Keyed function and cipher":
 // a number inside a message or plaintext is 8 bytes, big-endian; "Store": the header's are 2).
 ghost use mathlib.Core.Path.{_≡_};
-ghost use mathlib.Core.List.{_++_};
 ghost use Prim.Native.Nat.{_≤_, _<_, _+_};
 ghost use lib.ListN.{length, replicate};
 ghost use Rattle.octets.specs.Compare.{same as sameBytes};
@@ -22,7 +21,7 @@ pub fn put(to: &mut [u8], x: u64)
 }
 
 // A byte as a wider number.
-fn wide(x: u8) -> u64
+pub fn wide(x: u8) -> u64
     ensures { λ r. ⌜ (r ≡ x) × (r < 256) ⌝ }
 {
     x as u64

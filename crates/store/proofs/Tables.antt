@@ -1,5 +1,5 @@
--- The tables as parts of the store. `Laid m c s b st` says that the bytes b are the store st with these sizes; a lent part that
--- came back leaves it so, with that table replaced, whichever table it was.
+-- The tables as parts of a store that is laid out (specs/Layout): a lent part that came back leaves it laid out, with that
+-- table replaced, whichever table it was.
 use Prim.Native.Nat.{ℕ, _+_, _*_, _-_, _≤_, _<_}
 use mathlib.Core.Path.{_≡_, refl, sym, ap, ap₂, subst, _∙_}
 use mathlib.Core.List.{List, [], _++_, append-assoc, append-nil}
@@ -9,70 +9,18 @@ use lib.ListN.{length, getD, take, drop, length-append, length-drop, take-append
 use lib.Seq.{take-at, drop-at, drop-drop, length-take-le}
 use Rattle.octets.specs.Part.{back}
 use Rattle.octets.proofs.Parts.{back-next}
-use Rattle.table.specs.Lists.{flat, All}
-use Rattle.table.specs.Table.{Table, rows}
+use Rattle.table.specs.Lists.{flat}
+use Rattle.table.specs.Table.{Row, Table, rows, freeRows, PlacedAll}
 use Rattle.table.proofs.Rows.{flat-length, rows-flat, rows-length, rows-wide}
 use Rattle.table.proofs.Walk.{flat-rows, rows-take, row-at}
 use Rattle.scheme.specs.Store.{Store, sizesOf, cut, joined}
+use Rattle.store.specs.declared.Free.{Free}
 use Rattle.store.specs.declared.Shape.{Shape}
 use Rattle.store.specs.declared.Checked.the-variants.{Fit}
 use Rattle.store.specs.Check.{checkedOf}
+use Rattle.store.specs.Layout.{Which, widthOf, rowsOf, startOf, endOf, tableIn, putIn, Wide, Laid}
+pub use Rattle.store.specs.Layout.{tableM, tableV, tableC, tableS}
 use Rattle.store.proofs.Laws.{GoodHeader, good-header, fit}
-
--- a table of the store
-pub data Which : Type 0 where
-  tableM : Which
-  tableV : Which
-  tableC : Which
-  tableS : Which
-
-abbrev pub widthOf : Which → ℕ
-widthOf tableM = 61
-widthOf tableV = 49
-widthOf tableC = 61
-widthOf tableS = 45
-
--- how many rows a table has, and where it starts and ends, in a store with these m, c, s [01:ST3]
-abbrev pub rowsOf : ℕ → ℕ → ℕ → Which → ℕ
-rowsOf m c s tableM = m
-rowsOf m c s tableV = m
-rowsOf m c s tableC = c
-rowsOf m c s tableS = s
-
-abbrev pub startOf : ℕ → ℕ → ℕ → Which → ℕ
-startOf m c s tableM = 8
-startOf m c s tableV = 8 + 61 * m
-startOf m c s tableC = 8 + 110 * m
-startOf m c s tableS = 8 + 110 * m + 61 * c
-
-abbrev pub endOf : ℕ → ℕ → ℕ → Which → ℕ
-endOf m c s tableM = 8 + 61 * m
-endOf m c s tableV = 8 + 110 * m
-endOf m c s tableC = 8 + 110 * m + 61 * c
-endOf m c s tableS = 8 + 110 * m + 61 * c + 45 * s
-
-abbrev pub tableIn : Which → Store → Table
-tableIn tableM st = st .tM
-tableIn tableV st = st .tV
-tableIn tableC st = st .tC
-tableIn tableS st = st .tS
-
-abbrev pub putIn : Which → Table → Store → Store
-putIn tableM t st = record { header = st .header; tM = t; tV = st .tV; tC = st .tC; tS = st .tS }
-putIn tableV t st = record { header = st .header; tM = st .tM; tV = t; tC = st .tC; tS = st .tS }
-putIn tableC t st = record { header = st .header; tM = st .tM; tV = st .tV; tC = t; tS = st .tS }
-putIn tableS t st = record { header = st .header; tM = st .tM; tV = st .tV; tC = st .tC; tS = t }
-
--- n rows of w bytes
-pub record Wide (w n : ℕ) (t : Table) : Type 0 where
-  pub number : length t ≡ n
-  pub widths : All (λ r. length r ≡ w) t
-
--- the bytes b are the store st, with these sizes
-pub record Laid (m c s : ℕ) (b : List ℕ) (st : Store) : Type 0 where
-  pub bytes : b ≡ joined st
-  pub head : length (st .header) ≡ 8
-  pub wide : (k : Which) → Wide (widthOf k) (rowsOf m c s k) (tableIn k st)
 
 wide-flat : (w n : ℕ) (t : Table) → Wide w n t → length (flat t) ≡ w * n
 wide-flat w n t a = flat-length w t (a .widths) ∙ ap (λ (k : ℕ). w * k) (a .number)
@@ -148,6 +96,12 @@ module _ (m c s : ℕ) (b : List ℕ) (st : Store) (l : Laid m c s b st) where
   pub laid-rows : (k : Which) → rows (widthOf k) (rowsOf m c s k) (take (endOf m c s k - startOf m c s k) (drop (startOf m c s k) b)) ≡ tableIn k st
   laid-rows k = ap (rows (widthOf k) (rowsOf m c s k)) (laid-part k) ∙ wide-rows (widthOf k) (rowsOf m c s k) (tableIn k st) (l .wide k)
 
+  -- what was placed in the lent part is placed in the table
+  pub laid-placed : (k : Which) (new : List Row) (ys : List ℕ)
+      → PlacedAll (rows (widthOf k) (rowsOf m c s k) (take (endOf m c s k - startOf m c s k) (drop (startOf m c s k) b))) new (rows (widthOf k) (rowsOf m c s k) ys)
+      → PlacedAll (tableIn k st) new (rows (widthOf k) (rowsOf m c s k) ys)
+  laid-placed k new ys p = subst (λ (t : Table). PlacedAll t new (rows (widthOf k) (rowsOf m c s k) ys)) (laid-rows k) p
+
   -- a row of a table stands so many bytes behind the table's start
   pub laid-row : (k : Which) (i : ℕ) → i < rowsOf m c s k
       → take (startOf m c s k + widthOf k * i + widthOf k - (startOf m c s k + widthOf k * i)) (drop (startOf m c s k + widthOf k * i) b) ≡ getD (tableIn k st) i []
@@ -159,7 +113,10 @@ module _ (m c s : ℕ) (b : List ℕ) (st : Store) (l : Laid m c s b st) where
       ∙ ap (λ (t : Table). getD t i []) (sym (rows-take w n (endOf m c s k - a) (drop a b) (omega (arith, part-long m c s k))) ∙ laid-rows k)
 
   -- the part came back as ys
-  module _ (k : Which) (ys : List ℕ) (h : length ys ≡ widthOf k * rowsOf m c s k) where
+  module _ (k : Which) (ys : List ℕ) (e : length ys ≡ length (take (endOf m c s k - startOf m c s k) (drop (startOf m c s k) b))) where
+    h : length ys ≡ widthOf k * rowsOf m c s k
+    h = e ∙ laid-long k
+
     back-bytes : back b (startOf m c s k) (endOf m c s k) ys ≡ joined (putIn k (rows (widthOf k) (rowsOf m c s k) ys) st)
     back-bytes =
         let a = around k in
@@ -173,9 +130,9 @@ module _ (m c s : ℕ) (b : List ℕ) (st : Store) (l : Laid m c s b st) where
         ∙ sym (a .filled (rows (widthOf k) (rowsOf m c s k) ys))
 
     new : Wide (widthOf k) (rowsOf m c s k) (rows (widthOf k) (rowsOf m c s k) ys)
-    new = rows-are-wide (widthOf k) (rowsOf m c s k) ys (omega arith)
+    new = rows-are-wide (widthOf k) (rowsOf m c s k) ys (omega (arith, h))
 
-  pub laid-back : (k : Which) (ys : List ℕ) → length ys ≡ widthOf k * rowsOf m c s k
+  pub laid-back : (k : Which) (ys : List ℕ) → length ys ≡ length (take (endOf m c s k - startOf m c s k) (drop (startOf m c s k) b))
       → Laid m c s (back b (startOf m c s k) (endOf m c s k) ys) (putIn k (rows (widthOf k) (rowsOf m c s k) ys) st)
   laid-back k ys h = record { bytes = back-bytes k ys h; head = headed k; wide = others k (new k ys h) }
     where
@@ -252,3 +209,16 @@ pub laid-fit : (b : List ℕ) (z : Shape) → checkedOf b ≡ Fit z → Laid (z 
 laid-fit b z e =
     let f = fit b z e in
     subst (λ (z : Shape). Laid (z .m) (z .c) (z .s) b (cut b)) (sym (f .shape)) (laid-cut b (good-header b (f .header)))
+
+-- how many rows of a table the check found free
+abbrev pub freeIn : Which → Free → ℕ
+freeIn tableM f = f .m
+freeIn tableV f = f .v
+freeIn tableC f = f .c
+freeIn tableS f = f .s
+
+pub free-rows : (b : List ℕ) (z : Shape) → checkedOf b ≡ Fit z → (k : Which) → freeRows (tableIn k (cut b)) ≡ freeIn k (z .free)
+free-rows b z e tableM = sym (ap (λ (z : Shape). z .free .m) (fit b z e .shape))
+free-rows b z e tableV = sym (ap (λ (z : Shape). z .free .v) (fit b z e .shape))
+free-rows b z e tableC = sym (ap (λ (z : Shape). z .free .c) (fit b z e .shape))
+free-rows b z e tableS = sym (ap (λ (z : Shape). z .free .s) (fit b z e .shape))

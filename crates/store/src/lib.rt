@@ -1,6 +1,6 @@
 // The store, one lent slice: making it, the checks 10 and 11 of every operation, and where its tables
 // stand (document 01, "Store"). A table is handed on as `&mut store[a..e]`: M from 8, V from 8 + 61 m,
-// C from 8 + 110 m, S from 8 + 110 m + 61 c; the laws of these parts are in proofs/Tables.antt.
+// C from 8 + 110 m, S from 8 + 110 m + 61 c; specs/Layout.antt says so, with laws in proofs/Tables.antt.
 ghost use mathlib.Core.Path.{_≡_};
 ghost use mathlib.Core.Bool.{false, _||_};
 ghost use Prim.Native.Nat.{_+_, _*_, _<_, _≤_};
@@ -113,19 +113,12 @@ pub fn make(p: u64, m: u64, c: u64, s: u64, slice: &mut [u8]) -> Completion
     Completion::Done
 }
 
-// A byte as a wider number.
-fn wide(x: u8) -> u64
-    ensures { λ r. ⌜ (r ≡ x) × (r < 256) ⌝ }
-{
-    x as u64
-}
-
 // The number of two bytes, big-endian, at a place of the header.
 fn number(store: &[u8], at: usize) -> u64
     requires { ⌜ (at < 8) × (at + 1 < length (now store)) ⌝ }
     ensures { λ r. ⌜ (r ≡ 256 * getD (now (store .entry)) at 0 + getD (now (store .entry)) (at + 1) 0) × (r ≤ 65535) ⌝ }
 {
-    256 * wide(store[at]) + wide(store[at + 1])
+    256 * octets::wide(store[at]) + octets::wide(store[at + 1])
 }
 
 // The condition of 10. [01:RS2]
@@ -142,7 +135,7 @@ fn bad_header(store: &[u8]) -> bool
     any(
         false,
         store[0] != 1,
-        bad_sizes(wide(store[1]), m, c, s),
+        bad_sizes(octets::wide(store[1]), m, c, s),
         n as u64 != length_for(m, c, s),
     )
 }
@@ -178,7 +171,7 @@ pub fn sizes(store: &[u8]) -> Checked
     if bad_header(store) {
         return Checked::Refused(Refusal::Header);
     }
-    let p = wide(store[1]);
+    let p = octets::wide(store[1]);
     let m = number(store, 2) as usize;
     let c = number(store, 4) as usize;
     let s = number(store, 6) as usize;

@@ -24,9 +24,6 @@ free-places-requires c κs =
 next-anchor-requires : tie.Need-next-anchor-requires
 next-anchor-requires c κs = let s = c .before .before .before .before .before .before .before in omega (arith, bounds s, s .pre .0 .1)
 
-cast-put-row : tie.Need-cast-put-row
-cast-put-row c = omega (arith, c .shared-slice-known3 .given 0)
-
 put-row-requires : tie.Need-put-row-requires
 put-row-requires c κs =
     let s = c .before .before .before .before .before .before .before .before .before .before .before .before in
@@ -49,4 +46,5 @@ returns c =
 pub anchor-spec : {M : Type 1} → statement M
 anchor-spec =
     tie.close
-    (tie.spec free-places-requires next-anchor-requires (λ c κs. search needs) (λ c. search needs) cast-put-row (λ c. search needs) put-row-requires (λ c. search needs) returns)
+    (tie.spec free-places-requires next-anchor-requires (λ c κs. search needs) (λ c. search needs)
+    (λ c. omega (arith, c .shared-slice-known3 .given 0)) (λ c. search needs) put-row-requires (λ c. search needs) returns)

@@ -48,9 +48,6 @@ loop-again c =
           (ap (λ (b : Bool). cond b (zeroRow 45) r) (sym test ∙ w .0 .left)) (ap (rows 45 (a .s)) (w .1)),
     )) (c .if1 .came)
 
-same-length : tie.Need-same-length Inv-loop μ-loop
-same-length c = c .before .loop .inv .1
-
 returns : tie.Need-returns Inv-loop μ-loop
 returns c =
     let l = c .before .loop in
@@ -61,4 +58,5 @@ returns c =
 pub free-log-spec : {M : Type 1} → statement M
 free-log-spec =
     tie.close
-    (tie.spec Inv-loop μ-loop loop-holds (λ c κs. search needs) (λ c κs. search needs) (λ c. search needs) (λ c. search needs) loop-again same-length returns)
+    (tie.spec Inv-loop μ-loop loop-holds (λ c κs. search needs) (λ c κs. search needs) (λ c. search needs) (λ c. search needs) loop-again
+    (λ c. c .before .loop .inv .1) returns)

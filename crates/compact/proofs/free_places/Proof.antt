@@ -39,9 +39,6 @@ loop-again c =
       free-turn 61 (a .places .now) (a .k) (l .j) (b .pre .1 .0) (rows 61 (a .c) (l .t)) _ (r .before .before .before .loop-test .taken) (r .clear-row .ensures) ∙ l .inv .2,
     )
 
-same-length : tie.Need-same-length Inv-loop μ-loop
-same-length c = c .before .loop .inv .1
-
 returns : tie.Need-returns Inv-loop μ-loop
 returns c =
     let l = c .before .loop in
@@ -52,4 +49,5 @@ returns c =
 pub free-places-spec : {M : Type 1} → statement M
 free-places-spec =
     tie.close
-    (tie.spec Inv-loop μ-loop loop-holds (λ c. search needs) (λ c. search needs) cast-clear-row clear-row-requires (λ c. search needs) (λ c. search needs) loop-again same-length returns)
+    (tie.spec Inv-loop μ-loop loop-holds (λ c. search needs) (λ c. search needs) cast-clear-row clear-row-requires (λ c. search needs)
+    (λ c. search needs) loop-again (λ c. c .before .loop .inv .1) returns)

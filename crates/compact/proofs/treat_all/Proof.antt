@@ -150,36 +150,18 @@ returns-2 c =
 pub treat-all-spec : {M : Type 1} → statement M
 treat-all-spec =
     tie.close
-    (tie.spec Inv-loop μ-loop
+    (tie.spec Inv-loop μ-loop (λ c. omega (arith, sized (c .before .before .before .before .before)))
     (λ c. omega (arith, sized (c .before .before .before .before .before)))
-    (λ c. omega (arith, sized (c .before .before .before .before .before)))
     (λ c. omega (arith, sized (c .before .before .before .before .before .before)))
     (λ c. omega (arith, sized (c .before .before .before .before .before .before)))
     (λ c. omega (arith, sized (c .before .before .before .before .before .before)))
-    (λ c. omega (arith, sized (c .before .before .before .before .before .before)))
-    (λ c. search needs)
-    (λ c. search needs)
-    (λ c. omega (arith, sized (c .before .before .before .before .before .before .before)))
-    (λ c κs. search needs)
-    loop-holds
-    (λ c. search needs)
-    (λ c. search needs)
-    (λ c. omega (arith, sized (start (c .before .before)), c .before .before .loop .inv .1))
-    (λ c κs. search needs)
+    (λ c. omega (arith, sized (c .before .before .before .before .before .before))) (λ c. search needs) (λ c. search needs)
+    (λ c. omega (arith, sized (c .before .before .before .before .before .before .before))) (λ c κs. search needs) loop-holds (λ c. search needs)
+    (λ c. search needs) (λ c. omega (arith, sized (start (c .before .before)), c .before .before .loop .inv .1)) (λ c κs. search needs)
     (λ c. omega (arith, nonce c, start (c .before .before .before .before .before) .good))
-    (λ c. omega (arith, nonce c, start (c .before .before .before .before .before) .good))
-    (λ c. search needs)
-    (λ c. search needs)
-    (λ c. omega (arith, nonce (c .before .before)))
-    step-requires
-    (λ c κs. search needs)
+    (λ c. omega (arith, nonce c, start (c .before .before .before .before .before) .good)) (λ c. search needs) (λ c. search needs)
+    (λ c. omega (arith, nonce (c .before .before))) step-requires (λ c κs. search needs)
     (λ c. c .before .before .before .before .step .kept .0 ∙ c .before .before .before .before .before .before .before .before .before .before .before .before .before .loop .inv .1)
     (λ c. c .before .before .before .before .before .before .before .before .before .before .before .before .before .before .before .before .open-log .kept .1 .1 .1 .0)
-    returns
-    added-requires
-    (λ c. search needs)
-    (λ c. search needs)
-    loop-again
-    (λ c. c .before .loop .inv .1)
-    (λ c. c .before .before .before .before .open-log .kept .1 .1 .1 .0)
-    returns-2)
+    returns added-requires (λ c. search needs) (λ c. search needs) loop-again (λ c. c .before .loop .inv .1)
+    (λ c. c .before .before .before .before .open-log .kept .1 .1 .1 .0) returns-2)

@@ -47,21 +47,7 @@ returns-3 c =
 pub count-spec : {M : Type 1} → statement M
 count-spec =
     tie.close
-    (tie.spec
-    returns
-    (λ c κs. search needs)
-    (λ c. search needs)
-    (λ c. search needs)
-    (λ c. omega (arith, sized (c .before)))
-    (λ c. omega (arith, sized (c .before)))
-    (λ c. omega (arith, sized (c .before .before)))
-    (λ c. omega (arith, sized (c .before .before)))
-    (λ c. omega (arith, sized (c .before .before .before)))
-    (λ c. omega (arith, sized (c .before .before .before)))
-    (λ c κs. search needs)
-    (λ c. search needs)
-    (λ c. search needs)
-    (λ c. omega (arith, sized (c .before .before .before .before)))
-    sum-of-counts-requires
-    returns-2
-    returns-3)
+    (tie.spec returns (λ c κs. search needs) (λ c. search needs) (λ c. search needs) (λ c. omega (arith, sized (c .before)))
+    (λ c. omega (arith, sized (c .before))) (λ c. omega (arith, sized (c .before .before))) (λ c. omega (arith, sized (c .before .before)))
+    (λ c. omega (arith, sized (c .before .before .before))) (λ c. omega (arith, sized (c .before .before .before))) (λ c κs. search needs)
+    (λ c. search needs) (λ c. search needs) (λ c. omega (arith, sized (c .before .before .before .before))) sum-of-counts-requires returns-2 returns-3)

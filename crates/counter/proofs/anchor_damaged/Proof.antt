@@ -2,7 +2,6 @@
 use native.Mathlib.Omega.{arith}
 use borrow.Author.Tests.{lt-ltb, le-ltb}
 use Rattle.scheme.specs.Reading.{limit}
-use borrow.Author.Needs.{needs}
 use Rattle.counter.proofs.anchor_damaged.Statement.{statement}
 use Rattle.counter.proofs.anchor_damaged.Tie as tie
 

@@ -3,7 +3,6 @@ use Prim.Native.Nat.{ℕ, _+_}
 use mathlib.Core.Path.{_≡_, sym, ap, _∙_}
 use mathlib.Core.List.{List}
 use native.Mathlib.Omega.{arith}
-use lib.ListN.{length}
 use Rattle.table.specs.Table.{rows, placeOf}
 use Rattle.table.proofs.Rows.{rows-length}
 use Rattle.counter.specs.Walks.{anchorTags}

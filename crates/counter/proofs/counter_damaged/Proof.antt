@@ -1,6 +1,5 @@
 -- The first number decides, or the second.
 use borrow.Author.Tests.{eq-eqb, ne-eqb}
-use borrow.Author.Needs.{needs}
 use Rattle.counter.proofs.counter_damaged.Statement.{statement}
 use Rattle.counter.proofs.counter_damaged.Tie as tie
 

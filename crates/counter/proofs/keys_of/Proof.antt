@@ -1,7 +1,5 @@
 -- CL is prepared once: F of it gives CT and CE.
-use mathlib.Core.Path.{_≡_, ap, ap₂, _∙_}
-use Prim.Native.Nat.{ℕ}
-use mathlib.Core.List.{List}
+use mathlib.Core.Path.{_≡_, ap, _∙_}
 use Rattle.hmac.specs.Hmac.{F, Inner, Outer}
 use Rattle.scheme.specs.Suite.{number8}
 use Rattle.scheme.specs.Keys.{CT, CE}

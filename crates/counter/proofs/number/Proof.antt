@@ -1,5 +1,4 @@
 -- The slice lent is the whole array.
-use mathlib.Core.Path.{_≡_}
 use Rattle.scheme.specs.Suite.{number8}
 use borrow.Author.Needs.{needs}
 use Rattle.counter.proofs.number.Statement.{statement}

@@ -38,15 +38,5 @@ returns-3 c =
 pub erase-spec : {M : Type 1} → statement M
 erase-spec =
     tie.close
-    (tie.spec
-    returns
-    (λ c. search needs)
-    (λ c κs. search needs)
-    (λ c κs. search needs)
-    (λ c. search needs)
-    (λ c. search needs)
-    erase-rows-requires
-    (λ c. search needs)
-    returns-2
-    (λ c. search needs)
-    returns-3)
+    (tie.spec returns (λ c. search needs) (λ c κs. search needs) (λ c κs. search needs) (λ c. search needs) (λ c. search needs) erase-rows-requires
+    (λ c. search needs) returns-2 (λ c. search needs) returns-3)

@@ -11,7 +11,8 @@ use Rattle.octets.proofs.Parts.{length-part, length-back}
 use Rattle.table.specs.Lists.{same}
 use Rattle.table.specs.Table.{rows, isFree, body, freeWhere}
 use Rattle.scheme.specs.Store.{cut}
-use Rattle.store.proofs.Tables.{Laid, laid-fit, tableV}
+use Rattle.store.specs.Layout.{Laid}
+use Rattle.store.proofs.Tables.{laid-fit, tableV}
 use Rattle.erase.proofs.Laws.{Erasing, erasing-none, erasing-hit, erasing-miss, erasing-all}
 use borrow.Author.Needs.{needs}
 use Rattle.erase.proofs.erase_rows.Statement.{statement}
@@ -53,7 +54,7 @@ loop-again c =
       omega (arith, w .16),
       λ x y d. subst₂ (λ (k : ℕ) (b : List ℕ). Erasing b₀ id m x y (l .i + 1) k b) (sym (w .16)) (sym (w .15))
           (erasing-hit b₀ id m x y (l .i) (l .freed) (l .store) (l .inv .3 x y d) h (d .wide tableV .number) (c .before .starts .result) test tag ysM ysV
-          (w .4 .ensures) (omega arith) (omega arith) (w .8 .ensures .1 ∙ ap (λ (n : ℕ). freeWhere 61 (λ x. same (take n x) tag) (rows 61 m (take (8 + 61 * m - 8) (drop 8 (l .store))))) (w .4 .kept .0)) (w .12 .ensures) (w .0 .taken)),
+          (w .4 .ensures) (w .8 .kept .0) (w .12 .kept .0) (w .8 .ensures .1 ∙ ap (λ (n : ℕ). freeWhere 61 (λ x. same (take n x) tag) (rows 61 m (take (8 + 61 * m - 8) (drop 8 (l .store))))) (w .4 .kept .0)) (w .12 .ensures) (w .0 .taken)),
     )) (λ w. (
       ap length (w .1) ∙ l .inv .0,
       omega arith,
@@ -73,39 +74,8 @@ returns c =
 pub erase-rows-spec : {M : Type 1} → statement M
 erase-rows-spec =
     tie.close
-    (tie.spec
-    Inv-loop
-    μ-loop
-    (λ c. search needs)
-    (λ c. search needs)
-    (λ c. search needs)
-    (λ c. search needs)
-    loop-holds
-    (λ c. search needs)
-    (λ c. search needs)
-    (λ c. search needs)
-    (λ c. search needs)
-    (λ c. search needs)
-    (λ c. search needs)
-    (λ c κs. search needs)
-    (λ c. search needs)
-    (λ c. search needs)
-    (λ c. search needs)
-    (λ c. search needs)
-    (λ c. search needs)
-    (λ c κs. search needs)
-    (λ c. search needs)
-    (λ c. search needs)
-    (λ c. search needs)
-    (λ c. search needs)
-    (λ c κs. search needs)
-    (λ c. search needs)
-    (λ c. search needs)
-    (λ c. search needs)
-    (λ c κs. search needs)
-    (λ c. search needs)
-    (λ c. search needs)
-    (λ c. search needs)
-    loop-again
-    (λ c. search needs)
-    returns)
+    (tie.spec Inv-loop μ-loop (λ c. search needs) (λ c. search needs) (λ c. search needs) (λ c. search needs) loop-holds (λ c. search needs)
+    (λ c. search needs) (λ c. search needs) (λ c. search needs) (λ c. search needs) (λ c. search needs) (λ c κs. search needs) (λ c. search needs)
+    (λ c. search needs) (λ c. search needs) (λ c. search needs) (λ c. search needs) (λ c κs. search needs) (λ c. search needs) (λ c. search needs)
+    (λ c. search needs) (λ c. search needs) (λ c κs. search needs) (λ c. search needs) (λ c. search needs) (λ c. search needs) (λ c κs. search needs)
+    (λ c. search needs) (λ c. search needs) (λ c. search needs) loop-again (λ c. search needs) returns)

@@ -25,11 +25,8 @@ returns-2 c =
     let r = c .before .r2 .given in
     refused-store (a .store .now) (a .ids .now) (a .nonces .now) (a .token .now) (accepted (c .before .before .before .before .before)) (r .0 .0) (sym (r .1) ∙ c .before .before .before .sizes .ensures)
 
-returns-3 : tie.Need-returns-3
-returns-3 c = c .before .before .insert-checked .ensures
-
 pub insert-spec : {M : Type 1} → statement M
 insert-spec =
     tie.close
     (tie.spec (λ c κs. search needs) (λ c. search needs) (λ c. search needs) (λ c κs. search needs) (λ c. search needs) (λ c. search needs)
-    insert-checked-requires returns (λ c. search needs) returns-2 (λ c. search needs) returns-3)
+    insert-checked-requires returns (λ c. search needs) returns-2 (λ c. search needs) (λ c. c .before .before .insert-checked .ensures))

@@ -25,16 +25,16 @@ sized s = fit-length (s .args .store .now) (s .args .z) (s .pre .1)
 -- the token's p, and its CL
 shares : (c : tie.Else1) → tokenP (c .before .before .before .before .before .before .before .args .token .now) ≡ c .before .before .before .before .before .before .before .args .z .p
 unfolding tokenP
-shares c = sym (c .before .wide .ensures) ∙ c .if1 .left
+shares c = sym (c .before .wide .ensures .0) ∙ c .if1 .left
 
 label-key : (c : tie.After-copy) → c .copy .last .0 ≡ tokenCL (c .before .before .before .before .before .before .before .before .before .before .args .token .now)
 unfolding tokenCL
 label-key c = c .copy .ensures
 
-reading : (c : tie.After-read-counter) → readingOf (c .read-counter .result) ≡ insertReading program (c .before .before .before .before .before .before .before .before .before .before .before .before .before .before .before .before .before .args .store .now) (c .before .before .before .before .before .before .before .before .before .before .before .before .before .before .before .before .before .args .token .now)
+reading : (c : tie.After-read-keyed) → readingOf (c .read-keyed .result) ≡ insertReading program (c .before .before .before .before .before .before .before .before .before .before .before .before .before .before .before .before .before .args .store .now) (c .before .before .before .before .before .before .before .before .before .before .before .before .before .before .before .before .before .args .token .now)
 reading c =
     let s = c .before .before .before .before .before .before .before .before .before .before .before .before .before .before .before .before .before in
-    c .read-counter .ensures ∙ reading-is (s .args .store .now) (s .args .token .now) (s .args .z) (s .pre .1) (c .before .before .before .before .before .before .before .copy .last .0) (label-key (c .before .before .before .before .before .before .before))
+    c .read-keyed .ensures ∙ reading-is (s .args .store .now) (s .args .token .now) (s .args .z) (s .pre .1) (c .before .before .before .before .before .before .before .copy .last .0) (label-key (c .before .before .before .before .before .before .before))
 
 shared-slice-read-wide : tie.Need-shared-slice-read-wide
 shared-slice-read-wide c = omega (arith, long (c .before .before .before .before .before) .token-bytes)
@@ -44,7 +44,7 @@ unfolding tokenP
 returns c =
     let s = c .before .before .before .before .before .before .before in
     let a = s .args in
-    refused-shares (a .store .now) (a .ids .now) (a .nonces .now) (a .token .now) (s .pre .0) (a .z) (s .pre .1) (λ e. c .if1 .taken (c .before .wide .ensures ∙ e))
+    refused-shares (a .store .now) (a .ids .now) (a .nonces .now) (a .token .now) (s .pre .0) (a .z) (s .pre .1) (λ e. c .if1 .taken (c .before .wide .ensures .0 ∙ e))
 
 mul-a : tie.Need-mul-a
 mul-a c = omega (arith, sized (c .before .before .before .before .before .before .before) .range)
@@ -66,11 +66,11 @@ copy-requires c κs =
     let s = c .before .before .before .before .before .before .before .before .before in
     length-take-le 32 (drop 65 (s .args .token .now)) (omega (arith, length-drop 65 (s .args .token .now), long s .token-bytes))
 
-part-read-counter-end : tie.Need-part-read-counter-end
-part-read-counter-end c = omega (arith, sized (c .before .before .before .before .before .before .before .before .before .before .before .before .before .before) .whole)
+part-read-keyed-end : tie.Need-part-read-keyed-end
+part-read-keyed-end c = omega (arith, sized (c .before .before .before .before .before .before .before .before .before .before .before .before .before .before) .whole)
 
-read-counter-requires : tie.Need-read-counter-requires
-read-counter-requires c κs =
+read-keyed-requires : tie.Need-read-keyed-requires
+read-keyed-requires c κs =
     let s = c .before .before .before .before .before .before .before .before .before .before .before .before .before .before .before .before in
     let z = s .args .z in
     let b = s .args .store .now in
@@ -90,13 +90,10 @@ insert-read-requires c κs =
       (sym (ap readingOf (c .before .before .before .x .given .1)) ∙ reading (c .before .before .before .before .before), (c .before .before .before .before .before .before .before .before .before .keys-of .ensures, label-key (c .before .before .before .before .before .before .before .before .before .before .before .before))),
     )
 
-returns-3 : tie.Need-returns-3
-returns-3 c = c .before .before .insert-read .ensures
-
 pub insert-checked-spec : {M : Type 1} → statement M
 insert-checked-spec =
     tie.close
-    (tie.spec shared-slice-read-wide (λ c κs. search needs) returns mul-a add-a mul-b add-b
-    (λ c. search needs) (λ c. search needs) (λ c. search needs) part-copy-end copy-requires (λ c κs. search needs)
-    (λ c. search needs) (λ c. search needs) part-read-counter-end read-counter-requires
-    (λ c. search needs) (λ c. search needs) (λ c. search needs) returns-2 insert-read-requires (λ c. search needs) returns-3)
+    (tie.spec shared-slice-read-wide (λ c κs. search needs) returns mul-a add-a mul-b add-b (λ c. search needs) (λ c. search needs)
+    (λ c. search needs) part-copy-end copy-requires (λ c κs. search needs) (λ c. search needs) (λ c. search needs) part-read-keyed-end
+    read-keyed-requires (λ c. search needs) (λ c. search needs) (λ c. search needs) returns-2 insert-read-requires (λ c. search needs)
+    (λ c. c .before .before .insert-read .ensures))

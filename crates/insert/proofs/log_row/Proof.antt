@@ -1,7 +1,7 @@
 -- The mark, then the bytes.
 use mathlib.Core.Path.{sym}
 use Rattle.scheme.specs.Store.{logRow}
-use Rattle.insert.proofs.Laws.{marked-one}
+use Rattle.octets.proofs.Parts.{marked-one}
 use borrow.Author.Needs.{needs}
 use Rattle.insert.proofs.log_row.Statement.{statement}
 use Rattle.insert.proofs.log_row.Tie as tie

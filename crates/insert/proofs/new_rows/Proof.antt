@@ -99,8 +99,7 @@ returns c =
 pub new-rows-spec : {M : Type 1} → statement M
 new-rows-spec =
     tie.close
-    (tie.spec Inv-loop μ-loop (λ c κs. search needs) loop-holds
-    (λ c. search needs) (λ c. search needs) (λ c. search needs) (λ c. search needs) (λ c. search needs) (λ c. search needs)
-    (λ c. search needs) (λ c. search needs) (λ c. search needs) (λ c. search needs) (λ c. search needs) (λ c. search needs)
-    rows-for-requires slice-aggregate-put-row put-row-requires slice-aggregate-put-row-2 put-row-requires-2
-    add-i loop-less loop-again (λ c. c .before .loop .inv .1) (λ c. c .before .loop .inv .2) returns)
+    (tie.spec Inv-loop μ-loop (λ c κs. search needs) loop-holds (λ c. search needs) (λ c. search needs) (λ c. search needs) (λ c. search needs)
+    (λ c. search needs) (λ c. search needs) (λ c. search needs) (λ c. search needs) (λ c. search needs) (λ c. search needs) (λ c. search needs)
+    (λ c. search needs) rows-for-requires slice-aggregate-put-row put-row-requires slice-aggregate-put-row-2 put-row-requires-2 add-i loop-less
+    loop-again (λ c. c .before .loop .inv .1) (λ c. c .before .loop .inv .2) returns)

@@ -1,6 +1,6 @@
 -- The mark, then the id and the tag.
 use native.Mathlib.Omega.{arith}
-use Rattle.insert.proofs.Laws.{marked-two}
+use Rattle.octets.proofs.Parts.{marked-two}
 use borrow.Author.Needs.{needs}
 use Rattle.insert.proofs.reverse_row.Statement.{statement}
 use Rattle.insert.proofs.reverse_row.Tie as tie
@@ -12,5 +12,4 @@ returns c =
     marked-two 1 _ (s .args .id .now) (s .args .tag .now) _ _ 16 (s .pre .0) (omega arith) (b .copy-at .ensures) (c .before .copy-at2 .ensures)
 
 pub reverse-row-spec : {M : Type 1} → statement M
-reverse-row-spec =
-    tie.close (tie.spec (λ c. search needs) (λ c κs. search needs) (λ c. search needs) (λ c κs. search needs) returns)
+reverse-row-spec = tie.close (tie.spec (λ c. search needs) (λ c κs. search needs) (λ c. search needs) (λ c κs. search needs) returns)

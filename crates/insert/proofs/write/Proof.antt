@@ -17,22 +17,10 @@ use Rattle.insert.proofs.write.Tie as tie
 short : (c : tie.After-shared-slice-known4) → length (c .before .before .before .before .before .args .ids .now) / 16 ≤ 64
 short c = c .before .before .before .before .before .pre .1 .0 .most
 
-mul-i : tie.Need-mul-i
-mul-i c = omega (arith, short c)
-
-mul-j : tie.Need-mul-j
-mul-j c = omega (arith, short c)
-
-array-borrow-prefix-entries : tie.Need-array-borrow-prefix-entries
-array-borrow-prefix-entries c = omega (arith, short (c .before .before .before .before))
-
 slice-aggregate-new-rows : tie.Need-slice-aggregate-new-rows
 slice-aggregate-new-rows c =
     let b = c .before .before .before .before .blank-entries in
     sym (length-take-le _ (b .result) (omega (arith, short (c .before .before .before .before .before), ap length (b .ensures) ∙ length-replicate {A = ℕ} 3904 0)))
-
-array-borrow-prefix-reverses : tie.Need-array-borrow-prefix-reverses
-array-borrow-prefix-reverses c = omega (arith, short (c .before .before .before .before .before))
 
 slice-aggregate-new-rows-2 : tie.Need-slice-aggregate-new-rows-2
 slice-aggregate-new-rows-2 c =
@@ -98,8 +86,9 @@ returns c =
 pub write-spec : {M : Type 1} → statement M
 write-spec =
     tie.close
-    (tie.spec mul-i mul-j (λ c κs. search needs) (λ c κs. search needs) (λ c. search needs) (λ c. search needs) (λ c. search needs) (λ c. search needs) (λ c. search needs) (λ c. search needs)
-    array-borrow-prefix-entries slice-aggregate-new-rows array-borrow-prefix-reverses slice-aggregate-new-rows-2 new-rows-requires
-    (λ c. search needs) (λ c. search needs) (λ c. search needs) log-row-requires
-    array-share-prefix-entries slice-aggregate-place array-share-prefix-reverses slice-aggregate-place-2 slice-aggregate-place-3 place-requires
-    (λ c. search needs) returns)
+    (tie.spec (λ c. omega (arith, short c)) (λ c. omega (arith, short c)) (λ c κs. search needs) (λ c κs. search needs) (λ c. search needs)
+    (λ c. search needs) (λ c. search needs) (λ c. search needs) (λ c. search needs) (λ c. search needs)
+    (λ c. omega (arith, short (c .before .before .before .before))) slice-aggregate-new-rows
+    (λ c. omega (arith, short (c .before .before .before .before .before))) slice-aggregate-new-rows-2 new-rows-requires (λ c. search needs)
+    (λ c. search needs) (λ c. search needs) log-row-requires array-share-prefix-entries slice-aggregate-place array-share-prefix-reverses
+    slice-aggregate-place-2 slice-aggregate-place-3 place-requires (λ c. search needs) returns)

@@ -7,9 +7,9 @@ use mathlib.Core.List.{append-nil}
 use mathlib.Core.List.{_++_}
 use borrow.Author.Fill.{fill-none, fill-more}
 use native.Mathlib.Omega.{arith}
-use lib.ListN.{length, take, drop, replicate, length-set}
+use lib.ListN.{length, drop, replicate, length-set}
 use Prim.Native.Nat.{_≤_, _-_}
-use mathlib.Core.Path.{_≡_, refl, sym, ap, _∙_}
+use mathlib.Core.Path.{_≡_, refl, ap, _∙_}
 use borrow.Author.Needs.{needs}
 use Rattle.octets.proofs.clear.Statement.{statement}
 use Rattle.octets.proofs.clear.Tie as tie

@@ -4,7 +4,7 @@ use Rattle.octets.proofs.Parts.{copy-byte}
 use native.Mathlib.Omega.{arith}
 use lib.ListN.{length, take, length-set}
 use Prim.Native.Nat.{_≤_, _-_}
-use mathlib.Core.Path.{_≡_, refl, sym, ap, _∙_}
+use mathlib.Core.Path.{_≡_, sym, _∙_}
 use borrow.Author.Needs.{needs}
 use Rattle.octets.proofs.copy.Statement.{statement}
 use Rattle.octets.proofs.copy.Tie as tie

@@ -5,7 +5,7 @@ use Rattle.octets.specs.Number.{continued}
 use native.Mathlib.Omega.{arith}
 use lib.ListN.{length, drop}
 use Prim.Native.Nat.{_≤_, _<_, _-_, _^_}
-use mathlib.Core.Path.{_≡_, refl, sym, ap, _∙_}
+use mathlib.Core.Path.{_≡_, _∙_}
 use borrow.Author.Needs.{needs}
 use Rattle.octets.proofs.get.Statement.{statement}
 use Rattle.octets.proofs.get.Tie as tie

@@ -15,26 +15,8 @@ read : (c : tie.After-number3) →
     record { p = c .before .before .before .wide .result; m = c .before .before .number .result; c = c .before .number2 .result; s = c .number3 .result } ≡ sizesOf (c .before .before .before .before .before .before .before .before .args .store .now)
 read c = sizes-read (c .before .before .before .before .before .before .before .before .args .store .now) _ _ _ _ (c .before .before .before .wide .ensures .0) (c .before .before .number .ensures .0) (c .before .number2 .ensures .0) (c .number3 .ensures .0)
 
-bad-header-requires : tie.Need-bad-header-requires
-bad-header-requires c κs = search needs
-
 returns : tie.Need-returns
 returns c = checked-header (c .before .before .before .args .store .now) (sym (c .before .bad-header .ensures) ∙ c .if1 .taken)
-
-shared-slice-read-wide : tie.Need-shared-slice-read-wide
-shared-slice-read-wide c = omega (arith, good (c .before) .long)
-
-wide-requires : tie.Need-wide-requires
-wide-requires c κs = search needs
-
-number-requires : tie.Need-number-requires
-number-requires c κs = omega (arith, good (c .before .before) .long)
-
-number-requires-2 : tie.Need-number-requires-2
-number-requires-2 c κs = omega (arith, good (c .before .before .before) .long)
-
-number-requires-3 : tie.Need-number-requires-3
-number-requires-3 c κs = omega (arith, good (c .before .before .before .before) .long)
 
 survey-requires : tie.Need-survey-requires
 survey-requires c κs =
@@ -50,14 +32,6 @@ returns-3 c = checked-fit (c .before .before .before .before .before .before .be
 pub sizes-spec : {M : Type 1} → statement M
 sizes-spec =
     tie.close
-    (tie.spec
-    bad-header-requires
-    returns
-    shared-slice-read-wide
-    wide-requires
-    number-requires
-    number-requires-2
-    number-requires-3
-    survey-requires
-    returns-2
-    returns-3)
+    (tie.spec (λ c κs. search needs) returns (λ c. omega (arith, good (c .before) .long)) (λ c κs. search needs)
+    (λ c κs. omega (arith, good (c .before .before) .long)) (λ c κs. omega (arith, good (c .before .before .before) .long))
+    (λ c κs. omega (arith, good (c .before .before .before .before) .long)) survey-requires returns-2 returns-3)

@@ -10,81 +10,6 @@ use borrow.Author.Needs.{needs}
 use Rattle.store.proofs.survey.Statement.{statement}
 use Rattle.store.proofs.survey.Tie as tie
 
-mul-v : tie.Need-mul-v
-mul-v c = search needs
-
-add-v : tie.Need-add-v
-add-v c = search needs
-
-mul-a : tie.Need-mul-a
-mul-a c = search needs
-
-add-a : tie.Need-add-a
-add-a c = search needs
-
-mul-b : tie.Need-mul-b
-mul-b c = search needs
-
-add-b : tie.Need-add-b
-add-b c = search needs
-
-mul-b-2 : tie.Need-mul-b-2
-mul-b-2 c = search needs
-
-add-b-2 : tie.Need-add-b-2
-add-b-2 c = search needs
-
-sub-survey : tie.Need-sub-survey
-sub-survey c = search needs
-
-part-survey-start : tie.Need-part-survey-start
-part-survey-start c = search needs
-
-part-survey-end : tie.Need-part-survey-end
-part-survey-end c = search needs
-
-survey-requires : tie.Need-survey-requires
-survey-requires c κs = search needs
-
-sub-survey-2 : tie.Need-sub-survey-2
-sub-survey-2 c = search needs
-
-part-survey-start-2 : tie.Need-part-survey-start-2
-part-survey-start-2 c = search needs
-
-part-survey-end-2 : tie.Need-part-survey-end-2
-part-survey-end-2 c = search needs
-
-survey-requires-2 : tie.Need-survey-requires-2
-survey-requires-2 c κs = search needs
-
-sub-survey-3 : tie.Need-sub-survey-3
-sub-survey-3 c = search needs
-
-part-survey-start-3 : tie.Need-part-survey-start-3
-part-survey-start-3 c = search needs
-
-part-survey-end-3 : tie.Need-part-survey-end-3
-part-survey-end-3 c = search needs
-
-survey-requires-3 : tie.Need-survey-requires-3
-survey-requires-3 c κs = search needs
-
-sub-survey-4 : tie.Need-sub-survey-4
-sub-survey-4 c = search needs
-
-part-survey-start-4 : tie.Need-part-survey-start-4
-part-survey-start-4 c = search needs
-
-part-survey-end-4 : tie.Need-part-survey-end-4
-part-survey-end-4 c = search needs
-
-survey-requires-4 : tie.Need-survey-requires-4
-survey-requires-4 c κs = search needs
-
-any-requires : tie.Need-any-requires
-any-requires c κs = search needs
-
 returns : tie.Need-returns
 returns c =
     let s = c .before .before .before .before .before .before .before .before .before .before in
@@ -106,30 +31,7 @@ returns c =
 pub survey-spec : {M : Type 1} → statement M
 survey-spec =
     tie.close
-    (tie.spec
-    mul-v
-    add-v
-    mul-a
-    add-a
-    mul-b
-    add-b
-    mul-b-2
-    add-b-2
-    sub-survey
-    part-survey-start
-    part-survey-end
-    survey-requires
-    sub-survey-2
-    part-survey-start-2
-    part-survey-end-2
-    survey-requires-2
-    sub-survey-3
-    part-survey-start-3
-    part-survey-end-3
-    survey-requires-3
-    sub-survey-4
-    part-survey-start-4
-    part-survey-end-4
-    survey-requires-4
-    any-requires
-    returns)
+    (tie.spec (λ c. search needs) (λ c. search needs) (λ c. search needs) (λ c. search needs) (λ c. search needs) (λ c. search needs)
+    (λ c. search needs) (λ c. search needs) (λ c. search needs) (λ c. search needs) (λ c. search needs) (λ c κs. search needs) (λ c. search needs)
+    (λ c. search needs) (λ c. search needs) (λ c κs. search needs) (λ c. search needs) (λ c. search needs) (λ c. search needs) (λ c κs. search needs)
+    (λ c. search needs) (λ c. search needs) (λ c. search needs) (λ c κs. search needs) (λ c κs. search needs) returns)

@@ -3,11 +3,11 @@ use Prim.Native.Nat.{ℕ}
 use mathlib.Core.Path.{ap, _∙_}
 use mathlib.Core.List.{List, _∷_, _++_}
 use native.Mathlib.Omega.{arith}
+use Rattle.octets.proofs.Parts.{marked-three}
 use Rattle.chacha20.specs.Cipher.{E}
-use Rattle.insert.proofs.Laws.{marked-three}
 use borrow.Author.Needs.{needs}
-use Rattle.insert.proofs.sealed_row.Statement.{statement}
-use Rattle.insert.proofs.sealed_row.Tie as tie
+use Rattle.counter.proofs.row.sealed_row.Statement.{statement}
+use Rattle.counter.proofs.row.sealed_row.Tie as tie
 
 returns : tie.Need-returns
 returns c =

@@ -2,10 +2,10 @@
 use mathlib.Core.Path.{_∙_}
 use native.Mathlib.Omega.{arith}
 use Rattle.octets.proofs.Parts.{length-part}
-use Rattle.compact.proofs.Sealing.{plain-is}
+use Rattle.counter.proofs.Sealing.{plain-is}
 use borrow.Author.Needs.{needs}
-use Rattle.compact.proofs.put_numbers.Statement.{statement}
-use Rattle.compact.proofs.put_numbers.Tie as tie
+use Rattle.counter.proofs.row.put_numbers.Statement.{statement}
+use Rattle.counter.proofs.row.put_numbers.Tie as tie
 
 returns : tie.Need-returns
 returns c =

@@ -1,0 +1,161 @@
+// The five calls on arguments that are read: the raw arguments of a call, or a token ready made.
+use crate::write;
+use answer::Counted;
+ghost use mathlib.Core.Path.{_≡_};
+ghost use lib.ListN.{length};
+ghost use Rattle.scheme.specs.Find.{find as findOf};
+ghost use Rattle.scheme.specs.Run.{findCall};
+ghost use Rattle.suite.specs.Program.{program};
+ghost use Rattle.client.specs.Making.{fieldOf};
+
+pub fn insert(store: &mut [u8])
+    ensures { λ _. ⌜ length (now (store .exit)) ≡ length (now (store .entry)) ⌝ }
+{
+    let mut key = [0u8; 64];
+    let k = records::read_bytes(&mut key);
+    let mut name = [0u8; 300];
+    let a = records::read_bytes(&mut name);
+    let mut value = [0u8; 1100];
+    let b = records::read_bytes(&mut value);
+    let p = records::read_number();
+    let u = records::read_number();
+    let mut nonce = [0u8; 64];
+    let j = records::read_bytes(&mut nonce);
+    let mut ids = [0u8; 1100];
+    let i = records::read_bytes(&mut ids);
+    let mut nonces = [0u8; 1100];
+    let n = records::read_bytes(&mut nonces);
+    let r = calls::insert(
+        store,
+        &key[..k],
+        &name[..a],
+        &value[..b],
+        p,
+        u,
+        &nonce[..j],
+        &ids[..i],
+        &nonces[..n],
+    );
+    write::counted(r);
+    write::end(store);
+}
+
+pub fn erase(store: &mut [u8])
+    ensures { λ _. ⌜ length (now (store .exit)) ≡ length (now (store .entry)) ⌝ }
+{
+    let mut id = [0u8; 64];
+    let i = records::read_bytes(&mut id);
+    let r = calls::erase(store, &id[..i]);
+    write::counted(r);
+    write::end(store);
+}
+
+// The line of a find.
+fn found(r: Counted, store: &[u8], output: &[u8])
+    ensures { λ r. ⌜ r ≡ tt ⌝ }
+{
+    write::counted(r);
+    write::store(store);
+    write::named(b"output", output);
+    write::text(b"\n");
+}
+
+fn find_to(store: &[u8], key: &[u8], name: &[u8], value: &[u8], output: &mut [u8])
+    ensures { λ _. ⌜ now (output .exit) ≡ findCall program (now (store .entry)) (now (key .entry)) (fieldOf (now (name .entry)) (now (value .entry))) (now (output .entry)) .output ⌝ }
+{
+    let r = calls::find(store, key, name, value, output);
+    found(r, store, output);
+}
+
+pub fn find(store: &[u8])
+    ensures { λ r. ⌜ r ≡ tt ⌝ }
+{
+    let mut key = [0u8; 64];
+    let k = records::read_bytes(&mut key);
+    let mut name = [0u8; 300];
+    let a = records::read_bytes(&mut name);
+    let mut value = [0u8; 1100];
+    let b = records::read_bytes(&mut value);
+    let mut output = [0u8; 1100];
+    let o = records::read_bytes(&mut output);
+    find_to(store, &key[..k], &name[..a], &value[..b], &mut output[..o]);
+}
+
+pub fn count(store: &[u8])
+    ensures { λ r. ⌜ r ≡ tt ⌝ }
+{
+    let mut key = [0u8; 64];
+    let k = records::read_bytes(&mut key);
+    let mut name = [0u8; 300];
+    let a = records::read_bytes(&mut name);
+    let mut value = [0u8; 1100];
+    let b = records::read_bytes(&mut value);
+    let r = calls::count(store, &key[..k], &name[..a], &value[..b]);
+    write::counted(r);
+    write::end(store);
+}
+
+pub fn compact(store: &mut [u8])
+    ensures { λ _. ⌜ length (now (store .exit)) ≡ length (now (store .entry)) ⌝ }
+{
+    let mut key = [0u8; 64];
+    let k = records::read_bytes(&mut key);
+    let mut nonces = [0u8; 1100];
+    let n = records::read_bytes(&mut nonces);
+    let r = calls::compact(store, &key[..k], &nonces[..n]);
+    write::compaction(r);
+    write::end(store);
+}
+
+pub fn insert_by(store: &mut [u8])
+    ensures { λ _. ⌜ length (now (store .exit)) ≡ length (now (store .entry)) ⌝ }
+{
+    let mut token = [0u8; 200];
+    let t = records::read_bytes(&mut token);
+    let mut ids = [0u8; 1100];
+    let i = records::read_bytes(&mut ids);
+    let mut nonces = [0u8; 1100];
+    let n = records::read_bytes(&mut nonces);
+    let r = insert::insert(store, &ids[..i], &nonces[..n], &token[..t]);
+    write::counted(r);
+    write::end(store);
+}
+
+fn find_by_to(store: &[u8], token: &[u8], output: &mut [u8])
+    ensures { λ _. ⌜ now (output .exit) ≡ findOf program (now (store .entry)) (now (token .entry)) (now (output .entry)) .output ⌝ }
+{
+    let r = find::find(store, token, output);
+    found(r, store, output);
+}
+
+pub fn find_by(store: &[u8])
+    ensures { λ r. ⌜ r ≡ tt ⌝ }
+{
+    let mut token = [0u8; 200];
+    let t = records::read_bytes(&mut token);
+    let mut output = [0u8; 1100];
+    let o = records::read_bytes(&mut output);
+    find_by_to(store, &token[..t], &mut output[..o]);
+}
+
+pub fn count_by(store: &[u8])
+    ensures { λ r. ⌜ r ≡ tt ⌝ }
+{
+    let mut token = [0u8; 200];
+    let t = records::read_bytes(&mut token);
+    let r = count::count(store, &token[..t]);
+    write::counted(r);
+    write::end(store);
+}
+
+pub fn compact_by(store: &mut [u8])
+    ensures { λ _. ⌜ length (now (store .exit)) ≡ length (now (store .entry)) ⌝ }
+{
+    let mut token = [0u8; 200];
+    let t = records::read_bytes(&mut token);
+    let mut nonces = [0u8; 1100];
+    let n = records::read_bytes(&mut nonces);
+    let r = compact::compact(store, &nonces[..n], &token[..t]);
+    write::compaction(r);
+    write::end(store);
+}

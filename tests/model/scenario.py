@@ -1,0 +1,534 @@
+"""The records and lines of the program crates/scenario: document 01's worked list G1 to G8, then
+every refusal at both sides of its limit, damage, forged and hostile stores. The lines come from
+the model of this folder, which was written from the paper, and never from our own program.
+
+  scenario.py            compares crates/scenario/stdin and stdout with what is derived here
+  scenario.py --write    writes them
+
+After each call the line has the start of the store's hash, so the bytes of every row are
+compared too. The row placing is left open; the program's is known here: an anchor takes the place
+of the first counter freed, everything else the free row of lowest index.
+"""
+import hashlib
+import pathlib
+import random
+import sys
+
+import examples
+import scheme
+from calls import Compact, Count, Done, Erase, Find, Insert
+from examples import GREATEST, HUE, KEY, NONCE, SIZE, id_of
+from primitives import Real
+
+PROGRAM = pathlib.Path(__file__).resolve().parent.parent.parent / "crates" / "scenario"
+(TITLE, MAKE, SET, RESIZE, INSERT, ERASE, FIND, COUNT, COMPACT, BY_INSERT_TOKEN, BY_FIND_TOKEN,
+ BY_COUNT_TOKEN, BY_COMPACT_TOKEN, MAKE_INSERT_TOKEN, MAKE_FIND_TOKEN, MAKE_COUNT_TOKEN,
+ MAKE_COMPACT_TOKEN, TAGS, HASH) = range(19)
+LENT = 165
+ROOM = 884744 + 16
+
+
+class Placing(scheme.Scheme):
+    """The scheme with the program's row placing."""
+
+    def treat(self, store, cl, counter, nonce):
+        self.place = lambda table, rows, content: counter.held[0]
+        super().treat(store, cl, counter, nonce)
+        self.place = scheme.lowest
+
+
+def number(n):
+    return n.to_bytes(4, "big")
+
+
+def string(content):
+    return b"\0" + number(len(content)) + content
+
+
+def shown(answer):
+    if isinstance(answer, Done):
+        return " ".join(["done"] + [str(v) for v in answer.values])
+    carried = " ".join(str(v) for v in answer.carried)
+    return "refused %d" % answer.number + (" carrying " + carried if carried else "")
+
+
+class Scenario:
+    """Records and lines, with the model's store beside them."""
+
+    def __init__(self):
+        self.model = Placing(Real)
+        self.buffer = bytearray(ROOM)
+        self.length = 0
+        self.records, self.lines = [], []
+
+    @property
+    def store(self):
+        return self.buffer[:self.length]
+
+    def record(self, kind, *parts):
+        self.records.append(bytes([kind]) + b"".join(
+            number(x) if isinstance(x, int) else string(bytes(x)) for x in parts))
+
+    def title(self, text):
+        self.record(TITLE, text.encode())
+        self.lines.append(text)
+
+    def tell(self, text):
+        self.lines[-1] += ": " + text + "\n"
+
+    def told(self, answer, output=None):
+        store = self.store
+        digest = hashlib.sha256(store).hexdigest()[:8] if len(store) <= 65536 else "long"
+        tail = "" if output is None else "; output " + bytes(output).hex()
+        self.tell("%s; store %s%s" % (shown(answer), digest, tail))
+        return answer
+
+    def change(self, act):
+        """Lets the model change the store."""
+        store = self.store
+        answer = act(store)
+        self.buffer[:self.length] = store
+        return answer
+
+    # What the program can be asked
+
+    def make(self, title, p, m, c, s, length=None):
+        self.length = scheme.length_of(m, c, s) if length is None else length
+        self.title(title)
+        self.record(MAKE, p, m, c, s, self.length)
+        return self.told(self.change(lambda store: self.model.make(store, p, m, c, s)))
+
+    def set(self, at, content):
+        self.record(SET, at, content)
+        self.buffer[at:at + len(content)] = content
+
+    def resize(self, length):
+        self.record(RESIZE, length)
+        self.length = length
+
+    def call(self, title, call):
+        self.title(title)
+        if isinstance(call, Insert):
+            self.record(INSERT, call.key, call.name, call.value, call.p, call.u, call.nonce,
+                        call.ids, call.nonces)
+        elif isinstance(call, Erase):
+            self.record(ERASE, call.id)
+        elif isinstance(call, Find):
+            self.record(FIND, call.key, call.name, call.value, call.output)
+        elif isinstance(call, Count):
+            self.record(COUNT, call.key, call.name, call.value)
+        else:
+            self.record(COMPACT, call.key, call.nonces)
+        answer, output = self.change(lambda store: self.model.call(store, call))
+        return self.told(answer, output)
+
+    def insert(self, title, token, ids, nonces):
+        self.title(title)
+        self.record(BY_INSERT_TOKEN, token, ids, nonces)
+        return self.told(self.change(
+            lambda store: self.model.insert(store, token, nonces, ids)))
+
+    def find(self, title, token, output):
+        self.title(title)
+        self.record(BY_FIND_TOKEN, token, output)
+        output = bytearray(output)
+        return self.told(self.model.find(self.store, token, output), output)
+
+    def count(self, title, token):
+        self.title(title)
+        self.record(BY_COUNT_TOKEN, token)
+        return self.told(self.model.count(self.store, token))
+
+    def compact(self, title, token, nonces):
+        self.title(title)
+        self.record(BY_COMPACT_TOKEN, token, nonces)
+        return self.told(self.change(
+            lambda store: self.model.compact(store, token, nonces)))
+
+    def making(self, title, kind, *arguments):
+        """The making of a token: its bytes, or the refusal and the array as lent."""
+        self.title(title)
+        self.record(kind, *arguments)
+        make, length = {
+            MAKE_INSERT_TOKEN: (self.model.insert_token, 141),
+            MAKE_FIND_TOKEN: (self.model.find_token, 96),
+            MAKE_COUNT_TOKEN: (self.model.count_token, 32),
+            MAKE_COMPACT_TOKEN: (self.model.compact_token, 32)}[kind]
+        token = make(*arguments)
+        answer = Done(()) if isinstance(token, bytes) else token
+        shown_token = token if isinstance(token, bytes) else bytes([LENT]) * length
+        self.tell("%s; bytes %s" % (shown(answer), shown_token.hex()))
+        return token
+
+    def hash(self, title, length):
+        content = bytes(length)
+        self.title(title)
+        self.record(HASH, content)
+        digest = hashlib.sha256(content).digest() if length <= 65536 else bytes([LENT] * 32)
+        self.tell("%s; bytes %s" % ("done" if length <= 65536 else "refused 9", digest.hex()))
+
+    def tags(self, title, key, p, fields, calls):
+        """The premise's tags of M and of C for a list of so many calls."""
+        self.title(title)
+        pairs = [(name, value, u) for name, value in fields for u in range(p + 1)]
+        assert len(pairs) == 4 and calls <= 32
+        self.record(TAGS, key, calls, *(x for pair in pairs for x in pair))
+        m, c = [], []
+        for name, value, u in pairs:
+            mt = self.model.F(self.model.address_key(key, name, value), scheme.number(u))
+            cl = self.model.F(self.model.counter_key(key, name, value), scheme.number(u))
+            m += [self.model.entry_tag(mt, a) for a in range(1, 64 * calls + 1)]
+            c += [tag(cl, n) for tag in (self.model.counter_tag, self.model.anchor_tag)
+                  for n in range(1, calls + 2)]
+        assert len(set(m)) == len(m) and len(set(c)) == len(c)
+        self.tell("%d tags of M differ, %d tags of C differ" % (len(m), len(c)))
+
+    # Rows written by hand
+
+    def table(self, name):
+        return scheme.tables(self.store)[name]
+
+    def set_row(self, name, i, content):
+        t = self.table(name)
+        self.set(t.start + t.width * i, content)
+
+    def forge(self, i, kind, n, one, two, field=HUE, u=0):
+        """Row i of C as a counter or an anchor with any numbers."""
+        cl = self.cl(field, u)
+        tag = self.model.counter_tag(cl, n) if kind == "counter" else self.model.anchor_tag(cl, n)
+        ce = self.model.F(cl, scheme.number(2))
+        plain = scheme.number(one) + scheme.number(two)
+        self.set_row("C", i, b"\1" + tag + NONCE + self.model.E(ce, NONCE, plain))
+
+    def cl(self, field=HUE, u=0):
+        return self.model.F(self.model.counter_key(KEY, *field), scheme.number(u))
+
+    def log(self, i, field=HUE, u=0, nonce=NONCE):
+        """Row i of S with the CL of a field."""
+        ks = self.model.compact_token(KEY)
+        self.set_row("S", i, b"\1" + nonce + self.model.E(ks, nonce, self.cl(field, u)))
+
+    def insert_token(self, field=HUE, u=0, p=1):
+        return self.model.insert_token(KEY, *field, p, u, NONCE)
+
+
+def worked(s):
+    """G1 to G8 [01:DY1 DY2 DY3 DY4 DY5 DY6 DY7 DY8 DY9 DY11], each call with its token made first
+    [01:LG16 LG20], answers and rows by the paper [01:SC1 SC4 OP3 OP8 OP13 OP14 FM14 FM15], one KS
+    for both compactions [01:KT11]; then the premise's tags for that list [01:LG13]."""
+    s.make("a store, p = 1, m = c = s = 4", 1, 4, 4, 4)
+    calls = examples.worked()
+    for name, call, wanted in calls:
+        answer = s.call("%s %s" % (name, type(call).__name__.lower()), call)
+        assert answer == wanted[0], name
+    s.tags("the premise for this list", KEY, 1, [HUE, SIZE], len(calls))
+
+
+def token_makings(s):
+    """1 to 4 [01:RI2 RI3 RI4 RI5], the lengths of fields [01:LB1] and of labels [01:LB3 LB4 LB5 LB6
+    LB7 LB8], the tokens' bytes [01:KT1 KT4 KT6 KT7 KT8 KT9 KT10]."""
+    for n in (0, 31, 33):
+        for kind, rest in ((MAKE_INSERT_TOKEN, (b"a", b"", 0, 0, NONCE)),
+                           (MAKE_FIND_TOKEN, (b"a", b"")), (MAKE_COUNT_TOKEN, (b"a", b"")),
+                           (MAKE_COMPACT_TOKEN, ())):
+            s.making("key of %d bytes" % n, kind, bytes(n), *rest)
+    s.making("compaction token", MAKE_COMPACT_TOKEN, KEY)
+    for name, value in ((0, 0), (1, 0), (127, 1), (128, 1), (255, 1024), (256, 0), (1, 1025)):
+        field = (b"a" * name, b"v" * value)
+        title = "name of %d, value of %d bytes" % (name, value)
+        s.making(title, MAKE_INSERT_TOKEN, KEY, *field, 0, 0, NONCE)
+        s.making(title, MAKE_FIND_TOKEN, KEY, *field)
+        s.making(title, MAKE_COUNT_TOKEN, KEY, *field)
+    for name, value in ((b"ab", b"c"), (b"a", b"bc")):
+        s.making("L2 and L3", MAKE_FIND_TOKEN, KEY, name, value)
+    for p, u in ((15, 15), (15, 16), (16, 0), (0, 1), (3, 3), (257, 0), (256, 256)):
+        s.making("p = %d, u = %d" % (p, u), MAKE_INSERT_TOKEN, KEY, *HUE, p, u, NONCE)
+    for n in (0, 11, 13, 24):
+        s.making("nonce of %d bytes" % n, MAKE_INSERT_TOKEN, KEY, *HUE, 1, 0, bytes(n))
+    s.making("1 before 2, 3 and 4", MAKE_INSERT_TOKEN, b"", b"", b"", 16, 0, b"")
+    s.making("2 before 3 and 4", MAKE_INSERT_TOKEN, KEY, b"", b"", 16, 0, b"")
+    s.making("3 before 4", MAKE_INSERT_TOKEN, KEY, *HUE, 16, 0, b"")
+
+
+def makings(s):
+    """7 and 8 [01:RI8 RI9], the header and the length [01:ST1 ST2 ST3 ST4]; 9 of the hash [01:RI10]."""
+    for p, m, c, t in ((16, 1, 1, 1), (257, 1, 1, 1), (0, 0, 1, 1), (0, 1, 0, 1), (0, 1, 1, 0),
+                       (0, 4097, 1, 1), (0, 1, 4097, 1), (0, 1, 1, 4097), (0, 65537, 1, 1)):
+        s.make("p, m, c, s = %d, %d, %d, %d" % (p, m, c, t), p, m, c, t, 224)
+    for length in (0, 223, 225):
+        s.make("length %d for 224" % length, 0, 1, 1, 1, length)
+    s.make("the least", 0, 1, 1, 1)
+    s.make("p = 15", 15, 1, 1, 1)
+    s.make("the greatest, one byte short", 15, 4096, 4096, 4096, 884743)
+    s.make("the greatest", 15, 4096, 4096, 4096)
+    s.call("count in it", Count(KEY, *HUE))
+    s.call("insert of 64 ids into it",
+           Insert(KEY, *HUE, 15, 3, NONCE, bytes(12 * 65), bytes(range(64)) * 16))
+    s.call("compaction of it", Compact(KEY, NONCE))
+    s.call("find in it", Find(KEY, *HUE, bytes(1024)))
+    s.hash("hash of 65,536 bytes", 65536)
+    s.hash("hash of 65,537 bytes", 65537)
+
+
+def call_inputs(s):
+    """1 to 6 of the calls themselves, before the store is looked at [01:RI1 RI5 RI6 RI7 ST7 RS12]."""
+    for good in (False, True):
+        s.make("a store", 1, 64, 4, 4)
+        if not good:
+            s.set(0, b"\2")
+        token, ids = s.insert_token(), id_of("A")
+        for n, j in ((0, 0), (12, 0), (12, 16), (23, 16), (25, 16), (36, 16), (24, 15), (12, 15), (24, 17)):
+            s.insert("%d nonce bytes, %d id bytes" % (n, j), token, bytes(j), bytes(n))
+        s.insert("65 ids", token, bytes(16 * 65), bytes(12 * 66))
+        for n in (0, 140, 142):
+            s.insert("insert token of %d bytes" % n, bytes(n), ids, bytes(24))
+        for n in (0, 15, 17, 32):
+            s.call("erase of %d bytes" % n, Erase(bytes(n)))
+        for n in (0, 95, 97):
+            s.find("find token of %d bytes" % n, bytes(n), b"out")
+        for n in (0, 31, 33):
+            s.count("count token of %d bytes" % n, bytes(n))
+            s.compact("compaction token of %d bytes" % n, bytes(n), bytes(12))
+        for n in (11, 13):
+            s.compact("%d nonce bytes" % n, bytes(31), bytes(n))
+        s.call("a key of 31 bytes", Insert(bytes(31), *HUE, 1, 0, NONCE, bytes(24), ids))
+        s.call("a key of 33 bytes", Find(bytes(33), *HUE, b"out"))
+        s.call("a name of 256 bytes", Count(KEY, bytes(256), b""))
+        s.call("a key of no bytes", Compact(b"", NONCE))
+        s.insert("one id", token, ids, bytes(24))
+        s.insert("62 ids", s.insert_token(SIZE), bytes(range(62)) * 16, bytes(12 * 63))
+    s.make("a store", 1, 64, 4, 4)
+    s.insert("64 ids", token, bytes(range(64)) * 16, bytes(12 * 65))
+    s.find("them", s.model.find_token(KEY, *HUE), bytes(1024))
+
+
+def each(s, title):
+    """The five operations with right arguments."""
+    s.insert(title + ", insert", s.insert_token(), id_of("A"), bytes(24))
+    s.call(title + ", erase", Erase(id_of("Z")))
+    s.find(title + ", find", s.model.find_token(KEY, *HUE), bytes([LENT]) * 40)
+    s.count(title + ", count", s.model.count_token(KEY, *HUE))
+    s.compact(title + ", compaction", s.model.compact_token(KEY), bytes(48))
+
+
+def states(s):
+    """10, 11, 12 [01:RS2 RS3 RS4], 10 before 11 before 12 [01:RS1]."""
+    for at, byte in ((0, 0), (0, 2), (1, 16), (2, 17), (3, 0), (3, 5), (4, 17), (5, 0), (6, 17), (7, 0)):
+        s.make("a store", 1, 4, 4, 4)
+        s.set(8, b"\2")
+        s.set(at, bytes([byte]))
+        each(s, "byte %d of the header is %d" % (at, byte))
+    for length in (0, 7, 8, 871, 873):
+        s.make("a store", 1, 4, 4, 4)
+        s.resize(length)
+        each(s, "length %d" % length)
+    for name in "MVCS":
+        for row, mark in ((0, 2), (3, 255)):
+            s.make("a store", 1, 4, 4, 4)
+            s.set_row(name, row, bytes([mark]))
+            each(s, "mark %d in %s" % (mark, name))
+            s.insert("11 before 12", s.insert_token(p=0), id_of("A"), bytes(24))
+    s.make("a store", 1, 4, 4, 4)
+    s.insert("p = 0 in the token", s.insert_token(p=0), id_of("A"), bytes(24))
+    s.insert("p = 2 in the token", s.insert_token(p=2), id_of("A"), bytes(24))
+    s.forge(0, "counter", 1, 1, 1)
+    s.insert("12 before 13", s.insert_token(p=0), id_of("A"), bytes(24))
+
+
+def damage(s):
+    """13 under its condition and no other [01:RS6 RS12]; only anchor B and counter Start+k count
+    [01:RC2 RC5 RC6 RC7 SC3 FM8]."""
+    for rows in ([("counter", 1, 1, 1)], [("counter", 1, 0, GREATEST + 1)],
+                 [("anchor", 1, GREATEST + 1, 0)], [("anchor", 1, 0, GREATEST + 1)],
+                 [("anchor", 1, 3, GREATEST + 1), ("counter", 4, 0, 1)],
+                 [("anchor", 1, 2 ** 64 - 1, 1)], [("anchor", 1, 2 ** 64 - 2, 1), ("anchor", 2, 2 ** 63, 1)],
+                 [("counter", 1, 0, 1), ("counter", 2, 2 ** 63, 1)]):
+        s.make("a store", 1, 4, 4, 4)
+        for i, one in enumerate(rows):
+            s.forge(i, *one)
+        each(s, "damage " + " ".join("%s %d %d %d" % r for r in rows))
+        s.log(0)
+        s.compact("its CL in S", s.model.compact_token(KEY), bytes(12))
+    for rows in ([("counter", 1, 7, 9), ("counter", 2, 0, 2)],
+                 [("anchor", 1, 2 ** 40, 2 ** 40), ("anchor", 2, 5, 3)],
+                 [("anchor", 1, 2, 3), ("counter", 1, 9, 9), ("counter", 3, 0, 4)],
+                 [("anchor", 2, 2 ** 40, 1), ("counter", 2, 1, 1)],
+                 [("anchor", 1, GREATEST, 7)], [("anchor", 1, 0, 7), ("counter", 2, 0, 8)]):
+        s.make("a store", 1, 4, 4, 4)
+        for i, one in enumerate(rows):
+            s.forge(i, *one)
+        each(s, "no damage " + " ".join("%s %d %d %d" % r for r in rows))
+    s.make("a store", 1, 4, 4, 4)
+    s.forge(2, "counter", 1, 5, 5, u=1)
+    each(s, "damage in share 1")
+
+
+def limits(s):
+    """14 to 17 and their order [01:RS7 RS8 RS9 RS10]; 18 [01:RS11]; 19 before 13 [01:RS5]."""
+    token = s.insert_token()
+
+    def insert(title, n=1):
+        return s.insert(title, token, b"".join(bytes([65 + i]) * 16 for i in range(n)), bytes(12 * n + 12))
+
+    for count, title in ((GREATEST, "14"), (GREATEST - 1, "14 and 15"), (GREATEST - 2, "15 and 16")):
+        s.make("a store", 1, 1, 1, 1)
+        s.forge(0, "anchor", 1, 1, count)
+        insert("count %d, one id" % count)
+        insert("count %d, two ids" % count, 2)
+    s.make("a store", 1, 4, 4, 4)
+    s.forge(0, "anchor", 1, 1, GREATEST - 1)
+    insert("to the greatest count")
+    insert("one more")
+    s.count("the greatest count", s.model.count_token(KEY, *HUE))
+    for table in "MV":
+        s.make("a store", 1, 4, 4, 4)
+        for i in range(3):
+            s.set_row(table, i, b"\1")
+        insert("two ids, one free row in " + table, 2)
+        insert("one id, one free row in " + table)
+        insert("one id, none free in " + table)
+    s.make("a store", 1, 1, 1, 1)
+    s.forge(0, "anchor", 1, 1, 1)
+    s.set_row("S", 0, b"\1")
+    insert("15 before 16 and 17", 2)
+    insert("16 before 17")
+    s.make("a store", 1, 1, 2, 1)
+    s.forge(0, "anchor", 1, 1, 1)
+    s.set_row("S", 0, b"\1")
+    insert("17")
+    s.make("a store", 1, 4, 4, 4)
+    insert("two ids", 2)
+    s.call("erase of one", Erase(b"A" * 16))
+    for room in (0, 15, 16, 17, 31, 32, 33):
+        s.find("one id at two addresses, room %d" % room, s.model.find_token(KEY, *HUE), bytes([LENT]) * room)
+    insert("two more", 2)
+    for room in (31, 47, 48, 63, 64, 65):
+        s.find("three ids at four addresses, room %d" % room, s.model.find_token(KEY, *HUE), bytes([LENT]) * room)
+    ks = s.model.compact_token(KEY)
+    s.set_row("C", 0, b"\1" * 45 + b"\0" * 16)
+    s.compact("no nonces for two rows: 19 before 13", ks, b"")
+    s.compact("one nonce for two rows", ks, bytes(12))
+    s.compact("two nonces", ks, bytes(24))
+    s.compact("nothing left, no nonces", ks, b"")
+
+
+def compactions(s):
+    """13 keeps what was treated [01:RS13]; k = 0 takes no nonce [01:OP2 OP11]; the freed rows are those
+    held, in C and in S [01:ST10 ST12 OP12 OP13]."""
+    ks, nonces = s.model.compact_token(KEY), b"1" * 12 + b"2" * 12 + b"3" * 12 + b"4" * 12
+    s.make("a store", 1, 8, 8, 8)
+    for field, letter in ((SIZE, "A"), (SIZE, "B"), (HUE, "C")):
+        s.call("insert " + letter, examples.insert(field, 0, letter))
+    c = s.table("C")
+    s.set(c.start + 2 * c.width + 52, bytes([s.store[c.start + 2 * c.width + 52] ^ 1]))
+    s.compact("damage at the second CL", ks, nonces)
+    s.count("the first stays treated", s.model.count_token(KEY, *SIZE))
+    s.compact("damage at the first CL", ks, nonces)
+    s.make("a store", 1, 8, 8, 8)
+    s.log(0)
+    s.call("insert A", examples.insert(SIZE, 0, "A"))
+    s.compact("k = 0 takes no nonce", ks, nonces)
+    s.call("find", Find(KEY, *SIZE, bytes(32)))
+    s.make("a store", 1, 8, 8, 8)
+    s.forge(0, "anchor", 1, GREATEST, 5)
+    s.forge(1, "counter", GREATEST + 1, 0, 6)
+    s.log(0)
+    s.compact("a position above the greatest", ks, nonces)
+    s.count("the next reading", s.model.count_token(KEY, *HUE))
+    s.make("a store", 1, 8, 8, 8)
+    for i in (5, 3, 1):
+        s.forge(i, "counter", 1 + (5 - i) // 2, 0, 6 - i)
+    s.forge(7, "counter", 2, 0, 99)
+    s.log(2)
+    s.log(6, nonce=b"n" * 12)
+    s.compact("counters in any order, one twice", ks, nonces)
+    s.count("after it", s.model.count_token(KEY, *HUE))
+    s.compact("again", ks, nonces)
+    for i, letter in enumerate("ABC"):
+        s.call("insert %s" % letter, examples.insert((HUE, SIZE)[i % 2], i % 2, letter))
+    s.compact("three CL", ks, nonces)
+    s.call("find", Find(KEY, *HUE, bytes(64)))
+
+
+def rows(s):
+    """Lookup, freeing and free rows' bytes [01:ST5 ST13 ST14 ST15 OP15]; erase by tags [01:ST8 OP4]."""
+    s.make("a store", 0, 4, 4, 4)
+    junk = bytearray([7]) * (s.length - 8)
+    for t in scheme.tables(s.store).values():
+        for i in range(t.rows):
+            junk[t.start + t.width * i - 8] = 0
+    s.set(8, junk)
+    s.call("free rows with any bytes", examples.insert(HUE, 0, "AB", p=0))
+    m = s.table("M")
+    a, b = scheme.row(s.store, m, 0), scheme.row(s.store, m, 1)
+    s.set_row("M", 2, a[:60] + bytes([a[60] ^ 1]))
+    s.set_row("V", 2, b"\1" + id_of("A") + b[1:33])
+    s.call("the lowest row with the tag", Find(KEY, *HUE, bytes(48)))
+    s.call("erase by two V rows", Erase(id_of("A")))
+    s.call("find after it", Find(KEY, *HUE, bytes(48)))
+    s.call("erase of nothing", Erase(id_of("A")))
+    s.call("erase of the rest", Erase(id_of("B")))
+
+
+def hostile(s):
+    """Any bytes behind a good header and good marks."""
+    pick = random.Random(1)
+    for turn in range(60):
+        p, m, c, t = pick.randrange(3), pick.randrange(1, 5), pick.randrange(1, 5), pick.randrange(1, 5)
+        s.make("a store", p, m, c, t)
+        content = bytearray(pick.randbytes(s.length - 8))
+        for table in scheme.tables(s.store).values():
+            for i in range(table.rows):
+                content[table.start + table.width * i - 8] = pick.randrange(2)
+        s.set(8, content)
+        for i in range(c):
+            if pick.randrange(2):
+                kind = pick.choice(["counter", "anchor"])
+                one = 0 if kind == "counter" else pick.randrange(3)
+                s.forge(i, kind, pick.randrange(1, 4), one, pick.randrange(9), u=pick.randrange(p + 1))
+        for i in range(t):
+            if pick.randrange(2):
+                s.log(i, u=pick.randrange(p + 1), nonce=pick.randbytes(12))
+        title = "hostile %d" % turn
+        order = [lambda: s.insert(title + ", insert", s.insert_token(p=p), pick.randbytes(16), pick.randbytes(24)),
+                 lambda: s.call(title + ", erase", Erase(scheme.row(s.store, s.table("V"), 0)[1:17])),
+                 lambda: s.find(title + ", find", s.model.find_token(KEY, *HUE), bytes(pick.choice([0, 16, 64, 256]))),
+                 lambda: s.count(title + ", count", s.model.count_token(KEY, *HUE)),
+                 lambda: s.compact(title + ", compaction", s.model.compact_token(KEY), pick.randbytes(48))]
+        pick.shuffle(order)
+        for act in order:
+            act()
+
+
+def main():
+    s = Scenario()
+    for part in (worked, token_makings, makings, call_inputs, states, damage, limits, compactions, rows, hostile):
+        before = len(s.records)
+        part(s)
+        print("%s: %d records" % (part.__name__.replace("_", " "), len(s.records) - before), flush=True)
+    derived = {PROGRAM / "stdin": number(len(s.records)) + b"".join(s.records),
+               PROGRAM / "stdout": "".join(s.lines).encode()}
+    numbers = {n for n in range(1, 20) if any(": refused %d%s" % (n, end) in line for line in s.lines
+                                              for end in (";", " "))}
+    missing = set(range(1, 20)) - numbers
+    if missing:
+        print("scenario.py: no line has refusal %s" % sorted(missing))
+        return 1
+    if sys.argv[1:] == ["--write"]:
+        for path, content in derived.items():
+            path.write_bytes(content)
+        print("written: %d records, %d lines" % (len(s.records), len(s.lines)))
+        return 0
+    if sys.argv[1:]:
+        print(__doc__)
+        return 2
+    for path, content in derived.items():
+        if not path.is_file() or path.read_bytes() != content:
+            print("scenario.py: %s/%s differs from what is derived" % (PROGRAM.name, path.name))
+            return 1
+    print("crates/scenario: the %d records and lines are those derived" % len(s.records))
+    return 0
+
+
+if __name__ == "__main__":
+    sys.exit(main())
