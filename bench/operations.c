@@ -186,6 +186,33 @@ static void bench_token(void) {
   printf("%-48s %10.2f us\n", "insert token", ours);
 }
 
+/* F with a prepared key: a find over 1,000 addresses in a table M of one row, less the count, which
+ * does the same reading. */
+static void bench_prepared(void) {
+  uint8_t find[96], count[32], text[4], id[16];
+  double found = 1e18, counted = 1e18, reference_found = 1e18, reference_counted = 1e18;
+  size_t n = field(text, 1);
+  size = 8 + 110 + 106ul * 4096;
+  check(mazhkuri_make(0, 1, 4096, 4096, base, size) == 0, "make");
+  for (int i = 0; i < 1000; i++) {
+    add(1, 0, 0, 1);
+    memcpy(id, base + 8 + 61 + 1, 16);
+    check(mazhkuri_erase(base, size, id, 16) == 1, "set up");
+  }
+  compact_base();
+  mazhkuri_find_token(key, 32, text, n, empty, 0, find);
+  mazhkuri_count_token(key, 32, text, n, empty, 0, count);
+  for (int r = 0; r < rounds; r++) {
+    MEASURE(found, check(mazhkuri_find(base, size, find, 96, out1, sizeof out1) == 0, "find"));
+    MEASURE(counted, check(mazhkuri_count(base, size, count, 32) == 1000, "count"));
+    MEASURE(reference_found, check(reference_find(base, size, find, out2, sizeof out2) == 0, "find"));
+    MEASURE(reference_counted, check(reference_count(base, size, count) == 1000, "count"));
+  }
+  double ours = (found - counted) / 1000, theirs = (reference_found - reference_counted) / 1000;
+  printf("%-48s %10.3f us %10.3f us   ratio %5.2f   floor %9.3f us\n", "F, prepared key", ours, theirs,
+         ours / theirs, 2 * compression);
+}
+
 /* One line of each operation in a store of m rows a table. */
 static void growth(unsigned m) {
   char name[80];
@@ -219,6 +246,7 @@ int main(int count, char **arguments) {
   }
   printf("one compression of OpenSSL: %.3f us; library, reference, ratio, floor by compressions\n", compression);
   bench_token();
+  bench_prepared();
   for (int full = 0; full < 3; full++) {
     static const char *title[3][2] = {{"insert of 1, empty", "insert of 64, empty"},
                                       {"insert of 1, half full", "insert of 64, half full"},
