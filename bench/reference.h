@@ -4,6 +4,9 @@
 #include <stddef.h>
 #include <stdint.h>
 
+void reference_insert_token(const uint8_t key[32], const uint8_t *name, size_t name_length,
+                            const uint8_t *value, size_t value_length, uint8_t p, uint64_t u,
+                            const uint8_t nonce[12], uint8_t token[141]);
 int64_t reference_insert(uint8_t *store, size_t n, const uint8_t *ids, size_t id_bytes,
                          const uint8_t *nonces, size_t nonce_bytes, const uint8_t token[141]);
 int64_t reference_erase(uint8_t *store, size_t n, const uint8_t id[16]);
