@@ -14,6 +14,8 @@ import pathlib
 import subprocess
 import sys
 
+from derived import settle
+
 HERE = pathlib.Path(__file__).resolve().parent
 PROGRAM = HERE.parent / "crates" / "vectors"
 PACKAGE = "python3-cryptography-vectors"
@@ -212,21 +214,7 @@ def main():
     for kind, strings, _ in records:
         stdin += bytes([kind]) + b"".join(s.encoded() for s in strings)
     stdout = "".join(line + "\n" for _, _, line in records).encode()
-    derived = {PROGRAM / "stdin": stdin, PROGRAM / "stdout": stdout}
-    if sys.argv[1:] == ["--write"]:
-        for path, content in derived.items():
-            path.write_bytes(content)
-        print("written: %d records, %d and %d bytes" % (len(records), len(stdin), len(stdout)))
-        return 0
-    if sys.argv[1:]:
-        print(__doc__)
-        return 2
-    for path, content in derived.items():
-        if not path.is_file() or path.read_bytes() != content:
-            print("vectors.py: %s/%s differs from what is derived" % (PROGRAM.name, path.name))
-            return 1
-    print("crates/vectors: the %d records and lines are those derived" % len(records))
-    return 0
+    return settle("vectors.py", __doc__, PROGRAM, stdin, stdout, len(records))
 
 
 if __name__ == "__main__":

@@ -20,7 +20,11 @@ from calls import Compact, Count, Done, Erase, Find, Insert
 from examples import GREATEST, HUE, KEY, NONCE, SIZE, id_of
 from primitives import Real
 
-PROGRAM = pathlib.Path(__file__).resolve().parent.parent.parent / "crates" / "scenario"
+TESTS = pathlib.Path(__file__).resolve().parent.parent
+sys.path.append(str(TESTS))
+from derived import settle  # noqa: E402, stands one folder up
+
+PROGRAM = TESTS.parent / "crates" / "scenario"
 (TITLE, MAKE, SET, RESIZE, INSERT, ERASE, FIND, COUNT, COMPACT, BY_INSERT_TOKEN, BY_FIND_TOKEN,
  BY_COUNT_TOKEN, BY_COMPACT_TOKEN, MAKE_INSERT_TOKEN, MAKE_FIND_TOKEN, MAKE_COUNT_TOKEN,
  MAKE_COMPACT_TOKEN, TAGS, HASH) = range(19)
@@ -506,28 +510,14 @@ def main():
         before = len(s.records)
         part(s)
         print("%s: %d records" % (part.__name__.replace("_", " "), len(s.records) - before), flush=True)
-    derived = {PROGRAM / "stdin": number(len(s.records)) + b"".join(s.records),
-               PROGRAM / "stdout": "".join(s.lines).encode()}
     numbers = {n for n in range(1, 20) if any(": refused %d%s" % (n, end) in line for line in s.lines
                                               for end in (";", " "))}
     missing = set(range(1, 20)) - numbers
     if missing:
         print("scenario.py: no line has refusal %s" % sorted(missing))
         return 1
-    if sys.argv[1:] == ["--write"]:
-        for path, content in derived.items():
-            path.write_bytes(content)
-        print("written: %d records, %d lines" % (len(s.records), len(s.lines)))
-        return 0
-    if sys.argv[1:]:
-        print(__doc__)
-        return 2
-    for path, content in derived.items():
-        if not path.is_file() or path.read_bytes() != content:
-            print("scenario.py: %s/%s differs from what is derived" % (PROGRAM.name, path.name))
-            return 1
-    print("crates/scenario: the %d records and lines are those derived" % len(s.records))
-    return 0
+    return settle("scenario.py", __doc__, PROGRAM, number(len(s.records)) + b"".join(s.records),
+                  "".join(s.lines).encode(), len(s.records))
 
 
 if __name__ == "__main__":

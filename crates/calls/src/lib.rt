@@ -1,5 +1,5 @@
 // A call of a list, on its raw arguments: the making of its token, where it takes one, then the operation
-// with it (document 01, "The ledger", last paragraph). Each contract is the step of the claim. [01:LG16]
+// with it (document 01, "The ledger", last paragraph). Each contract is the step of the claim. [01:LG16 OP16 SC6]
 ghost use mathlib.Core.List.{[]};
 ghost use Rattle.answer.specs.Answer.{counted};
 ghost use Rattle.scheme.specs.Call.{Call};

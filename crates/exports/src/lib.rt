@@ -1,5 +1,5 @@
 // The library as C sees it: each public call on pointers and lengths, with its answer as one number
-// (specs/Encoding.antt). include/mazhkuri.h declares and documents these functions.
+// (specs/Encoding.antt). include/mazhkuri.h declares and documents these functions. [01:FM9]
 ghost use mathlib.Core.Path.{_≡_};
 ghost use Prim.Native.Nat.{_^_, _<_};
 ghost use lib.IntN.{pos, negℤ};
