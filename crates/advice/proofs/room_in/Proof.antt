@@ -1,0 +1,49 @@
+use Prim.Native.Nat.{ℕ, min}
+use mathlib.Core.Path.{sym, ap, _∙_}
+use Rattle.advice.specs.Advise.{roomOf}
+use Rattle.advice.specs.declared.Room.{Room}
+-- The check tells the sizes.
+use borrow.Author.Needs.{needs}
+use Rattle.advice.proofs.room_in.Statement.{statement}
+use Rattle.advice.proofs.room_in.Tie as tie
+
+abbrev made : ℕ → ℕ → ℕ → Room
+made p e l = record { p = p; entries = e; logged = l }
+
+sizes-requires : tie.Need-sizes-requires
+sizes-requires c κs = search needs
+
+enum-told : tie.Need-enum-told
+enum-told c = search needs
+
+enum-known-shape : tie.Need-enum-known-shape
+enum-known-shape c = search needs
+
+least-requires : tie.Need-least-requires
+least-requires c κs = search needs
+
+above-requires : tie.Need-above-requires
+above-requires c κs = search needs
+
+returns : tie.Need-returns
+returns c = sym (ap roomOf (c .enum-told .given .1)) ∙ ap roomOf (c .before .before .sizes .ensures)
+
+returns-2 : tie.Need-returns-2
+returns-2 c =
+    let x = c .before .before .before .before .shape .given in
+    ap (λ (e : ℕ). made (x .0 .0 .p) e (c .above .result)) (c .before .least .ensures)
+    ∙ ap (made (x .0 .0 .p) (min (x .0 .0 .free .m) (x .0 .0 .free .v))) (c .above .ensures)
+    ∙ sym (ap roomOf (x .1))
+    ∙ ap roomOf (c .before .before .before .before .before .before .sizes .ensures)
+
+pub room-in-spec : {M : Type 1} → statement M
+room-in-spec =
+    tie.close
+    (tie.spec
+    sizes-requires
+    enum-told
+    enum-known-shape
+    least-requires
+    above-requires
+    returns
+    returns-2)

@@ -1,0 +1,133 @@
+// What the command-line tool tells of a store and of a refusal: how much room is left, what to do, and
+// whether a compaction was made with another key than the store's.
+ghost use mathlib.Core.Path.{_≡_};
+ghost use Prim.Native.Nat.{_-_, _≤_, min};
+ghost use Rattle.store.specs.Check.{checkedOf};
+ghost use Rattle.advice.specs.Advise.{roomOf, adviceOf, strangerOf, lengthOf};
+use answer::Refusal;
+use compact::Tally;
+use store::Checked;
+
+// A store's p, how many more entries it has room for, and its used rows of S.
+pub struct Room {
+    pub p: u64,
+    pub entries: usize,
+    pub logged: usize,
+}
+
+// What to say of a refusal.
+pub enum Advice {
+    Key,
+    Field,
+    Share(u64),
+    Ids,
+    Sizes,
+    NoStore,
+    Marks,
+    Damage,
+    Count,
+    Entries(usize),
+    Compact,
+    Larger,
+    Log,
+    Output(u64),
+    Fault,
+}
+
+// The difference, or 0.
+pub fn above(a: usize, b: usize) -> usize
+    ensures { λ r. ⌜ r ≡ a - b ⌝ }
+{
+    if b < a { a - b } else { 0 }
+}
+
+fn least(a: usize, b: usize) -> usize
+    ensures { λ r. ⌜ r ≡ min a b ⌝ }
+{
+    if a < b { a } else { b }
+}
+
+// The room of a store; of what is no store, none.
+pub fn room_in(store: &[u8]) -> Room
+    ensures { λ r. ⌜ r ≡ roomOf (checkedOf (now (store .entry))) ⌝ }
+{
+    match store::sizes(store) {
+        Checked::Refused(_) => Room {
+            p: 0,
+            entries: 0,
+            logged: 0,
+        },
+        Checked::Fit(shape) => {
+            let free = shape.free;
+            Room {
+                p: shape.p,
+                entries: least(free.m, free.v),
+                logged: above(shape.s, free.s),
+            }
+        }
+    }
+}
+
+// What to do about a missing row of C: a compaction helps where S has used rows.
+fn counters(logged: usize) -> Advice
+    ensures { λ r. ⌜ r ≡ adviceOf Refusal.CounterRows 0 0 logged ⌝ }
+{
+    if 0 < logged {
+        Advice::Compact
+    } else {
+        Advice::Larger
+    }
+}
+
+// What to say of a refusal by a store with this room.
+pub fn advise(r: Refusal, p: u64, entries: usize, logged: usize) -> Advice
+    ensures { λ a. ⌜ a ≡ adviceOf r p entries logged ⌝ }
+{
+    match r {
+        Refusal::KeyLength => Advice::Key,
+        Refusal::FieldLength => Advice::Field,
+        Refusal::ShareRange => Advice::Share(p),
+        Refusal::NonceLength => Advice::Fault,
+        Refusal::IdLength => Advice::Ids,
+        Refusal::TokenLength => Advice::Fault,
+        Refusal::SizeRange => Advice::Sizes,
+        Refusal::SliceLength => Advice::Fault,
+        Refusal::TextLength => Advice::Fault,
+        Refusal::Header => Advice::NoStore,
+        Refusal::Mark => Advice::Marks,
+        Refusal::TokenShares => Advice::Fault,
+        Refusal::Damage => Advice::Damage,
+        Refusal::CountRange => Advice::Count,
+        Refusal::EntryRows => Advice::Entries(entries),
+        Refusal::CounterRows => counters(logged),
+        Refusal::LogRows => Advice::Log,
+        Refusal::OutputLength(n) => Advice::Output(n),
+        Refusal::NonceCount => Advice::Fault,
+    }
+}
+
+// Whether a compaction found none of the logged counters: then the key is not the store's.
+pub fn is_stranger(logged: usize, t: Tally) -> bool
+    ensures { λ r. ⌜ r ≡ strangerOf logged (t .anchors) ⌝ }
+{
+    if logged < 1 {
+        return false;
+    }
+    t.anchors < 1
+}
+
+// The length of a store of these sizes; 0 where one is above 4,096.
+pub fn length(m: u64, c: u64, s: u64) -> usize
+    ensures { λ r. ⌜ (r ≡ lengthOf m c s) × (r ≤ 884744) ⌝ }
+{
+    if 4096 < m {
+        return 0;
+    }
+    if 4096 < c {
+        return 0;
+    }
+    if 4096 < s {
+        return 0;
+    }
+    (8 + 110 * m + 61 * c + 45 * s) as usize
+}

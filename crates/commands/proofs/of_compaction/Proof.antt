@@ -1,0 +1,28 @@
+-- Each arm knows its answer.
+use mathlib.Core.Path.{sym, ap}
+use Rattle.compact.specs.Outcome.{compactionAnswer}
+use borrow.Author.Needs.{needs}
+use Rattle.commands.proofs.of_compaction.Statement.{statement}
+use Rattle.commands.proofs.of_compaction.Tie as tie
+
+enum-known-r : tie.Need-enum-known-r
+enum-known-r c = search needs
+
+enum-known-r-2 : tie.Need-enum-known-r-2
+enum-known-r-2 c = search needs
+
+enum-known-r-3 : tie.Need-enum-known-r-3
+enum-known-r-3 c = search needs
+
+returns : tie.Need-returns
+returns c = sym (ap compactionAnswer (c .before .r .given .1))
+
+returns-2 : tie.Need-returns-2
+returns-2 c = sym (ap compactionAnswer (c .before .r2 .given .1))
+
+returns-3 : tie.Need-returns-3
+returns-3 c = sym (ap compactionAnswer (c .before .r3 .given .1))
+
+pub of-compaction-spec : {M : Type 1} → statement M
+of-compaction-spec =
+    tie.close (tie.spec enum-known-r enum-known-r-2 enum-known-r-3 returns returns-2 returns-3)

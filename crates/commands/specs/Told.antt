@@ -1,0 +1,28 @@
+-- The rules' view of what the tool tells of a command, and an insert whose p is the store's.
+use Prim.Native.Nat.{ℕ}
+use mathlib.Core.Path.{_≡_}
+use mathlib.Core.List.{List, [], _∷_}
+use Rattle.answer.specs.Answer.{Answer, done, refused, refusal}
+use Rattle.scheme.specs.Labels.{Field}
+use Rattle.scheme.specs.Call.{Call}
+use Rattle.scheme.specs.Run.{Step}
+use Rattle.suite.specs.Program.{program}
+use Rattle.store.specs.declared.Checked.{Checked}
+use Rattle.store.specs.declared.Checked.the-variants.{Fit, Refused as Refused₀}
+use Rattle.commands.specs.declared.Outcome.{Outcome}
+use Rattle.commands.specs.declared.Outcome.the-variants.{Number, Compacted, Damaged, Refused, Done, Failed}
+
+-- the answer that an outcome tells; a failure of the tool's own is no answer of a call and stands with Done
+abbrev pub told : Outcome → Answer
+told (Number n) = done (n ∷ [])
+told (Compacted t) = done (t .anchors ∷ t .counters ∷ [])
+told (Damaged t) = refused 13 (t .anchors ∷ t .counters ∷ [])
+told (Refused r room) = refusal r
+told Done = done []
+told Failed = done []
+
+-- an insert into a store is the call with the store's p; what is no store is refused by 10 or 11 and left
+abbrev pub insertTold : Checked → List ℕ → List ℕ → Field → ℕ → List ℕ → List ℕ → List ℕ → Answer → List ℕ → Type 0
+insertTold (Fit x) before key f u nonce ids nonces a after =
+    Step program (Call.insert key f (x .p) u nonce ids nonces) before (record { answer = a; output = [] }) after
+insertTold (Refused₀ r) before key f u nonce ids nonces a after = (a ≡ refusal r) × (after ≡ before)

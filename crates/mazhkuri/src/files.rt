@@ -1,0 +1,245 @@
+// Files and randomness. No contract can speak of what is read or written: a function says of what it
+// gives back its length or its range, and of an answer that the system gives, nothing.
+use libc::STDERR_FILENO;
+ghost use mathlib.Core.Path.{_≡_};
+ghost use Prim.Native.Nat.{_≤_, min};
+ghost use lib.ListN.{length};
+ghost use Rattle.io.specs.Counts.{Counts};
+
+// The longest path that the system takes, its 0 among it.
+const PATH: usize = 4096;
+
+// Room for a path and an ending.
+const NAME: usize = 4112;
+
+// How many bytes of a file stand at the start of the lent slice, and whether that is all that was asked.
+pub struct Loaded {
+    pub n: usize,
+    pub whole: bool,
+}
+
+fn least(a: usize, b: usize) -> usize
+    ensures { λ r. ⌜ r ≡ min a b ⌝ }
+{
+    if a < b { a } else { b }
+}
+
+// Says what could not be done with a file, and why.
+pub fn report(what: &[u8], path: &[u8])
+    ensures { λ r. ⌜ r ≡ tt ⌝ }
+{
+    io::write_all(STDERR_FILENO, b"cannot ");
+    io::write_all(STDERR_FILENO, what);
+    io::write_all(STDERR_FILENO, b" ");
+    os::fail(path);
+}
+
+// Whether nothing is left to read: a read that fails is told from the end.
+fn is_at_end(fd: i32, path: &[u8]) -> bool {
+    let mut one = [0u8; 1];
+    let got = libc::read(fd, &mut one);
+    if got < 0 {
+        report(b"read", path);
+    }
+    got == 0
+}
+
+// Reads a file, as far as there is room.
+pub fn load(path: &[u8], to: &mut [u8]) -> Loaded
+    ensures { λ r. ⌜ Counts (r .n) (now (to .exit)) ⌝ }
+{
+    let fd = os::open_read(path);
+    if fd < 0 {
+        report(b"open", path);
+        return Loaded { n: 0, whole: false };
+    }
+    let n = io::read_full(fd, to);
+    let mut whole = true;
+    if n < to.len() {
+        whole = is_at_end(fd, path);
+    }
+    libc::close(fd);
+    Loaded { n, whole }
+}
+
+// Fills a slice of at most 256 bytes with random ones.
+fn draw(to: &mut [u8]) -> bool
+    ensures { λ _. ⌜ length (now (to .exit)) ≡ length (now (to .entry)) ⌝ }
+{
+    if libc::getentropy(to) < 0 {
+        report(b"get random bytes from", b"the system");
+        return false;
+    }
+    true
+}
+
+// Fills a slice with random bytes, of which the system gives 256 at a time.
+pub fn randomize(to: &mut [u8]) -> bool
+    ensures { λ _. ⌜ length (now (to .exit)) ≡ length (now (to .entry)) ⌝ }
+{
+    let mut at = 0;
+    while at < to.len() {
+        let e = least(at + 256, to.len());
+        if !draw(&mut to[at..e]) {
+            return false;
+        }
+        at = e;
+    }
+    true
+}
+
+// Says that another tool holds the store, and what to do.
+fn report_lock(name: &[u8])
+    ensures { λ r. ⌜ r ≡ tt ⌝ }
+{
+    io::write_all(
+        STDERR_FILENO,
+        b"another mazhkuri is changing this store: try again; if none is running, one was stopped: remove ",
+    );
+    io::write_all(STDERR_FILENO, name);
+    io::write_all(STDERR_FILENO, b"\n");
+}
+
+// Makes the lock file, which must not be there. Nothing is left behind where the answer is false.
+fn make_lock(name: &[u8]) -> bool {
+    let fd = os::create(name);
+    if fd < 0 {
+        if os::errno() == libc::EEXIST {
+            report_lock(name);
+        } else {
+            report(b"make", name);
+        }
+        return false;
+    }
+    libc::close(fd);
+    true
+}
+
+pub fn lock(path: &[u8]) -> bool {
+    if PATH < path.len() {
+        return false;
+    }
+    let mut name = [0u8; NAME];
+    let n = text::beside(path, b".lock", &mut name);
+    make_lock(&name[..n])
+}
+
+pub fn unlock(path: &[u8])
+    ensures { λ r. ⌜ r ≡ tt ⌝ }
+{
+    if PATH < path.len() {
+        return;
+    }
+    let mut name = [0u8; NAME];
+    let n = text::beside(path, b".lock", &mut name);
+    if os::unlink(&name[..n]) < 0 {
+        report(b"remove", &name[..n]);
+    }
+}
+
+// Writes a file's bytes, waits until they have reached the device, and closes it.
+fn put(fd: i32, bytes: &[u8], name: &[u8]) -> bool {
+    if !io::write_all(fd, bytes) {
+        report(b"write", name);
+        libc::close(fd);
+        return false;
+    }
+    if libc::fsync(fd) < 0 {
+        report(b"sync", name);
+        libc::close(fd);
+        return false;
+    }
+    if libc::close(fd) < 0 {
+        report(b"close", name);
+        return false;
+    }
+    true
+}
+
+// Makes a file of its own, for everybody that the umask allows or for the owner alone.
+fn make(name: &[u8], bytes: &[u8], is_private: bool) -> bool {
+    let fd = os::create(name);
+    if fd < 0 {
+        report(b"make", name);
+        return false;
+    }
+    if is_private {
+        if libc::fchmod(fd, 0o600) < 0 {
+            report(b"protect", name);
+            libc::close(fd);
+            os::unlink(name);
+            return false;
+        }
+    }
+    if !put(fd, bytes, name) {
+        os::unlink(name);
+        return false;
+    }
+    true
+}
+
+// Makes a file for the owner alone, which must not be there.
+pub fn make_private(path: &[u8], bytes: &[u8]) -> bool {
+    make(path, bytes, true)
+}
+
+// Waits until the change of a name has reached the device. Where that cannot be had, the change stands
+// all the same, and a message says so.
+fn sync_folder(folder: &[u8])
+    ensures { λ r. ⌜ r ≡ tt ⌝ }
+{
+    let fd = os::open_read(folder);
+    if fd < 0 {
+        report(b"open, to sync it (the change is made),", folder);
+        return;
+    }
+    if libc::fsync(fd) < 0 {
+        report(b"sync (the change is made)", folder);
+    }
+    libc::close(fd);
+}
+
+fn sync_folder_of(path: &[u8])
+    ensures { λ r. ⌜ r ≡ tt ⌝ }
+{
+    let n = text::folder(path);
+    if n == 0 {
+        sync_folder(b".");
+        return;
+    }
+    sync_folder(&path[..n]);
+}
+
+// Puts the file's new bytes under its name at once: whoever opens it finds the old bytes or the new.
+fn swap(path: &[u8], name: &[u8], bytes: &[u8]) -> bool {
+    os::unlink(name);
+    if !make(name, bytes, false) {
+        return false;
+    }
+    if os::rename(name, path) < 0 {
+        report(b"rename to", path);
+        os::unlink(name);
+        return false;
+    }
+    sync_folder_of(path);
+    true
+}
+
+pub fn replace(path: &[u8], bytes: &[u8]) -> bool {
+    if PATH < path.len() {
+        return false;
+    }
+    let mut name = [0u8; NAME];
+    let n = text::beside(path, b".new", &mut name);
+    swap(path, &name[..n], bytes)
+}
+
+// Whether there is nothing of that name.
+pub fn is_missing(path: &[u8]) -> bool {
+    let fd = os::open_read(path);
+    if fd < 0 {
+        return os::errno() == libc::ENOENT;
+    }
+    libc::close(fd);
+    false
+}

@@ -1,0 +1,500 @@
+// The command-line tool: a store in a file, a key in a file. The words of the command line are read by
+// crates/text, the calls are those of crates/calls, and what a refusal says is chosen by crates/advice.
+//
+// A command that changes the store makes STORE.lock, reads the store, makes the call, writes STORE.new,
+// syncs it, renames it to STORE and removes STORE.lock; the answer is printed after that.
+mod files;
+mod say;
+
+use commands::Outcome;
+use files::Loaded;
+use libc::STDERR_FILENO;
+use libc::STDOUT_FILENO;
+use store::Checked;
+use text::Command;
+use text::Parsed;
+ghost use mathlib.Core.Path.{_≡_};
+ghost use mathlib.Core.List.{[]};
+ghost use lib.ListN.{length};
+ghost use Rattle.io.specs.Counts.{Counts};
+ghost use Rattle.scheme.specs.Call.{Call};
+ghost use Rattle.scheme.specs.Run.{Step};
+ghost use Rattle.scheme.specs.Store.{make as makeOf};
+ghost use Rattle.suite.specs.Program.{program};
+ghost use Rattle.client.specs.Making.{fieldOf};
+ghost use Rattle.store.specs.Check.{checkedOf};
+ghost use Rattle.commands.specs.Told.{told, insertTold};
+ghost use Rattle.mazhkuri.specs.Answered.{OrFailed, Answered, foreignOf};
+
+// The longest store, 884,744 bytes, and one byte more: a longer file is refused by its length.
+const SPACE: usize = 884745;
+
+// 65 ids: an insert of more than 64 is refused by their number.
+const IDS: usize = 1040;
+
+// The nonces of 65 ids, their counter and the token.
+const NONCES: usize = 804;
+
+// Room for a store.
+fn space() -> [u8; SPACE]
+    ensures { λ r. ⌜ 884745 ≡ length r ⌝ }
+{
+    [0; SPACE]
+}
+
+// A number of the command line.
+fn number_at(i: usize) -> Parsed {
+    let mut word = io::buffer();
+    let n = os::arg(i, &mut word);
+    let got = text::decimal(&word[..n]);
+    if let Parsed::Bad = got {
+        say::err(b"not a number below 1000000000: ");
+        say::err(&word[..n]);
+        say::err(b"\n");
+    }
+    got
+}
+
+// An id of the command line.
+fn id_at(i: usize, to: &mut [u8]) -> bool
+    requires { ⌜ length (now to) ≡ 16 ⌝ }
+    ensures { λ _. ⌜ length (now (to .exit)) ≡ length (now (to .entry)) ⌝ }
+{
+    let mut word = io::buffer();
+    let n = os::arg(i, &mut word);
+    if text::is_id(&word[..n]) {
+        text::unhex(&word[..n], to);
+        return true;
+    }
+    say::err(b"not an id, which is 32 hex digits: ");
+    say::err(&word[..n]);
+    say::err(b"\n");
+    false
+}
+
+// The ids of the command line, as many as there is room for.
+fn gather(count: usize, to: &mut [u8]) -> Loaded
+    ensures { λ r. ⌜ Counts (r .n) (now (to .exit)) ⌝ }
+{
+    let mut i = 7;
+    let mut at = 0;
+    while i < count {
+        if to.len() < at + 16 {
+            break;
+        }
+        let e = at + 16;
+        if !id_at(i, &mut to[at..e]) {
+            return Loaded { n: 0, whole: false };
+        }
+        at = e;
+        i += 1;
+    }
+    Loaded { n: at, whole: true }
+}
+
+// The key file's bytes, as far as there is room.
+fn key_at(i: usize, to: &mut [u8]) -> Loaded
+    ensures { λ r. ⌜ Counts (r .n) (now (to .exit)) ⌝ }
+{
+    let mut path = io::buffer();
+    let n = os::arg(i, &mut path);
+    files::load(&path[..n], to)
+}
+
+// Keeps what a call left in the store, unless it was refused.
+fn keep(path: &[u8], store: &[u8], o: Outcome) -> Outcome
+    ensures { λ r. ⌜ OrFailed o r ⌝ }
+{
+    if let Outcome::Refused(_, _) = o {
+        return o;
+    }
+    if files::replace(path, store) {
+        return o;
+    }
+    Outcome::Failed
+}
+
+fn insert_with(
+    path: &[u8],
+    store: &mut [u8],
+    key: &[u8],
+    name: &[u8],
+    value: &[u8],
+    u: u64,
+    nonce: &[u8],
+    ids: &[u8],
+    nonces: &[u8],
+) -> Outcome
+    ensures { λ r. ⌜ Answered (λ o. insertTold (checkedOf (now (store .entry))) (now (store .entry)) (now (key .entry)) (fieldOf (now (name .entry)) (now (value .entry))) u (now (nonce .entry)) (now (ids .entry)) (now (nonces .entry)) (told o) (now (store .exit))) r ⌝ }
+{
+    let o = commands::insert(store, key, name, value, u, nonce, ids, nonces);
+    keep(path, store, o)
+}
+
+// Inserts ids under the field of the command line, with fresh nonces: one for the token, one for each
+// id and one for the counter.
+fn insert_loaded(path: &[u8], store: &mut [u8], key: &[u8], u: u64, ids: &[u8]) -> Outcome
+    ensures { λ _. ⌜ length (now (store .exit)) ≡ length (now (store .entry)) ⌝ }
+{
+    if IDS < ids.len() {
+        return Outcome::Failed;
+    }
+    let mut nonce = [0u8; 12];
+    let mut nonces = [0u8; NONCES];
+    if !files::randomize(&mut nonce) {
+        return Outcome::Failed;
+    }
+    if !files::randomize(&mut nonces) {
+        return Outcome::Failed;
+    }
+    let mut name = io::buffer();
+    let a = os::arg(4, &mut name);
+    let mut value = io::buffer();
+    let b = os::arg(5, &mut value);
+    let n = 12 * (ids.len() / 16 + 1);
+    insert_with(
+        path,
+        store,
+        key,
+        &name[..a],
+        &value[..b],
+        u,
+        &nonce,
+        ids,
+        &nonces[..n],
+    )
+}
+
+fn insert_into(path: &[u8], u: u64, ids: &[u8]) -> Outcome {
+    let mut store = space();
+    let got = files::load(path, &mut store);
+    let n = got.n;
+    if !got.whole {
+        return Outcome::Failed;
+    }
+    let mut key = [0u8; 64];
+    let given = key_at(3, &mut key);
+    let k = given.n;
+    if !given.whole {
+        return Outcome::Failed;
+    }
+    insert_loaded(path, &mut store[..n], &key[..k], u, ids)
+}
+
+fn insert(count: usize) -> Outcome {
+    let Parsed::Number(u) = number_at(6) else {
+        return Outcome::Failed;
+    };
+    let mut ids = [0u8; IDS];
+    let got = gather(count, &mut ids);
+    let n = got.n;
+    if !got.whole {
+        return Outcome::Failed;
+    }
+    let mut path = io::buffer();
+    let a = os::arg(2, &mut path);
+    if !files::lock(&path[..a]) {
+        return Outcome::Failed;
+    }
+    let o = insert_into(&path[..a], u, &ids[..n]);
+    files::unlock(&path[..a]);
+    o
+}
+
+fn erase_into(path: &[u8], id: &[u8]) -> Outcome {
+    let mut store = space();
+    let got = files::load(path, &mut store);
+    let n = got.n;
+    if !got.whole {
+        return Outcome::Failed;
+    }
+    erase_loaded(path, &mut store[..n], id)
+}
+
+fn erase_loaded(path: &[u8], store: &mut [u8], id: &[u8]) -> Outcome
+    ensures { λ r. ⌜ Answered (λ o. Step program (Call.erase (now (id .entry))) (now (store .entry)) (record { answer = told o; output = [] }) (now (store .exit))) r ⌝ }
+{
+    let o = commands::erase(store, id);
+    keep(path, store, o)
+}
+
+fn erase() -> Outcome {
+    let mut id = [0u8; 16];
+    if !id_at(3, &mut id) {
+        return Outcome::Failed;
+    }
+    let mut path = io::buffer();
+    let a = os::arg(2, &mut path);
+    if !files::lock(&path[..a]) {
+        return Outcome::Failed;
+    }
+    let o = erase_into(&path[..a], &id);
+    files::unlock(&path[..a]);
+    o
+}
+
+// Whether a compaction was made with another key than the store's.
+fn is_foreign(o: Outcome, logged: usize) -> bool
+    ensures { λ r. ⌜ r ≡ foreignOf o logged ⌝ }
+{
+    match o {
+        Outcome::Compacted(t) => advice::is_stranger(logged, t),
+        Outcome::Number(_) => false,
+        Outcome::Damaged(_) => false,
+        Outcome::Refused(_, _) => false,
+        Outcome::Done => false,
+        Outcome::Failed => false,
+    }
+}
+
+// Such a compaction would empty the log for nothing: it is not kept.
+fn keep_compacted(path: &[u8], store: &[u8], o: Outcome, logged: usize) -> Outcome
+    ensures { λ r. ⌜ OrFailed o r ⌝ }
+{
+    if is_foreign(o, logged) {
+        say::err(
+            b"this key file is not the one that the store was filled with: nothing was changed\n",
+        );
+        return Outcome::Failed;
+    }
+    keep(path, store, o)
+}
+
+fn compact_with(path: &[u8], store: &mut [u8], key: &[u8], nonces: &[u8], logged: usize) -> Outcome
+    ensures { λ r. ⌜ Answered (λ o. Step program (Call.compact (now (key .entry)) (now (nonces .entry))) (now (store .entry)) (record { answer = told o; output = [] }) (now (store .exit))) r ⌝ }
+{
+    let o = commands::compact(store, key, nonces);
+    keep_compacted(path, store, o, logged)
+}
+
+// Compacts with a fresh nonce for each used row of S.
+fn compact_fresh(
+    path: &[u8],
+    store: &mut [u8],
+    key: &[u8],
+    nonces: &mut [u8],
+    logged: usize,
+) -> Outcome
+    ensures { λ _. ⌜ length (now (store .exit)) ≡ length (now (store .entry)) ⌝ }
+    ensures { λ _. ⌜ length (now (nonces .exit)) ≡ length (now (nonces .entry)) ⌝ }
+{
+    if !files::randomize(nonces) {
+        return Outcome::Failed;
+    }
+    compact_with(path, store, key, nonces, logged)
+}
+
+fn compact_loaded(path: &[u8], store: &mut [u8], key: &[u8]) -> Outcome
+    ensures { λ _. ⌜ length (now (store .exit)) ≡ length (now (store .entry)) ⌝ }
+{
+    let mut nonces = io::large_buffer();
+    let room = advice::room_in(store);
+    let logged = room.logged;
+    if 4096 < logged {
+        return Outcome::Failed;
+    }
+    let n = 12 * logged;
+    compact_fresh(path, store, key, &mut nonces[..n], logged)
+}
+
+fn compact_into(path: &[u8]) -> Outcome {
+    let mut store = space();
+    let got = files::load(path, &mut store);
+    let n = got.n;
+    if !got.whole {
+        return Outcome::Failed;
+    }
+    let mut key = [0u8; 64];
+    let given = key_at(3, &mut key);
+    let k = given.n;
+    if !given.whole {
+        return Outcome::Failed;
+    }
+    compact_loaded(path, &mut store[..n], &key[..k])
+}
+
+fn compact() -> Outcome {
+    let mut path = io::buffer();
+    let a = os::arg(2, &mut path);
+    if !files::lock(&path[..a]) {
+        return Outcome::Failed;
+    }
+    let o = compact_into(&path[..a]);
+    files::unlock(&path[..a]);
+    o
+}
+
+// Finds, and prints what was found.
+fn find_loaded(store: &[u8], key: &[u8]) -> Outcome {
+    let mut name = io::buffer();
+    let a = os::arg(4, &mut name);
+    let mut value = io::buffer();
+    let b = os::arg(5, &mut value);
+    let mut ids = io::large_buffer();
+    let o = commands::find(store, key, &name[..a], &value[..b], &mut ids);
+    if let Outcome::Number(n) = o {
+        say::ids(&ids, n);
+        return Outcome::Done;
+    }
+    o
+}
+
+fn count_loaded(store: &[u8], key: &[u8]) -> Outcome {
+    let mut name = io::buffer();
+    let a = os::arg(4, &mut name);
+    let mut value = io::buffer();
+    let b = os::arg(5, &mut value);
+    commands::count(store, key, &name[..a], &value[..b])
+}
+
+fn show_loaded(store: &[u8]) -> Outcome {
+    match store::sizes(store) {
+        Checked::Refused(r) => Outcome::Refused(r, advice::room_in(store)),
+        Checked::Fit(x) => {
+            say::shape(x);
+            Outcome::Done
+        }
+    }
+}
+
+// A command that only reads: the store is read whole, so that no other tool's change is met halfway.
+fn read(c: Command) -> Outcome {
+    let mut path = io::buffer();
+    let a = os::arg(2, &mut path);
+    let mut store = space();
+    let got = files::load(&path[..a], &mut store);
+    let n = got.n;
+    if !got.whole {
+        return Outcome::Failed;
+    }
+    if let Command::Show = c {
+        return show_loaded(&store[..n]);
+    }
+    let mut key = [0u8; 64];
+    let given = key_at(3, &mut key);
+    let k = given.n;
+    if !given.whole {
+        return Outcome::Failed;
+    }
+    if let Command::Find = c {
+        return find_loaded(&store[..n], &key[..k]);
+    }
+    count_loaded(&store[..n], &key[..k])
+}
+
+fn make_in(path: &[u8], store: &mut [u8], p: u64, m: u64, c: u64, s: u64) -> Outcome
+    ensures { λ r. ⌜ Answered (λ o. told o ≡ makeOf (record { p = p; m = m; c = c; s = s }) (now (store .entry)) .answer) r ⌝ }
+    ensures { λ _. ⌜ now (store .exit) ≡ makeOf (record { p = p; m = m; c = c; s = s }) (now (store .entry)) .store ⌝ }
+{
+    let o = commands::make(p, m, c, s, store);
+    keep(path, store, o)
+}
+
+fn make_sized(path: &[u8], p: u64, m: u64, c: u64, s: u64) -> Outcome {
+    if !files::is_missing(path) {
+        say::err(b"the store is there already, or cannot be looked for: choose another name\n");
+        return Outcome::Failed;
+    }
+    let mut store = space();
+    let n = advice::length(m, c, s);
+    make_in(path, &mut store[..n], p, m, c, s)
+}
+
+fn make() -> Outcome {
+    let Parsed::Number(p) = number_at(3) else {
+        return Outcome::Failed;
+    };
+    let Parsed::Number(m) = number_at(4) else {
+        return Outcome::Failed;
+    };
+    let Parsed::Number(c) = number_at(5) else {
+        return Outcome::Failed;
+    };
+    let Parsed::Number(s) = number_at(6) else {
+        return Outcome::Failed;
+    };
+    let mut path = io::buffer();
+    let a = os::arg(2, &mut path);
+    if !files::lock(&path[..a]) {
+        return Outcome::Failed;
+    }
+    let o = make_sized(&path[..a], p, m, c, s);
+    files::unlock(&path[..a]);
+    o
+}
+
+fn make_key() -> Outcome {
+    let mut path = io::buffer();
+    let a = os::arg(2, &mut path);
+    let mut key = [0u8; 32];
+    if !files::randomize(&mut key) {
+        return Outcome::Failed;
+    }
+    if !files::make_private(&path[..a], &key) {
+        return Outcome::Failed;
+    }
+    Outcome::Done
+}
+
+fn help() -> Outcome {
+    let mut word = io::buffer();
+    let n = os::arg(2, &mut word);
+    match text::command_of(&word[..n]) {
+        Command::Unknown => say::help(),
+        c => say::usage(STDOUT_FILENO, c),
+    }
+    Outcome::Done
+}
+
+fn run(c: Command, count: usize) -> Outcome {
+    match c {
+        Command::New => make(),
+        Command::Key => make_key(),
+        Command::Insert => insert(count),
+        Command::Erase => erase(),
+        Command::Compact => compact(),
+        Command::Help => help(),
+        Command::Unknown => Outcome::Done,
+        _ => read(c),
+    }
+}
+
+// Whether a word of the command line is short enough to be read whole.
+fn word_fits(i: usize) -> bool {
+    let mut word = io::buffer();
+    os::arg(i, &mut word);
+    if os::errno() != 0 {
+        os::fail(b"a word of the command line");
+        return false;
+    }
+    true
+}
+
+fn words_fit(count: usize) -> bool {
+    let mut i = 1;
+    while i < count {
+        if !word_fits(i) {
+            return false;
+        }
+        i += 1;
+    }
+    true
+}
+
+fn main() {
+    let mut word = io::buffer();
+    let n = os::arg(1, &mut word);
+    let c = text::command_of(&word[..n]);
+    let count = os::arg_count();
+    if !text::fit(c, advice::above(count, 2)) {
+        say::err(b"expected: ");
+        say::usage(STDERR_FILENO, c);
+        say::tell(Outcome::Failed, 0);
+        return;
+    }
+    if !words_fit(count) {
+        say::tell(Outcome::Failed, 0);
+        return;
+    }
+    say::tell(run(c, count), advice::above(count, 7) as u64);
+}

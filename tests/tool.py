@@ -1,0 +1,326 @@
+#!/usr/bin/env python3
+"""The command-line tool from outside: the built program target/bin/mazhkuri on files.
+
+  tool.py                 every test, 5 to 70 seconds
+  tool.py --kills N       with as many interrupted runs (default 1000; 300 where they take more than a minute)
+
+Tests: the worked list of document 01 ('A day in the ledger'), bad words, files that are no store,
+a disk that is full, a folder that cannot be written, no randomness, two tools at once, and runs
+interrupted by kill -9. What the tool leaves in a store is read back by the model (tests/model) too,
+which shares no code with it.
+"""
+import argparse
+import hashlib
+import os
+import pathlib
+import random
+import resource
+import shutil
+import stat
+import subprocess
+import sys
+import tempfile
+import threading
+import time
+
+HERE = pathlib.Path(__file__).resolve().parent
+sys.path.insert(0, str(HERE / "model"))
+import scheme  # noqa: E402
+from primitives import Real  # noqa: E402
+
+BUILT = HERE.parent / "target" / "bin" / "mazhkuri"
+NOBODY = 65534
+checks = 0
+
+
+def expect(holds, what):
+    global checks
+    checks += 1
+    if not holds:
+        sys.exit(f"tests/tool.py: FAILED: {what}")
+
+
+def ident(n):
+    """An id that depends on n in every digit."""
+    return hashlib.sha256(n.to_bytes(8, "big")).hexdigest()[:32]
+
+
+class Bench:
+    """A folder with the program, a store and a key."""
+
+    def __init__(self, folder, sizes):
+        self.folder = pathlib.Path(folder)
+        self.program = self.folder / "mazhkuri"
+        self.store = self.folder / "store"
+        self.key = self.folder / "key"
+        shutil.copy(BUILT, self.program)
+        os.chmod(self.folder, 0o755)
+        if sizes:
+            expect(self.run("new", "store", *sizes) == ("", ""), "a new store answers nothing")
+            expect(self.run("key", "key") == ("", ""), "a new key answers nothing")
+
+    def start(self, *words, **more):
+        return subprocess.Popen([self.program, *map(str, words)], cwd=self.folder, stdin=subprocess.DEVNULL,
+                                stdout=subprocess.PIPE, stderr=subprocess.PIPE, text=True, **more)
+
+    def run(self, *words, **more):
+        return self.start(*words, **more).communicate(timeout=60)
+
+    def answer(self, *words):
+        """The answer of a run that says nothing else."""
+        out, err = self.run(*words)
+        expect(err == "", f"{words}: {err}")
+        return out
+
+    def refused(self, words, first, part, **more):
+        """A run that is refused, with a message, and leaves the store as it was."""
+        before = self.store.read_bytes() if self.store.exists() else None
+        out, err = self.run(*words, **more)
+        expect(out == first + "\n" and part in err, f"{words}: {out!r} {err!r}")
+        after = self.store.read_bytes() if self.store.exists() else None
+        expect(before == after, f"{words}: the store changed")
+        left = [p.name for p in self.folder.iterdir() if p.suffix in (".new", ".lock")]
+        expect(not left or "lock" in part, f"{words}: left {left}")
+
+    def found(self, field="hue", value="red"):
+        return self.answer("find", "store", "key", field, value).split()
+
+    def model_finds(self, field="hue", value="red"):
+        """What the model finds in the bytes that the tool left."""
+        model, store = scheme.Scheme(Real), self.store.read_bytes()
+        output = bytearray(16 * 4096)
+        n, = model.find(store, model.find_token(self.key.read_bytes(), field.encode(), value.encode()), output).values
+        return [output[16 * i:16 * i + 16].hex() for i in range(n)]
+
+
+def worked_list(b):
+    """G1 to G8 [01:DY2 to DY9]."""
+    A, B, C, D, E, F, G = (ident(n) for n in range(7))
+
+    def insert(u, *ids):
+        return b.answer("insert", "store", "key", "hue", "red", u, *ids)
+
+    def holds(*ids):
+        expect(b.found() == list(ids), f"find gives {b.found()}")
+
+    expect(stat.S_IMODE(b.key.stat().st_mode) == 0o600, "the key is for its owner alone")
+    expect(insert(0, A, B) == "2\n" and insert(1, C.upper()) == "1\n", "G1 inserts")
+    holds(A, B, C)
+    expect(b.answer("count", "store", "key", "hue", "red") == "3\n", "G1 count")
+    expect(b.answer("erase", "store", B) == "1\n", "G2 erase")
+    holds(A, C)
+    expect(b.answer("count", "store", "key", "hue", "red") == "3\n", "G2 count")
+    expect(b.answer("compact", "store", "key") == "2 2\n", "G3 compaction")
+    holds(A, C)
+    expect(insert(0, D) == "3\n", "G4 insert")
+    holds(A, D, C)
+    b.refused(["insert", "store", "key", "hue", "red", 0, E, F], "refused 15", "15: the store has room for 1 more entries, 2 were given")
+    expect(b.answer("erase", "store", A) == "1\n" and insert(0, E, F) == "5\n", "G6")
+    holds(D, E, F, C)
+    expect(b.answer("erase", "store", C) == "1\n", "G7 erase")
+    small = ["insert", "store", "key", "size", "L", 0, G]
+    b.refused(small, "refused 16", "16: no counter row is free: compact the store")
+    expect(b.answer("compact", "store", "key") == "1 2\n", "G8 compaction")
+    expect(b.answer(*small) == "1\n", "G8 insert")
+    expect(b.found("size", "L") == [G] and b.found("size", "M") == [], "G8 finds")
+    expect(b.model_finds() == b.found() == [D, E, F], "the model finds the same")
+    shown = b.answer("show", "store").splitlines()
+    expect(shown[0] == "a store for shares 0 to 1" and shown[3] == "counters (C) [####################] 4 of 4 rows used, 0 free", f"show: {shown}")
+    expect(b.answer("erase", "store", B) == "0\n", "an id that is not there")
+
+
+def bad_words(b):
+    a = ident(1)
+    b.refused([], "refused", "expected: a command of: new")
+    b.refused(["look"], "refused", "expected: a command of: new")
+    b.refused(["find", "store", "key", "hue"], "refused", "expected: mazhkuri find STORE KEYFILE FIELD VALUE")
+    b.refused(["insert", "store", "key", "hue", "red"], "refused", "expected: mazhkuri insert")
+    b.refused(["insert", "store", "key", "hue", "red", 0], "refused 5", "5: an insert takes 1 to 64 ids")
+    b.refused(["insert", "store", "key", "hue", "red", 0] + [a] * 65, "refused 5", "5: ")
+    b.refused(["insert", "store", "key", "hue", "red", 2, a], "refused 3", "3: SHARE must be 0 to 1")
+    for share in ("", "-1", "1x", "9999999999"):
+        b.refused(["insert", "store", "key", "hue", "red", share, a], "refused", "not a number")
+    for word in ("", a[:31], a + "0", a[:31] + "g"):
+        b.refused(["insert", "store", "key", "hue", "red", 0, a, word], "refused", "not an id")
+        b.refused(["erase", "store", word], "refused", "not an id")
+    b.refused(["find", "store", "key", "", "red"], "refused 2", "2: FIELD")
+    b.refused(["find", "store", "key", "f" * 256, "red"], "refused 2", "2: FIELD")
+    b.refused(["count", "store", "key", "hue", "v" * 1025], "refused 2", "2: FIELD")
+    b.refused(["count", "store", "key", "hue", "v" * 4097], "refused", "File name too long")
+    expect(b.answer("count", "store", "key", "f" * 255, "v" * 1024) == "0\n", "the longest field")
+    b.refused(["new", "store", 1, 4, 4, 4], "refused", "there already")
+    for sizes in ([16, 4, 4, 4], [1, 0, 4, 4], [1, 4, 4097, 4], [1, 4, 4, 99999]):
+        b.refused(["new", "other", *sizes], "refused 7", "7: P must be 0 to 15")
+    b.refused(["key", "key"], "refused", "File exists")
+    (b.folder / "short").write_bytes(b"x" * 31)
+    (b.folder / "long").write_bytes(b"x" * 33)
+    for key in ("short", "long"):
+        b.refused(["find", "store", key, "hue", "red"], "refused 1", "1: the key file must hold 32 bytes")
+        b.refused(["compact", "store", key], "refused 1", "1: ")
+    expect(b.answer("insert", "store", "key", "hue", "red", 0, a) == "1\n", "one logged insert")
+    b.answer("key", "key2")
+    b.refused(["compact", "store", "key2"], "refused", "not the one that the store was filled with")
+    for words in (["help"], ["help", "insert"]):
+        expect("mazhkuri insert STORE" in b.answer(*words), "help")
+
+
+def no_stores(b):
+    """Files that are no store: refused by 10 or 11, and left as they are [01:RS2 RS3]."""
+    good = b.store.read_bytes()
+    commands = [["insert", "store", "key", "hue", "red", 0, ident(1)], ["find", "store", "key", "hue", "red"],
+                ["count", "store", "key", "hue", "red"], ["erase", "store", ident(1)], ["compact", "store", "key"], ["show", "store"]]
+    foreign = random.Random(1).randbytes(len(good))
+    for content in (b"", good[:1], good[:7], good[:8], good[:-1], good + b"\0", b"\2" + good[1:], b"\1\20" + good[2:], foreign, BUILT.read_bytes()):
+        b.store.write_bytes(content)
+        for words in commands:
+            b.refused(words, "refused 10", "10: the file is no store")
+    with open(b.store, "wb") as f:
+        f.truncate(1 << 40)
+    for words in commands:
+        out, err = b.run(*words)
+        expect(out == "refused 10\n" and "10: " in err, f"a huge file: {out!r}")
+    expect(b.store.stat().st_size == 1 << 40, "the huge file changed")
+    b.store.write_bytes(good[:8] + b"\7" + good[9:])
+    for words in commands:
+        b.refused(words, "refused 11", "11: a row of the file is marked neither free nor used")
+    b.store.unlink()
+    for words in commands:
+        b.refused(words, "refused", "cannot open store: No such file")
+    b.store.mkdir()
+    out, err = b.run(*commands[1])
+    expect(out == "refused\n" and "Is a directory" in err, "a folder for a store")
+    b.store.rmdir()
+    b.store.write_bytes(good)
+    b.store.chmod(0o644)
+
+
+def no_room(b):
+    """A write that fails: the store is as it was."""
+    insert = ["insert", "store", "key", "hue", "red", 0, ident(2)]
+    changing = [insert, ["erase", "store", ident(1)], ["compact", "store", "key"]]
+    for limit in (0, 1, 500):
+        for words in changing:
+            b.refused(words, "refused", "cannot write store.new: File too large", restore_signals=False,
+                      preexec_fn=lambda: resource.setrlimit(resource.RLIMIT_FSIZE, (limit, limit)))
+    tried = ["a limit on a file's size"]
+    disk = b.folder / "disk"
+    disk.mkdir()
+    if os.geteuid() == 0 and subprocess.run(["mount", "-t", "tmpfs", "-o", "size=8k", "tmpfs", disk], capture_output=True).returncode == 0:
+        try:
+            shutil.copy(b.store, disk / "store")
+            before = (disk / "store").read_bytes()
+            for n in range(2):
+                try:
+                    (disk / f"filler{n}").write_bytes(b"x" * 4096)
+                except OSError:
+                    pass
+            out, err = b.run("insert", "disk/store", "key", "hue", "red", 0, ident(2))
+            expect(out == "refused\n" and "No space left" in err, f"a full disk: {out!r} {err!r}")
+            expect((disk / "store").read_bytes() == before, "a full disk: the store changed")
+            tried.append("a full file system")
+        finally:
+            subprocess.run(["umount", disk], check=True)
+    if os.geteuid() == 0:
+        os.chmod(b.key, 0o644)
+        for words in changing:
+            b.refused(words, "refused", "cannot make store.lock: Permission denied", user=NOBODY)
+        out, err = b.run("find", "store", "key", "hue", "red", user=NOBODY)
+        expect((out, err) == (ident(1) + "\n", ""), "reading needs no right to write")
+        os.chmod(b.key, 0o600)
+        b.refused(["find", "store", "key", "hue", "red"], "refused", "cannot open key: Permission denied", user=NOBODY)
+        tried.append("a folder that may not be written")
+    if shutil.which("cc"):
+        source, shim = b.folder / "no.c", b.folder / "no.so"
+        source.write_text("int getentropy(void *p, unsigned long n) { return -1; }\n")
+        subprocess.run(["cc", "-shared", "-fPIC", "-o", shim, source], check=True)
+        for words in changing[:1] + changing[2:] + [["key", "key3"]]:
+            b.refused(words, "refused", "cannot get random bytes", env={"LD_PRELOAD": str(shim)})
+        expect(not (b.folder / "key3").exists(), "a key of no randomness")
+        tried.append("no randomness")
+    print("  store unchanged under: " + ", ".join(tried))
+
+
+def at_once(b, tools=4, each=25):
+    """Tools that change one store at the same time: every insert is there once."""
+    met = [0] * tools
+
+    def work(t):
+        for n in range(each):
+            words = ["insert", "store", "key", "hue", "red", t % 2, ident(1000 * t + n)]
+            while True:
+                out, err = b.run(*words)
+                if not out.startswith("refused"):
+                    break
+                expect(out == "refused\n" and "another mazhkuri is changing this store" in err, f"at once: {out!r} {err!r}")
+                met[t] += 1
+
+    threads = [threading.Thread(target=work, args=(t,)) for t in range(tools)]
+    for t in threads:
+        t.start()
+    for t in threads:
+        t.join()
+    ids = sorted(ident(1000 * t + n) for t in range(tools) for n in range(each))
+    expect(sorted(b.found()) == ids, "at once: an update was lost")
+    expect(b.answer("count", "store", "key", "hue", "red") == f"{len(ids)}\n", "at once: count")
+    print(f"  {tools} tools at once: {len(ids)} inserts, lock met {sum(met)} times, lost 0")
+
+
+def interrupted(b, kills):
+    """Runs ended by kill -9 after a random time: what was answered is there, once."""
+    r = random.Random(7)
+    began = time.monotonic()
+    for n in range(5):
+        b.answer("insert", "store", "key", "hue", "red", 0, ident(10 ** 6 + n))
+    usual = (time.monotonic() - began) / 5
+    answered, unanswered = [ident(10 ** 6 + n) for n in range(5)], []
+    ended = locks = halves = compactions = checked = 0
+    for n in range(kills):
+        if 300 <= n and n % 25 == 0 and 60 < time.monotonic() - began:
+            kills = n
+            break
+        compacting = n % 10 == 9
+        new = ident(n)
+        words = ["compact", "store", "key"] if compacting else ["insert", "store", "key", "hue", "red", n % 2, new]
+        run = b.start(*words)
+        time.sleep(r.uniform(0, 1.2 * usual))
+        run.kill()
+        out, err = run.communicate()
+        expect("refused" not in out, f"interrupted: {out!r} {err!r}")
+        ended += run.returncode != 0
+        compactions += compacting
+        if not compacting:
+            (answered if out.endswith("\n") else unanswered).append(new)
+        halves += (b.folder / "store.new").exists()
+        if (b.folder / "store.lock").exists():
+            locks += 1
+            (b.folder / "store.lock").unlink()
+        if n % 25 == 24 or n == kills - 1:
+            found = b.found()
+            checked += len(answered)
+            expect(len(set(found)) == len(found), "interrupted: an id is there twice")
+            expect(set(answered) <= set(found), "interrupted: an id is lost")
+            expect(set(found) <= set(answered) | set(unanswered), "interrupted: an id that was never given")
+    b.answer("compact", "store", "key")
+    expect(b.found() == b.model_finds(), "interrupted: the model finds something else")
+    late = len(set(b.found()) & set(unanswered))
+    print(f"  points interrupted {ended} of {kills} runs ({compactions} of them compactions): {locks} locks and {halves} unfinished files left")
+    print(f"  ids answered {len(answered)}, ids checked {checked}, lost 0, twice 0; inserts ended before their answer {len(unanswered)}, {late} of them made")
+
+
+def main():
+    options = argparse.ArgumentParser()
+    options.add_argument("--kills", type=int, default=1000)
+    kills = options.parse_args().kills
+    if not BUILT.exists():
+        sys.exit("tests/tool.py: there is no target/bin/mazhkuri: run `rt check mazhkuri` first")
+    tests = [("the worked list", worked_list, [1, 4, 4, 4]), ("bad words", bad_words, [1, 4, 4, 4]), ("files that are no store", no_stores, [1, 4, 4, 4]),
+             ("writes that fail", lambda b: (b.answer("insert", "store", "key", "hue", "red", 0, ident(1)), no_room(b)), [1, 8, 8, 8]),
+             ("tools at once", at_once, [1, 200, 200, 200]), ("kill -9", lambda b: interrupted(b, kills), [1, 4096, 512, 512])]
+    for name, test, sizes in tests:
+        with tempfile.TemporaryDirectory() as folder:
+            before, began = checks, time.monotonic()
+            test(Bench(folder, sizes))
+            print(f"tests/tool.py: {name}: {checks - before} checks passed in {time.monotonic() - began:.1f} s", flush=True)
+
+
+main()
