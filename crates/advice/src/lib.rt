@@ -41,7 +41,7 @@ pub fn above(a: usize, b: usize) -> usize
     if b < a { a - b } else { 0 }
 }
 
-fn least(a: usize, b: usize) -> usize
+pub fn least(a: usize, b: usize) -> usize
     ensures { λ r. ⌜ r ≡ min a b ⌝ }
 {
     if a < b { a } else { b }

@@ -15,6 +15,7 @@ use text::Command;
 use text::Parsed;
 ghost use mathlib.Core.Path.{_≡_};
 ghost use mathlib.Core.List.{[]};
+ghost use Prim.Native.Nat.{_≤_};
 ghost use lib.ListN.{length};
 ghost use Rattle.io.specs.Counts.{Counts};
 ghost use Rattle.scheme.specs.Call.{Call};
@@ -23,8 +24,10 @@ ghost use Rattle.scheme.specs.Store.{make as makeOf};
 ghost use Rattle.suite.specs.Program.{program};
 ghost use Rattle.client.specs.Making.{fieldOf};
 ghost use Rattle.store.specs.Check.{checkedOf};
+ghost use Rattle.text.specs.Decimal.{decimalOf};
 ghost use Rattle.commands.specs.Told.{told, insertTold};
-ghost use Rattle.mazhkuri.specs.Answered.{OrFailed, Answered, foreignOf};
+ghost use Rattle.mazhkuri.specs.Words.{OfWord, IdRead, Gathered};
+ghost use Rattle.mazhkuri.specs.Ran.{OfSystem, OrFailed, Attempted, Ran, foreignOf, showOf, InsertedWith, InsertedInto, Inserted, ErasedIn, Erased, CompactedWith, Compacted, FoundIn, CountedIn, ReadBy, MadeAs, Made};
 
 // The longest store, 884,744 bytes, and one byte more: a longer file is refused by its length.
 const SPACE: usize = 884745;
@@ -32,8 +35,8 @@ const SPACE: usize = 884745;
 // 65 ids: an insert of more than 64 is refused by their number.
 const IDS: usize = 1040;
 
-// The nonces of 65 ids, their counter and the token.
-const NONCES: usize = 804;
+// The nonces of 65 ids and their counter.
+const NONCES: usize = 792;
 
 // Room for a store.
 fn space() -> [u8; SPACE]
@@ -43,7 +46,9 @@ fn space() -> [u8; SPACE]
 }
 
 // A number of the command line.
-fn number_at(i: usize) -> Parsed {
+fn number_at(i: usize) -> Parsed
+    ensures { λ r. ⌜ OfWord decimalOf r ⌝ }
+{
     let mut word = io::buffer();
     let n = os::arg(i, &mut word);
     let got = text::decimal(&word[..n]);
@@ -58,6 +63,7 @@ fn number_at(i: usize) -> Parsed {
 // An id of the command line.
 fn id_at(i: usize, to: &mut [u8]) -> bool
     requires { ⌜ length (now to) ≡ 16 ⌝ }
+    ensures { λ r. ⌜ IdRead (now (to .entry)) (now (to .exit)) r ⌝ }
     ensures { λ _. ⌜ length (now (to .exit)) ≡ length (now (to .entry)) ⌝ }
 {
     let mut word = io::buffer();
@@ -74,6 +80,7 @@ fn id_at(i: usize, to: &mut [u8]) -> bool
 
 // The ids of the command line, as many as there is room for.
 fn gather(count: usize, to: &mut [u8]) -> Loaded
+    ensures { λ r. ⌜ Gathered count (length (now (to .entry))) (now (to .exit)) (r .n) (r .whole) ⌝ }
     ensures { λ r. ⌜ Counts (r .n) (now (to .exit)) ⌝ }
 {
     let mut i = 7;
@@ -125,7 +132,7 @@ fn insert_with(
     ids: &[u8],
     nonces: &[u8],
 ) -> Outcome
-    ensures { λ r. ⌜ Answered (λ o. insertTold (checkedOf (now (store .entry))) (now (store .entry)) (now (key .entry)) (fieldOf (now (name .entry)) (now (value .entry))) u (now (nonce .entry)) (now (ids .entry)) (now (nonces .entry)) (told o) (now (store .exit))) r ⌝ }
+    ensures { λ r. ⌜ Attempted (λ o. insertTold (checkedOf (now (store .entry))) (now (store .entry)) (now (key .entry)) (fieldOf (now (name .entry)) (now (value .entry))) u (now (nonce .entry)) (now (ids .entry)) (now (nonces .entry)) (told o) (now (store .exit))) r ⌝ }
 {
     let o = commands::insert(store, key, name, value, u, nonce, ids, nonces);
     keep(path, store, o)
@@ -134,11 +141,9 @@ fn insert_with(
 // Inserts ids under the field of the command line, with fresh nonces: one for the token, one for each
 // id and one for the counter.
 fn insert_loaded(path: &[u8], store: &mut [u8], key: &[u8], u: u64, ids: &[u8]) -> Outcome
-    ensures { λ _. ⌜ length (now (store .exit)) ≡ length (now (store .entry)) ⌝ }
+    requires { ⌜ length (now ids) ≤ 1040 ⌝ }
+    ensures { λ r. ⌜ Attempted (InsertedWith (now (store .entry)) (now (key .entry)) u (now (ids .entry)) (now (store .exit))) r ⌝ }
 {
-    if IDS < ids.len() {
-        return Outcome::Failed;
-    }
     let mut nonce = [0u8; 12];
     let mut nonces = [0u8; NONCES];
     if !files::randomize(&mut nonce) {
@@ -165,7 +170,10 @@ fn insert_loaded(path: &[u8], store: &mut [u8], key: &[u8], u: u64, ids: &[u8]) 
     )
 }
 
-fn insert_into(path: &[u8], u: u64, ids: &[u8]) -> Outcome {
+fn insert_into(path: &[u8], u: u64, ids: &[u8]) -> Outcome
+    requires { ⌜ length (now ids) ≤ 1040 ⌝ }
+    ensures { λ r. ⌜ Attempted (InsertedInto u (now (ids .entry))) r ⌝ }
+{
     let mut store = space();
     let got = files::load(path, &mut store);
     let n = got.n;
@@ -181,7 +189,9 @@ fn insert_into(path: &[u8], u: u64, ids: &[u8]) -> Outcome {
     insert_loaded(path, &mut store[..n], &key[..k], u, ids)
 }
 
-fn insert(count: usize) -> Outcome {
+fn insert(count: usize) -> Outcome
+    ensures { λ r. ⌜ Attempted (Inserted count) r ⌝ }
+{
     let Parsed::Number(u) = number_at(6) else {
         return Outcome::Failed;
     };
@@ -201,7 +211,9 @@ fn insert(count: usize) -> Outcome {
     o
 }
 
-fn erase_into(path: &[u8], id: &[u8]) -> Outcome {
+fn erase_into(path: &[u8], id: &[u8]) -> Outcome
+    ensures { λ r. ⌜ Attempted (ErasedIn (now (id .entry))) r ⌝ }
+{
     let mut store = space();
     let got = files::load(path, &mut store);
     let n = got.n;
@@ -212,13 +224,15 @@ fn erase_into(path: &[u8], id: &[u8]) -> Outcome {
 }
 
 fn erase_loaded(path: &[u8], store: &mut [u8], id: &[u8]) -> Outcome
-    ensures { λ r. ⌜ Answered (λ o. Step program (Call.erase (now (id .entry))) (now (store .entry)) (record { answer = told o; output = [] }) (now (store .exit))) r ⌝ }
+    ensures { λ r. ⌜ Attempted (λ o. Step program (Call.erase (now (id .entry))) (now (store .entry)) (record { answer = told o; output = [] }) (now (store .exit))) r ⌝ }
 {
     let o = commands::erase(store, id);
     keep(path, store, o)
 }
 
-fn erase() -> Outcome {
+fn erase() -> Outcome
+    ensures { λ r. ⌜ Attempted Erased r ⌝ }
+{
     let mut id = [0u8; 16];
     if !id_at(3, &mut id) {
         return Outcome::Failed;
@@ -261,13 +275,13 @@ fn keep_compacted(path: &[u8], store: &[u8], o: Outcome, logged: usize) -> Outco
 }
 
 fn compact_with(path: &[u8], store: &mut [u8], key: &[u8], nonces: &[u8], logged: usize) -> Outcome
-    ensures { λ r. ⌜ Answered (λ o. Step program (Call.compact (now (key .entry)) (now (nonces .entry))) (now (store .entry)) (record { answer = told o; output = [] }) (now (store .exit))) r ⌝ }
+    ensures { λ r. ⌜ Attempted (λ o. Step program (Call.compact (now (key .entry)) (now (nonces .entry))) (now (store .entry)) (record { answer = told o; output = [] }) (now (store .exit))) r ⌝ }
 {
     let o = commands::compact(store, key, nonces);
     keep_compacted(path, store, o, logged)
 }
 
-// Compacts with a fresh nonce for each used row of S.
+// Compacts with fresh nonces.
 fn compact_fresh(
     path: &[u8],
     store: &mut [u8],
@@ -275,7 +289,7 @@ fn compact_fresh(
     nonces: &mut [u8],
     logged: usize,
 ) -> Outcome
-    ensures { λ _. ⌜ length (now (store .exit)) ≡ length (now (store .entry)) ⌝ }
+    ensures { λ r. ⌜ Attempted (λ o. Step program (Call.compact (now (key .entry)) (now (nonces .exit))) (now (store .entry)) (record { answer = told o; output = [] }) (now (store .exit))) r ⌝ }
     ensures { λ _. ⌜ length (now (nonces .exit)) ≡ length (now (nonces .entry)) ⌝ }
 {
     if !files::randomize(nonces) {
@@ -284,20 +298,20 @@ fn compact_fresh(
     compact_with(path, store, key, nonces, logged)
 }
 
+// Compacts with a nonce for each used row of S, of which there are at most 4,096.
 fn compact_loaded(path: &[u8], store: &mut [u8], key: &[u8]) -> Outcome
-    ensures { λ _. ⌜ length (now (store .exit)) ≡ length (now (store .entry)) ⌝ }
+    ensures { λ r. ⌜ Attempted (CompactedWith (now (store .entry)) (now (key .entry)) (now (store .exit))) r ⌝ }
 {
     let mut nonces = io::large_buffer();
     let room = advice::room_in(store);
-    let logged = room.logged;
-    if 4096 < logged {
-        return Outcome::Failed;
-    }
+    let logged = advice::least(room.logged, 4096);
     let n = 12 * logged;
     compact_fresh(path, store, key, &mut nonces[..n], logged)
 }
 
-fn compact_into(path: &[u8]) -> Outcome {
+fn compact_into(path: &[u8]) -> Outcome
+    ensures { λ r. ⌜ Attempted Compacted r ⌝ }
+{
     let mut store = space();
     let got = files::load(path, &mut store);
     let n = got.n;
@@ -313,7 +327,9 @@ fn compact_into(path: &[u8]) -> Outcome {
     compact_loaded(path, &mut store[..n], &key[..k])
 }
 
-fn compact() -> Outcome {
+fn compact() -> Outcome
+    ensures { λ r. ⌜ Attempted Compacted r ⌝ }
+{
     let mut path = io::buffer();
     let a = os::arg(2, &mut path);
     if !files::lock(&path[..a]) {
@@ -325,7 +341,9 @@ fn compact() -> Outcome {
 }
 
 // Finds, and prints what was found.
-fn find_loaded(store: &[u8], key: &[u8]) -> Outcome {
+fn find_loaded(store: &[u8], key: &[u8]) -> Outcome
+    ensures { λ r. ⌜ FoundIn (now (store .entry)) (now (key .entry)) r ⌝ }
+{
     let mut name = io::buffer();
     let a = os::arg(4, &mut name);
     let mut value = io::buffer();
@@ -339,7 +357,9 @@ fn find_loaded(store: &[u8], key: &[u8]) -> Outcome {
     o
 }
 
-fn count_loaded(store: &[u8], key: &[u8]) -> Outcome {
+fn count_loaded(store: &[u8], key: &[u8]) -> Outcome
+    ensures { λ r. ⌜ CountedIn (now (store .entry)) (now (key .entry)) r ⌝ }
+{
     let mut name = io::buffer();
     let a = os::arg(4, &mut name);
     let mut value = io::buffer();
@@ -347,7 +367,9 @@ fn count_loaded(store: &[u8], key: &[u8]) -> Outcome {
     commands::count(store, key, &name[..a], &value[..b])
 }
 
-fn show_loaded(store: &[u8]) -> Outcome {
+fn show_loaded(store: &[u8]) -> Outcome
+    ensures { λ r. ⌜ r ≡ showOf (checkedOf (now (store .entry))) ⌝ }
+{
     match store::sizes(store) {
         Checked::Refused(r) => Outcome::Refused(r, advice::room_in(store)),
         Checked::Fit(x) => {
@@ -358,7 +380,9 @@ fn show_loaded(store: &[u8]) -> Outcome {
 }
 
 // A command that only reads: the store is read whole, so that no other tool's change is met halfway.
-fn read(c: Command) -> Outcome {
+fn read(c: Command) -> Outcome
+    ensures { λ r. ⌜ Attempted (ReadBy c) r ⌝ }
+{
     let mut path = io::buffer();
     let a = os::arg(2, &mut path);
     let mut store = space();
@@ -383,14 +407,16 @@ fn read(c: Command) -> Outcome {
 }
 
 fn make_in(path: &[u8], store: &mut [u8], p: u64, m: u64, c: u64, s: u64) -> Outcome
-    ensures { λ r. ⌜ Answered (λ o. told o ≡ makeOf (record { p = p; m = m; c = c; s = s }) (now (store .entry)) .answer) r ⌝ }
+    ensures { λ r. ⌜ Attempted (λ o. told o ≡ makeOf (record { p = p; m = m; c = c; s = s }) (now (store .entry)) .answer) r ⌝ }
     ensures { λ _. ⌜ now (store .exit) ≡ makeOf (record { p = p; m = m; c = c; s = s }) (now (store .entry)) .store ⌝ }
 {
     let o = commands::make(p, m, c, s, store);
     keep(path, store, o)
 }
 
-fn make_sized(path: &[u8], p: u64, m: u64, c: u64, s: u64) -> Outcome {
+fn make_sized(path: &[u8], p: u64, m: u64, c: u64, s: u64) -> Outcome
+    ensures { λ r. ⌜ Attempted (MadeAs p m c s) r ⌝ }
+{
     if !files::is_missing(path) {
         say::err(b"the store is there already, or cannot be looked for: choose another name\n");
         return Outcome::Failed;
@@ -400,7 +426,9 @@ fn make_sized(path: &[u8], p: u64, m: u64, c: u64, s: u64) -> Outcome {
     make_in(path, &mut store[..n], p, m, c, s)
 }
 
-fn make() -> Outcome {
+fn make() -> Outcome
+    ensures { λ r. ⌜ Attempted Made r ⌝ }
+{
     let Parsed::Number(p) = number_at(3) else {
         return Outcome::Failed;
     };
@@ -423,7 +451,9 @@ fn make() -> Outcome {
     o
 }
 
-fn make_key() -> Outcome {
+fn make_key() -> Outcome
+    ensures { λ r. ⌜ OrFailed Outcome.Done r ⌝ }
+{
     let mut path = io::buffer();
     let a = os::arg(2, &mut path);
     let mut key = [0u8; 32];
@@ -436,7 +466,9 @@ fn make_key() -> Outcome {
     Outcome::Done
 }
 
-fn help() -> Outcome {
+fn help() -> Outcome
+    ensures { λ r. ⌜ r ≡ Outcome.Done ⌝ }
+{
     let mut word = io::buffer();
     let n = os::arg(2, &mut word);
     match text::command_of(&word[..n]) {
@@ -446,7 +478,9 @@ fn help() -> Outcome {
     Outcome::Done
 }
 
-fn run(c: Command, count: usize) -> Outcome {
+fn run(c: Command, count: usize) -> Outcome
+    ensures { λ r. ⌜ Ran c count r ⌝ }
+{
     match c {
         Command::New => make(),
         Command::Key => make_key(),
@@ -460,7 +494,9 @@ fn run(c: Command, count: usize) -> Outcome {
 }
 
 // Whether a word of the command line is short enough to be read whole.
-fn word_fits(i: usize) -> bool {
+fn word_fits(i: usize) -> bool
+    ensures { λ r. ⌜ OfSystem r ⌝ }
+{
     let mut word = io::buffer();
     os::arg(i, &mut word);
     if os::errno() != 0 {
@@ -470,7 +506,9 @@ fn word_fits(i: usize) -> bool {
     true
 }
 
-fn words_fit(count: usize) -> bool {
+fn words_fit(count: usize) -> bool
+    ensures { λ r. ⌜ OfSystem r ⌝ }
+{
     let mut i = 1;
     while i < count {
         if !word_fits(i) {

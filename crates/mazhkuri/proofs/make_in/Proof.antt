@@ -1,0 +1,11 @@
+-- The call's outcome, or a failure.
+use Rattle.mazhkuri.proofs.Attempts.{or-failed}
+use borrow.Author.Needs.{needs}
+use Rattle.mazhkuri.proofs.make_in.Statement.{statement}
+use Rattle.mazhkuri.proofs.make_in.Tie as tie
+
+returns : tie.Need-returns
+returns c = (or-failed (c .before .before .before .before .make .ensures .0) (c .keep .ensures), (c .before .before .before .before .make .ensures .1))
+
+pub make-in-spec : {M : Type 1} → statement M
+make-in-spec = tie.close (tie.spec (λ c κs. search needs) (λ c κs. search needs) (λ c. search needs) returns)

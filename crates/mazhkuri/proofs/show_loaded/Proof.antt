@@ -1,0 +1,16 @@
+-- Each arm knows what the checks gave.
+use mathlib.Core.Path.{sym, _∙_}
+use Rattle.mazhkuri.proofs.Dispatch.{shown-refused, shown-fit}
+use borrow.Author.Needs.{needs}
+use Rattle.mazhkuri.proofs.show_loaded.Statement.{statement}
+use Rattle.mazhkuri.proofs.show_loaded.Tie as tie
+
+returns : tie.Need-returns
+returns c = shown-refused _ _ _ (sym (c .before .before .before .before .sizes .ensures) ∙ c .before .before .r .given .1) (c .room-in .ensures)
+
+returns-2 : tie.Need-returns-2
+returns-2 c = shown-fit _ _ (sym (c .before .before .before .before .sizes .ensures) ∙ c .before .before .x .given .1)
+
+pub show-loaded-spec : {M : Type 1} → statement M
+show-loaded-spec =
+    tie.close (tie.spec (λ c κs. search needs) (λ c. search needs) (λ c κs. search needs) (λ c. search needs) (λ c κs. search needs) returns returns-2)
