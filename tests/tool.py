@@ -5,7 +5,7 @@
   tool.py --kills N       with as many interrupted runs (default 1000; 300 where they take more than a minute)
 
 Tests: the worked list of document 01 ('A day in the ledger'), bad words, files that are no store,
-a disk that is full, a folder that cannot be written, no randomness, two tools at once, and runs
+refusals from the state, the largest store on a small stack, a disk that is full, a folder that cannot be written, no randomness, two tools at once, and runs
 interrupted by kill -9. What the tool leaves in a store is read back by the model (tests/model) too,
 which shares no code with it.
 """
@@ -94,7 +94,7 @@ class Bench:
 
 
 def worked_list(b):
-    """G1 to G8 [01:DY2 to DY9]."""
+    """G1 to G8 [01:DY2 DY3 DY4 DY5 DY6 DY7 DY8 DY9]."""
     A, B, C, D, E, F, G = (ident(n) for n in range(7))
 
     def insert(u, *ids):
@@ -192,6 +192,74 @@ def no_stores(b):
     b.store.rmdir()
     b.store.write_bytes(good)
     b.store.chmod(0o644)
+
+
+def states(b):
+    """13, 14, 16 and 17, with what is said to do [01:RS6 RS7 RS9 RS10 RS13]. 18 cannot be met: the tool lends room for every row of M."""
+    hue = ["insert", "store", "key", "hue", "red", 0]
+    fresh = b.store.read_bytes()
+
+    def store_is(content):
+        b.store.write_bytes(content)
+
+    def forged(count):
+        """A store with a counter of this count under hue=red, share 0, sealed as the rules seal it."""
+        model, store, key = scheme.Scheme(Real), bytearray(fresh), b.key.read_bytes()
+        cl = model.F(model.counter_key(key, b"hue", b"red"), scheme.number(0))
+        model.put_c(store, cl, model.counter_tag(cl, 1), bytes(12), 0, count)
+        return bytes(store)
+
+    store_is(forged(2 ** 32 - 2))
+    expect(b.answer("count", "store", "key", "hue", "red") == "4294967294\n", "a count just below the limit")
+    expect(b.answer(*hue, ident(1)) == "4294967295\n", "the greatest count")
+    b.refused(hue + [ident(2)], "refused 14", "14: the count of this share would pass 4294967295")
+    store_is(forged(2 ** 32))
+    reading = [["count", "store", "key", "hue", "red"], ["find", "store", "key", "hue", "red"]]
+    for words in reading + [hue + [ident(1)]]:
+        b.refused(words, "refused 13", "13: a counter in the file does not hold what was written")
+    store_is(fresh)
+    b.answer(*hue, ident(1))
+    damaged = bytearray(b.store.read_bytes())
+    rows = scheme.tables(damaged)["C"]
+    damaged[rows.start + rows.width * scheme.used(damaged, rows)[0] + 45] ^= 1
+    store_is(damaged)
+    for words in reading + [hue + [ident(2)]]:
+        b.refused(words, "refused 13", "13: ")
+    out, err = b.run("compact", "store", "key")
+    expect(out == "refused 13\n" and err.endswith("before it: 0 0\n"), f"a compaction of a damaged store: {out!r} {err!r}")
+    store_is(fresh)
+    b.answer("insert", "store", "key", "size", "L", 0, ident(1))
+    first, = scheme.used(b.store.read_bytes(), rows)
+    b.answer(*hue, ident(2))
+    damaged = bytearray(b.store.read_bytes())
+    second, = set(scheme.used(damaged, rows)) - {first}
+    damaged[rows.start + rows.width * second + 45] ^= 1
+    store_is(damaged)
+    out, err = b.run("compact", "store", "key")
+    expect(out == "refused 13\n" and err.endswith("before it: 1 1\n"), f"a compaction that meets damage second: {out!r} {err!r}")
+    expect("log      (S) [##########..........] 1 of 2 rows used" in b.answer("show", "store"), "what was treated before the damage stays treated")
+    expect(b.found("size", "L") == [ident(1)], "a field treated before the damage")
+    store_is(fresh)
+    for n in range(2):
+        expect(b.answer(*hue, ident(n)) == f"{n + 1}\n", "an insert for each row of S")
+    b.refused(hue + [ident(3)], "refused 17", "17: no log row is free: compact the store")
+    expect(b.answer("compact", "store", "key") == "1 2\n" and b.answer(*hue, ident(3)) == "3\n", "a compaction frees rows of S")
+    b.answer("compact", "store", "key")
+    for n, field in enumerate(("size", "length")):
+        expect(b.answer("insert", "store", "key", field, "L", 0, ident(4 + n)) == "1\n", "a field's first counter")
+    b.refused(["insert", "store", "key", "mark", "L", 0, ident(6)], "refused 16", "16: no counter row is free: compact the store")
+    b.answer("compact", "store", "key")
+    b.refused(["insert", "store", "key", "mark", "L", 0, ident(6)], "refused 16", "16: no counter row is free: compact does not help")
+
+
+def small_stack(b):
+    """Every command on the largest store with 2 MiB of stack."""
+    ids = [ident(n) for n in range(64)]
+    limit = {"preexec_fn": lambda: resource.setrlimit(resource.RLIMIT_STACK, (2 << 20, 2 << 20))}
+    for words, answer in ([["insert", "store", "key", "hue", "red", 15, *ids], "64\n"], [["find", "store", "key", "hue", "red"], "\n".join(ids) + "\n"],
+                          [["count", "store", "key", "hue", "red"], "64\n"], [["erase", "store", ids[0]], "1\n"], [["compact", "store", "key"], "1 1\n"]):
+        expect(b.run(*words, **limit) == (answer, ""), f"{words[0]} with a small stack")
+    expect(b.run("show", "store", **limit)[0].startswith("a store for shares 0 to 15\n"), "show with a small stack")
 
 
 def no_room(b):
@@ -314,6 +382,7 @@ def main():
     if not BUILT.exists():
         sys.exit("tests/tool.py: there is no target/bin/mazhkuri: run `rt check mazhkuri` first")
     tests = [("the worked list", worked_list, [1, 4, 4, 4]), ("bad words", bad_words, [1, 4, 4, 4]), ("files that are no store", no_stores, [1, 4, 4, 4]),
+             ("refusals from the state", states, [0, 8, 4, 2]), ("the largest store", small_stack, [15, 4096, 4096, 4096]),
              ("writes that fail", lambda b: (b.answer("insert", "store", "key", "hue", "red", 0, ident(1)), no_room(b)), [1, 8, 8, 8]),
              ("tools at once", at_once, [1, 200, 200, 200]), ("kill -9", lambda b: interrupted(b, kills), [1, 4096, 512, 512])]
     for name, test, sizes in tests:
