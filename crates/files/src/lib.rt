@@ -1,10 +1,12 @@
 // Files and randomness. No contract can speak of what is read or written: a function says of what it
-// gives back its length or its range, and of an answer that the system gives, nothing.
+// gives back its length or its range, and of an answer that the system gives, nothing (`OfSystem`).
 use libc::STDERR_FILENO;
 ghost use mathlib.Core.Path.{_≡_};
 ghost use Prim.Native.Nat.{_≤_, min};
-ghost use lib.ListN.{length};
+ghost use lib.ListN.{length, take};
 ghost use Rattle.io.specs.Counts.{Counts};
+ghost use Rattle.files.specs.System.{OfSystem, OfSystemAt};
+ghost use Rattle.files.specs.Names.{lockOf, newOf};
 
 // The longest path that the system takes, its 0 among it.
 const PATH: usize = 4096;
@@ -35,7 +37,9 @@ pub fn report(what: &[u8], path: &[u8])
 }
 
 // Whether nothing is left to read: a read that fails is told from the end.
-fn is_at_end(fd: i32, path: &[u8]) -> bool {
+fn is_at_end(fd: i32, path: &[u8]) -> bool
+    ensures { λ r. ⌜ OfSystem r ⌝ }
+{
     let mut one = [0u8; 1];
     let got = libc::read(fd, &mut one);
     if got < 0 {
@@ -64,6 +68,7 @@ pub fn load(path: &[u8], to: &mut [u8]) -> Loaded
 
 // Fills a slice of at most 256 bytes with random ones.
 fn draw(to: &mut [u8]) -> bool
+    ensures { λ r. ⌜ OfSystem r ⌝ }
     ensures { λ _. ⌜ length (now (to .exit)) ≡ length (now (to .entry)) ⌝ }
 {
     if libc::getentropy(to) < 0 {
@@ -75,6 +80,7 @@ fn draw(to: &mut [u8]) -> bool
 
 // Fills a slice with random bytes, of which the system gives 256 at a time.
 pub fn randomize(to: &mut [u8]) -> bool
+    ensures { λ r. ⌜ OfSystem r ⌝ }
     ensures { λ _. ⌜ length (now (to .exit)) ≡ length (now (to .entry)) ⌝ }
 {
     let mut at = 0;
@@ -86,6 +92,24 @@ pub fn randomize(to: &mut [u8]) -> bool
         at = e;
     }
     true
+}
+
+// The name of the store's lock file. Answers its length.
+fn lock_name(path: &[u8], to: &mut [u8]) -> usize
+    requires { ⌜ (length (now path) ≤ 4096) × (length (now to) ≡ 4112) ⌝ }
+    ensures { λ r. ⌜ take r (now (to .exit)) ≡ lockOf (now (path .entry)) ⌝ }
+    ensures { λ r. ⌜ Counts r (now (to .exit)) ⌝ }
+{
+    text::beside(path, b".lock", to)
+}
+
+// The name of the file that the store's new bytes are written to. Answers its length.
+fn new_name(path: &[u8], to: &mut [u8]) -> usize
+    requires { ⌜ (length (now path) ≤ 4096) × (length (now to) ≡ 4112) ⌝ }
+    ensures { λ r. ⌜ take r (now (to .exit)) ≡ newOf (now (path .entry)) ⌝ }
+    ensures { λ r. ⌜ Counts r (now (to .exit)) ⌝ }
+{
+    text::beside(path, b".new", to)
 }
 
 // Says that another tool holds the store, and what to do.
@@ -101,7 +125,9 @@ fn report_lock(name: &[u8])
 }
 
 // Makes the lock file, which must not be there. Nothing is left behind where the answer is false.
-fn make_lock(name: &[u8]) -> bool {
+fn make_lock(name: &[u8]) -> bool
+    ensures { λ r. ⌜ OfSystem r ⌝ }
+{
     let fd = os::create(name);
     if fd < 0 {
         if os::errno() == libc::EEXIST {
@@ -115,15 +141,19 @@ fn make_lock(name: &[u8]) -> bool {
     true
 }
 
-pub fn lock(path: &[u8]) -> bool {
+// Takes the store for this tool alone, by a file beside it that must not be there.
+pub fn lock(path: &[u8]) -> bool
+    ensures { λ r. ⌜ OfSystemAt (now (path .entry)) r ⌝ }
+{
     if PATH < path.len() {
         return false;
     }
     let mut name = [0u8; NAME];
-    let n = text::beside(path, b".lock", &mut name);
+    let n = lock_name(path, &mut name);
     make_lock(&name[..n])
 }
 
+// Gives the store back.
 pub fn unlock(path: &[u8])
     ensures { λ r. ⌜ r ≡ tt ⌝ }
 {
@@ -131,14 +161,16 @@ pub fn unlock(path: &[u8])
         return;
     }
     let mut name = [0u8; NAME];
-    let n = text::beside(path, b".lock", &mut name);
+    let n = lock_name(path, &mut name);
     if os::unlink(&name[..n]) < 0 {
         report(b"remove", &name[..n]);
     }
 }
 
 // Writes a file's bytes, waits until they have reached the device, and closes it.
-fn put(fd: i32, bytes: &[u8], name: &[u8]) -> bool {
+fn put(fd: i32, bytes: &[u8], name: &[u8]) -> bool
+    ensures { λ r. ⌜ OfSystem r ⌝ }
+{
     if !io::write_all(fd, bytes) {
         report(b"write", name);
         libc::close(fd);
@@ -157,7 +189,9 @@ fn put(fd: i32, bytes: &[u8], name: &[u8]) -> bool {
 }
 
 // Makes a file of its own, for everybody that the umask allows or for the owner alone.
-fn make(name: &[u8], bytes: &[u8], is_private: bool) -> bool {
+fn make(name: &[u8], bytes: &[u8], is_private: bool) -> bool
+    ensures { λ r. ⌜ OfSystem r ⌝ }
+{
     let fd = os::create(name);
     if fd < 0 {
         report(b"make", name);
@@ -179,7 +213,9 @@ fn make(name: &[u8], bytes: &[u8], is_private: bool) -> bool {
 }
 
 // Makes a file for the owner alone, which must not be there.
-pub fn make_private(path: &[u8], bytes: &[u8]) -> bool {
+pub fn make_private(path: &[u8], bytes: &[u8]) -> bool
+    ensures { λ r. ⌜ OfSystem r ⌝ }
+{
     make(path, bytes, true)
 }
 
@@ -211,7 +247,9 @@ fn sync_folder_of(path: &[u8])
 }
 
 // Puts the file's new bytes under its name at once: whoever opens it finds the old bytes or the new.
-fn swap(path: &[u8], name: &[u8], bytes: &[u8]) -> bool {
+fn swap(path: &[u8], name: &[u8], bytes: &[u8]) -> bool
+    ensures { λ r. ⌜ OfSystem r ⌝ }
+{
     os::unlink(name);
     if !make(name, bytes, false) {
         return false;
@@ -225,17 +263,22 @@ fn swap(path: &[u8], name: &[u8], bytes: &[u8]) -> bool {
     true
 }
 
-pub fn replace(path: &[u8], bytes: &[u8]) -> bool {
+// Gives the store new bytes.
+pub fn replace(path: &[u8], bytes: &[u8]) -> bool
+    ensures { λ r. ⌜ OfSystemAt (now (path .entry)) r ⌝ }
+{
     if PATH < path.len() {
         return false;
     }
     let mut name = [0u8; NAME];
-    let n = text::beside(path, b".new", &mut name);
+    let n = new_name(path, &mut name);
     swap(path, &name[..n], bytes)
 }
 
 // Whether there is nothing of that name.
-pub fn is_missing(path: &[u8]) -> bool {
+pub fn is_missing(path: &[u8]) -> bool
+    ensures { λ r. ⌜ OfSystem r ⌝ }
+{
     let fd = os::open_read(path);
     if fd < 0 {
         return os::errno() == libc::ENOENT;
