@@ -240,6 +240,37 @@ def no_room(b):
     print("  store unchanged under: " + ", ".join(tried))
 
 
+def modes(b):
+    """A store that is replaced keeps owner, group and mode; where it may not, the mode is narrowed."""
+    def has():
+        s = b.store.stat()
+        return s.st_uid, s.st_gid, stat.S_IMODE(s.st_mode)
+
+    def kept(mode, uid, gid, then, **who):
+        for n, words in enumerate((["insert", "store", "key", "hue", "red", 0, ident(1)], ["erase", "store", ident(1)], ["compact", "store", "key"])):
+            os.chown(b.store, uid, gid)
+            os.chmod(b.store, mode)
+            out, err = b.run(*words, **who)
+            expect(err == "" and not out.startswith("refused"), f"modes: {words}: {out!r} {err!r}")
+            expect(has() == then, f"modes: {words} on {mode:o}: {has()}, expected {then}")
+
+    me, mine = os.geteuid(), os.getegid()
+    for mask in (0o022, 0o077):
+        b.store.unlink()
+        expect(b.run("new", "store", 1, 64, 64, 64, umask=mask) == ("", "") and has() == (me, mine, 0o666 & ~mask), f"a new store has the umask's mode: {has()}")
+        for mode in (0o600, 0o640, 0o644, 0o664):
+            kept(mode, me, mine, (me, mine, mode), umask=mask)
+    if me == 0:
+        kept(0o640, NOBODY, 12, (NOBODY, 12, 0o640))
+        os.chmod(b.folder, 0o777)
+        os.chmod(b.key, 0o644)
+        nobody = {"user": NOBODY, "group": NOBODY, "extra_groups": [12]}
+        kept(0o664, NOBODY, 12, (NOBODY, 12, 0o664), **nobody)
+        kept(0o6664, 0, 12, (NOBODY, 12, 0o664), **nobody)
+        kept(0o6664, 0, 13, (NOBODY, NOBODY, 0o600), **nobody)
+        kept(0o664, NOBODY, 13, (NOBODY, NOBODY, 0o600), **nobody)
+
+
 def at_once(b, tools=4, each=25):
     """Tools that change one store at the same time: every insert is there once."""
     met = [0] * tools
@@ -315,7 +346,7 @@ def main():
         sys.exit("tests/tool.py: there is no target/bin/mazhkuri: run `rt check mazhkuri` first")
     tests = [("the worked list", worked_list, [1, 4, 4, 4]), ("bad words", bad_words, [1, 4, 4, 4]), ("files that are no store", no_stores, [1, 4, 4, 4]),
              ("writes that fail", lambda b: (b.answer("insert", "store", "key", "hue", "red", 0, ident(1)), no_room(b)), [1, 8, 8, 8]),
-             ("tools at once", at_once, [1, 200, 200, 200]), ("kill -9", lambda b: interrupted(b, kills), [1, 4096, 512, 512])]
+             ("modes", modes, [1, 64, 64, 64]), ("tools at once", at_once, [1, 200, 200, 200]), ("kill -9", lambda b: interrupted(b, kills), [1, 4096, 512, 512])]
     for name, test, sizes in tests:
         with tempfile.TemporaryDirectory() as folder:
             before, began = checks, time.monotonic()

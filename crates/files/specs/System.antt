@@ -6,7 +6,7 @@ use mathlib.Core.List.{List}
 use lib.ListN.{length}
 
 -- an answer that the system gives: nothing is promised of it
-abbrev pub OfSystem : Bool → Type 0
+abbrev pub OfSystem : {A : Type 0} → A → Type 0
 OfSystem answer = Unit {0}
 
 -- such an answer about a path, of which 4,096 bytes at most are taken: a longer one is answered false, and the system is not asked

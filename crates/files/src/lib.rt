@@ -1,6 +1,9 @@
 // Files and randomness. No contract can speak of what is read or written: a function says of what it
 // gives back its length or its range, and of an answer that the system gives, nothing (`OfSystem`).
+mod rights;
+
 use libc::STDERR_FILENO;
+use rights::Rights;
 ghost use mathlib.Core.Path.{_≡_};
 ghost use Prim.Native.Nat.{_≤_, min};
 ghost use lib.ListN.{length, take};
@@ -188,8 +191,8 @@ fn put(fd: i32, bytes: &[u8], name: &[u8]) -> bool
     true
 }
 
-// Makes a file of its own, for everybody that the umask allows or for the owner alone.
-fn make(name: &[u8], bytes: &[u8], is_private: bool) -> bool
+// Makes a file, which must not be there. It has its rights before it has its bytes.
+fn make(name: &[u8], bytes: &[u8], r: Rights) -> bool
     ensures { λ r. ⌜ OfSystem r ⌝ }
 {
     let fd = os::create(name);
@@ -197,13 +200,11 @@ fn make(name: &[u8], bytes: &[u8], is_private: bool) -> bool
         report(b"make", name);
         return false;
     }
-    if is_private {
-        if libc::fchmod(fd, 0o600) < 0 {
-            report(b"protect", name);
-            libc::close(fd);
-            os::unlink(name);
-            return false;
-        }
+    if !rights::set(fd, r) {
+        report(b"protect", name);
+        libc::close(fd);
+        os::unlink(name);
+        return false;
     }
     if !put(fd, bytes, name) {
         os::unlink(name);
@@ -216,7 +217,7 @@ fn make(name: &[u8], bytes: &[u8], is_private: bool) -> bool
 pub fn make_private(path: &[u8], bytes: &[u8]) -> bool
     ensures { λ r. ⌜ OfSystem r ⌝ }
 {
-    make(path, bytes, true)
+    make(path, bytes, rights::private())
 }
 
 // Waits until the change of a name has reached the device. Where that cannot be had, the change stands
@@ -246,12 +247,18 @@ fn sync_folder_of(path: &[u8])
     sync_folder(&path[..n]);
 }
 
-// Puts the file's new bytes under its name at once: whoever opens it finds the old bytes or the new.
+// Puts the file's new bytes under its name at once: whoever opens it finds the old bytes or the new,
+// with the rights of the old file.
 fn swap(path: &[u8], name: &[u8], bytes: &[u8]) -> bool
     ensures { λ r. ⌜ OfSystem r ⌝ }
 {
+    let r = rights::of(path);
+    if let Rights::Unknown = r {
+        report(b"look at", path);
+        return false;
+    }
     os::unlink(name);
-    if !make(name, bytes, false) {
+    if !make(name, bytes, r) {
         return false;
     }
     if os::rename(name, path) < 0 {
