@@ -79,7 +79,7 @@ class Bench:
         expect(out == first + "\n" and part in err, f"{words}: {out!r} {err!r}")
         after = self.store.read_bytes() if self.store.exists() else None
         expect(before == after, f"{words}: the store changed")
-        left = [p.name for p in self.folder.iterdir() if p.suffix in (".new", ".lock")]
+        left = [p.name for p in self.folder.iterdir() if p.suffix in (".new", ".lock") or len(p.suffix) == 7]
         expect(not left or "lock" in part, f"{words}: left {left}")
 
     def found(self, field="hue", value="red"):
@@ -269,6 +269,16 @@ def modes(b):
         kept(0o6664, 0, 12, (NOBODY, 12, 0o664), **nobody)
         kept(0o6664, 0, 13, (NOBODY, NOBODY, 0o600), **nobody)
         kept(0o664, NOBODY, 13, (NOBODY, NOBODY, 0o600), **nobody)
+    if shutil.which("cc"):
+        # a file that others may open when its mode is set could be read by them later
+        source, shim = b.folder / "early.c", b.folder / "early.so"
+        source.write_text("#include <sys/stat.h>\n#include <sys/syscall.h>\n#include <unistd.h>\n"
+                          "int fchmod(int fd, mode_t mode) { struct stat s; if (fstat(fd, &s) || (s.st_mode & 077)) write(2, \"open to others\\n\", 15);\n"
+                          "    return syscall(SYS_fchmod, fd, mode); }\n")
+        subprocess.run(["cc", "-w", "-shared", "-fPIC", "-o", shim, source], check=True)
+        kept(0o600, me, mine, (me, mine, 0o600), umask=0o022, env={"LD_PRELOAD": str(shim)})
+        expect(b.run("key", "key2", umask=0o022, env={"LD_PRELOAD": str(shim)}) == ("", ""), "a key is never open to others")
+    expect(not [p.name for p in b.folder.iterdir() if p.suffix in (".new", ".lock") or len(p.suffix) == 7], "modes: something is left behind")
 
 
 def at_once(b, tools=4, each=25):

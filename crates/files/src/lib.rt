@@ -9,13 +9,13 @@ ghost use Prim.Native.Nat.{_≤_, min};
 ghost use lib.ListN.{length, take};
 ghost use Rattle.io.specs.Counts.{Counts};
 ghost use Rattle.files.specs.System.{OfSystem, OfSystemAt};
-ghost use Rattle.files.specs.Names.{lockOf, newOf};
+ghost use Rattle.files.specs.Names.{lockOf, newOf, temporaryOf};
 
 // The longest path that the system takes, its 0 among it.
 const PATH: usize = 4096;
 
-// Room for a path and an ending.
-const NAME: usize = 4112;
+// Room for a path and what is put to it.
+const NAME: usize = 4120;
 
 // How many bytes of a file stand at the start of the lent slice, and whether that is all that was asked.
 pub struct Loaded {
@@ -99,7 +99,7 @@ pub fn randomize(to: &mut [u8]) -> bool
 
 // The name of the store's lock file. Answers its length.
 fn lock_name(path: &[u8], to: &mut [u8]) -> usize
-    requires { ⌜ (length (now path) ≤ 4096) × (length (now to) ≡ 4112) ⌝ }
+    requires { ⌜ (length (now path) ≤ 4096) × (length (now to) ≡ 4120) ⌝ }
     ensures { λ r. ⌜ take r (now (to .exit)) ≡ lockOf (now (path .entry)) ⌝ }
     ensures { λ r. ⌜ Counts r (now (to .exit)) ⌝ }
 {
@@ -108,11 +108,22 @@ fn lock_name(path: &[u8], to: &mut [u8]) -> usize
 
 // The name of the file that the store's new bytes are written to. Answers its length.
 fn new_name(path: &[u8], to: &mut [u8]) -> usize
-    requires { ⌜ (length (now path) ≤ 4096) × (length (now to) ≡ 4112) ⌝ }
+    requires { ⌜ (length (now path) ≤ 4096) × (length (now to) ≡ 4120) ⌝ }
     ensures { λ r. ⌜ take r (now (to .exit)) ≡ newOf (now (path .entry)) ⌝ }
     ensures { λ r. ⌜ Counts r (now (to .exit)) ⌝ }
+    ensures { λ r. ⌜ r ≤ 4101 ⌝ }
 {
     text::beside(path, b".new", to)
+}
+
+// The name that a file of that name is made under, in the same folder. Answers its length.
+fn temporary_name(name: &[u8], to: &mut [u8]) -> usize
+    requires { ⌜ (length (now name) ≤ 4101) × (length (now to) ≡ 4120) ⌝ }
+    ensures { λ r. ⌜ take r (now (to .exit)) ≡ temporaryOf (now (name .entry)) ⌝ }
+    ensures { λ r. ⌜ Counts r (now (to .exit)) ⌝ }
+{
+    let n = text::folder(name);
+    text::beside(&name[..n], b"mazhkuri.XXXXXX", to)
 }
 
 // Says that another tool holds the store, and what to do.
@@ -191,16 +202,55 @@ fn put(fd: i32, bytes: &[u8], name: &[u8]) -> bool
     true
 }
 
-// Makes a file, which must not be there. It has its rights before it has its bytes.
-fn make(name: &[u8], bytes: &[u8], r: Rights) -> bool
+// Makes a file under a name of its own, and gives it the other name, of another file if there is one.
+fn create_renamed(temporary: &mut [u8], name: &[u8]) -> i32
+    ensures { λ r. ⌜ OfSystem r ⌝ }
+    ensures { λ _. ⌜ length (now (temporary .exit)) ≡ length (now (temporary .entry)) ⌝ }
+{
+    let fd = os::create_temp(temporary);
+    if fd < 0 {
+        return fd;
+    }
+    if os::rename(temporary, name) < 0 {
+        os::unlink(temporary);
+        libc::close(fd);
+        return -1;
+    }
+    fd
+}
+
+// Makes a file that nobody but its owner can open. One that is made under its name has the umask's
+// mode at first: who opens it then can read it ever after.
+fn create_closed(name: &[u8]) -> i32
+    requires { ⌜ length (now name) ≤ 4101 ⌝ }
     ensures { λ r. ⌜ OfSystem r ⌝ }
 {
-    let fd = os::create(name);
+    let mut temporary = [0u8; NAME];
+    let n = temporary_name(name, &mut temporary);
+    create_renamed(&mut temporary[..n], name)
+}
+
+fn create(name: &[u8], wanted: Rights) -> i32
+    requires { ⌜ length (now name) ≤ 4101 ⌝ }
+    ensures { λ r. ⌜ OfSystem r ⌝ }
+{
+    if let Rights::Fresh = wanted {
+        return os::create(name);
+    }
+    create_closed(name)
+}
+
+// Makes a file, which has its rights before it has its bytes.
+fn make(name: &[u8], bytes: &[u8], wanted: Rights) -> bool
+    requires { ⌜ length (now name) ≤ 4101 ⌝ }
+    ensures { λ r. ⌜ OfSystem r ⌝ }
+{
+    let fd = create(name, wanted);
     if fd < 0 {
         report(b"make", name);
         return false;
     }
-    if !rights::set(fd, r) {
+    if !rights::set(fd, wanted) {
         report(b"protect", name);
         libc::close(fd);
         os::unlink(name);
@@ -215,9 +265,22 @@ fn make(name: &[u8], bytes: &[u8], r: Rights) -> bool
 
 // Makes a file for the owner alone, which must not be there.
 pub fn make_private(path: &[u8], bytes: &[u8]) -> bool
-    ensures { λ r. ⌜ OfSystem r ⌝ }
+    ensures { λ r. ⌜ OfSystemAt (now (path .entry)) r ⌝ }
 {
-    make(path, bytes, rights::private())
+    if PATH < path.len() {
+        return false;
+    }
+    let fd = os::create(path);
+    if fd < 0 {
+        report(b"make", path);
+        return false;
+    }
+    libc::close(fd);
+    if !make(path, bytes, rights::private()) {
+        os::unlink(path);
+        return false;
+    }
+    true
 }
 
 // Waits until the change of a name has reached the device. Where that cannot be had, the change stands
@@ -250,6 +313,7 @@ fn sync_folder_of(path: &[u8])
 // Puts the file's new bytes under its name at once: whoever opens it finds the old bytes or the new,
 // with the rights of the old file.
 fn swap(path: &[u8], name: &[u8], bytes: &[u8]) -> bool
+    requires { ⌜ length (now name) ≤ 4101 ⌝ }
     ensures { λ r. ⌜ OfSystem r ⌝ }
 {
     let r = rights::of(path);
