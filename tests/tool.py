@@ -79,7 +79,7 @@ class Bench:
         expect(out == first + "\n" and part in err, f"{words}: {out!r} {err!r}")
         after = self.store.read_bytes() if self.store.exists() else None
         expect(before == after, f"{words}: the store changed")
-        left = [p.name for p in self.folder.iterdir() if p.suffix in (".new", ".lock")]
+        left = [p.name for p in self.folder.iterdir() if p.suffix in (".new", ".lock") or len(p.suffix) == 7]
         expect(not left or "lock" in part, f"{words}: left {left}")
 
     def found(self, field="hue", value="red"):
@@ -308,6 +308,47 @@ def no_room(b):
     print("  store unchanged under: " + ", ".join(tried))
 
 
+def modes(b):
+    """A store that is replaced keeps owner, group and mode; where it may not, the mode is narrowed."""
+    def has():
+        s = b.store.stat()
+        return s.st_uid, s.st_gid, stat.S_IMODE(s.st_mode)
+
+    def kept(mode, uid, gid, then, **who):
+        for n, words in enumerate((["insert", "store", "key", "hue", "red", 0, ident(1)], ["erase", "store", ident(1)], ["compact", "store", "key"])):
+            os.chown(b.store, uid, gid)
+            os.chmod(b.store, mode)
+            out, err = b.run(*words, **who)
+            expect(err == "" and not out.startswith("refused"), f"modes: {words}: {out!r} {err!r}")
+            expect(has() == then, f"modes: {words} on {mode:o}: {has()}, expected {then}")
+
+    me, mine = os.geteuid(), os.getegid()
+    for mask in (0o022, 0o077):
+        b.store.unlink()
+        expect(b.run("new", "store", 1, 64, 64, 64, umask=mask) == ("", "") and has() == (me, mine, 0o666 & ~mask), f"a new store has the umask's mode: {has()}")
+        for mode in (0o600, 0o640, 0o644, 0o664):
+            kept(mode, me, mine, (me, mine, mode), umask=mask)
+    if me == 0:
+        kept(0o640, NOBODY, 12, (NOBODY, 12, 0o640))
+        os.chmod(b.folder, 0o777)
+        os.chmod(b.key, 0o644)
+        nobody = {"user": NOBODY, "group": NOBODY, "extra_groups": [12]}
+        kept(0o664, NOBODY, 12, (NOBODY, 12, 0o664), **nobody)
+        kept(0o6664, 0, 12, (NOBODY, 12, 0o664), **nobody)
+        kept(0o6664, 0, 13, (NOBODY, NOBODY, 0o600), **nobody)
+        kept(0o664, NOBODY, 13, (NOBODY, NOBODY, 0o600), **nobody)
+    if shutil.which("cc"):
+        # a file that others may open when its mode is set could be read by them later
+        source, shim = b.folder / "early.c", b.folder / "early.so"
+        source.write_text("#include <sys/stat.h>\n#include <sys/syscall.h>\n#include <unistd.h>\n"
+                          "int fchmod(int fd, mode_t mode) { struct stat s; if (fstat(fd, &s) || (s.st_mode & 077)) write(2, \"open to others\\n\", 15);\n"
+                          "    return syscall(SYS_fchmod, fd, mode); }\n")
+        subprocess.run(["cc", "-w", "-shared", "-fPIC", "-o", shim, source], check=True)
+        kept(0o600, me, mine, (me, mine, 0o600), umask=0o022, env={"LD_PRELOAD": str(shim)})
+        expect(b.run("key", "key2", umask=0o022, env={"LD_PRELOAD": str(shim)}) == ("", ""), "a key is never open to others")
+    expect(not [p.name for p in b.folder.iterdir() if p.suffix in (".new", ".lock") or len(p.suffix) == 7], "modes: something is left behind")
+
+
 def at_once(b, tools=4, each=25):
     """Tools that change one store at the same time: every insert is there once."""
     met = [0] * tools
@@ -384,7 +425,7 @@ def main():
     tests = [("the worked list", worked_list, [1, 4, 4, 4]), ("bad words", bad_words, [1, 4, 4, 4]), ("files that are no store", no_stores, [1, 4, 4, 4]),
              ("refusals from the state", states, [0, 8, 4, 2]), ("the largest store", small_stack, [15, 4096, 4096, 4096]),
              ("writes that fail", lambda b: (b.answer("insert", "store", "key", "hue", "red", 0, ident(1)), no_room(b)), [1, 8, 8, 8]),
-             ("tools at once", at_once, [1, 200, 200, 200]), ("kill -9", lambda b: interrupted(b, kills), [1, 4096, 512, 512])]
+             ("modes", modes, [1, 64, 64, 64]), ("tools at once", at_once, [1, 200, 200, 200]), ("kill -9", lambda b: interrupted(b, kills), [1, 4096, 512, 512])]
     for name, test, sizes in tests:
         with tempfile.TemporaryDirectory() as folder:
             before, began = checks, time.monotonic()

@@ -4,3 +4,4 @@ pub mod Hex
 pub mod Bar
 pub mod Words
 pub mod Folder
+pub mod Ascii

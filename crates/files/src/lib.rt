@@ -1,16 +1,21 @@
 // Files and randomness. No contract can speak of what is read or written: a function says of what it
-// gives back its length or its range, and of an answer that the system gives, nothing.
+// gives back its length or its range, and of an answer that the system gives, nothing (`OfSystem`).
+mod rights;
+
 use libc::STDERR_FILENO;
+use rights::Rights;
 ghost use mathlib.Core.Path.{_≡_};
 ghost use Prim.Native.Nat.{_≤_, min};
-ghost use lib.ListN.{length};
+ghost use lib.ListN.{length, take};
 ghost use Rattle.io.specs.Counts.{Counts};
+ghost use Rattle.files.specs.System.{OfSystem, OfSystemAt};
+ghost use Rattle.files.specs.Names.{lockOf, newOf, temporaryOf};
 
 // The longest path that the system takes, its 0 among it.
 const PATH: usize = 4096;
 
-// Room for a path and an ending.
-const NAME: usize = 4112;
+// Room for a path and what is put to it.
+const NAME: usize = 4120;
 
 // How many bytes of a file stand at the start of the lent slice, and whether that is all that was asked.
 pub struct Loaded {
@@ -35,7 +40,9 @@ pub fn report(what: &[u8], path: &[u8])
 }
 
 // Whether nothing is left to read: a read that fails is told from the end.
-fn is_at_end(fd: i32, path: &[u8]) -> bool {
+fn is_at_end(fd: i32, path: &[u8]) -> bool
+    ensures { λ r. ⌜ OfSystem r ⌝ }
+{
     let mut one = [0u8; 1];
     let got = libc::read(fd, &mut one);
     if got < 0 {
@@ -64,6 +71,7 @@ pub fn load(path: &[u8], to: &mut [u8]) -> Loaded
 
 // Fills a slice of at most 256 bytes with random ones.
 fn draw(to: &mut [u8]) -> bool
+    ensures { λ r. ⌜ OfSystem r ⌝ }
     ensures { λ _. ⌜ length (now (to .exit)) ≡ length (now (to .entry)) ⌝ }
 {
     if libc::getentropy(to) < 0 {
@@ -75,6 +83,7 @@ fn draw(to: &mut [u8]) -> bool
 
 // Fills a slice with random bytes, of which the system gives 256 at a time.
 pub fn randomize(to: &mut [u8]) -> bool
+    ensures { λ r. ⌜ OfSystem r ⌝ }
     ensures { λ _. ⌜ length (now (to .exit)) ≡ length (now (to .entry)) ⌝ }
 {
     let mut at = 0;
@@ -86,6 +95,35 @@ pub fn randomize(to: &mut [u8]) -> bool
         at = e;
     }
     true
+}
+
+// The name of the store's lock file. Answers its length.
+fn lock_name(path: &[u8], to: &mut [u8]) -> usize
+    requires { ⌜ (length (now path) ≤ 4096) × (length (now to) ≡ 4120) ⌝ }
+    ensures { λ r. ⌜ take r (now (to .exit)) ≡ lockOf (now (path .entry)) ⌝ }
+    ensures { λ r. ⌜ Counts r (now (to .exit)) ⌝ }
+{
+    text::beside(path, b".lock", to)
+}
+
+// The name of the file that the store's new bytes are written to. Answers its length.
+fn new_name(path: &[u8], to: &mut [u8]) -> usize
+    requires { ⌜ (length (now path) ≤ 4096) × (length (now to) ≡ 4120) ⌝ }
+    ensures { λ r. ⌜ take r (now (to .exit)) ≡ newOf (now (path .entry)) ⌝ }
+    ensures { λ r. ⌜ Counts r (now (to .exit)) ⌝ }
+    ensures { λ r. ⌜ r ≤ 4101 ⌝ }
+{
+    text::beside(path, b".new", to)
+}
+
+// The name that a file of that name is made under, in the same folder. Answers its length.
+fn temporary_name(name: &[u8], to: &mut [u8]) -> usize
+    requires { ⌜ (length (now name) ≤ 4101) × (length (now to) ≡ 4120) ⌝ }
+    ensures { λ r. ⌜ take r (now (to .exit)) ≡ temporaryOf (now (name .entry)) ⌝ }
+    ensures { λ r. ⌜ Counts r (now (to .exit)) ⌝ }
+{
+    let n = text::folder(name);
+    text::beside(&name[..n], b"mazhkuri.XXXXXX", to)
 }
 
 // Says that another tool holds the store, and what to do.
@@ -101,7 +139,9 @@ fn report_lock(name: &[u8])
 }
 
 // Makes the lock file, which must not be there. Nothing is left behind where the answer is false.
-fn make_lock(name: &[u8]) -> bool {
+fn make_lock(name: &[u8]) -> bool
+    ensures { λ r. ⌜ OfSystem r ⌝ }
+{
     let fd = os::create(name);
     if fd < 0 {
         if os::errno() == libc::EEXIST {
@@ -115,15 +155,19 @@ fn make_lock(name: &[u8]) -> bool {
     true
 }
 
-pub fn lock(path: &[u8]) -> bool {
+// Takes the store for this tool alone, by a file beside it that must not be there.
+pub fn lock(path: &[u8]) -> bool
+    ensures { λ r. ⌜ OfSystemAt (now (path .entry)) r ⌝ }
+{
     if PATH < path.len() {
         return false;
     }
     let mut name = [0u8; NAME];
-    let n = text::beside(path, b".lock", &mut name);
+    let n = lock_name(path, &mut name);
     make_lock(&name[..n])
 }
 
+// Gives the store back.
 pub fn unlock(path: &[u8])
     ensures { λ r. ⌜ r ≡ tt ⌝ }
 {
@@ -131,14 +175,16 @@ pub fn unlock(path: &[u8])
         return;
     }
     let mut name = [0u8; NAME];
-    let n = text::beside(path, b".lock", &mut name);
+    let n = lock_name(path, &mut name);
     if os::unlink(&name[..n]) < 0 {
         report(b"remove", &name[..n]);
     }
 }
 
 // Writes a file's bytes, waits until they have reached the device, and closes it.
-fn put(fd: i32, bytes: &[u8], name: &[u8]) -> bool {
+fn put(fd: i32, bytes: &[u8], name: &[u8]) -> bool
+    ensures { λ r. ⌜ OfSystem r ⌝ }
+{
     if !io::write_all(fd, bytes) {
         report(b"write", name);
         libc::close(fd);
@@ -156,20 +202,59 @@ fn put(fd: i32, bytes: &[u8], name: &[u8]) -> bool {
     true
 }
 
-// Makes a file of its own, for everybody that the umask allows or for the owner alone.
-fn make(name: &[u8], bytes: &[u8], is_private: bool) -> bool {
-    let fd = os::create(name);
+// Makes a file under a name of its own, and gives it the other name, of another file if there is one.
+fn create_renamed(temporary: &mut [u8], name: &[u8]) -> i32
+    ensures { λ r. ⌜ OfSystem r ⌝ }
+    ensures { λ _. ⌜ length (now (temporary .exit)) ≡ length (now (temporary .entry)) ⌝ }
+{
+    let fd = os::create_temp(temporary);
+    if fd < 0 {
+        return fd;
+    }
+    if os::rename(temporary, name) < 0 {
+        os::unlink(temporary);
+        libc::close(fd);
+        return -1;
+    }
+    fd
+}
+
+// Makes a file that nobody but its owner can open. One that is made under its name has the umask's
+// mode at first: who opens it then can read it ever after.
+fn create_closed(name: &[u8]) -> i32
+    requires { ⌜ length (now name) ≤ 4101 ⌝ }
+    ensures { λ r. ⌜ OfSystem r ⌝ }
+{
+    let mut temporary = [0u8; NAME];
+    let n = temporary_name(name, &mut temporary);
+    create_renamed(&mut temporary[..n], name)
+}
+
+fn create(name: &[u8], wanted: Rights) -> i32
+    requires { ⌜ length (now name) ≤ 4101 ⌝ }
+    ensures { λ r. ⌜ OfSystem r ⌝ }
+{
+    if let Rights::Fresh = wanted {
+        return os::create(name);
+    }
+    create_closed(name)
+}
+
+// Makes a file, which has its rights before it has its bytes.
+fn make(name: &[u8], bytes: &[u8], wanted: Rights) -> bool
+    requires { ⌜ length (now name) ≤ 4101 ⌝ }
+    ensures { λ r. ⌜ OfSystem r ⌝ }
+{
+    let fd = create(name, wanted);
     if fd < 0 {
         report(b"make", name);
         return false;
     }
-    if is_private {
-        if libc::fchmod(fd, 0o600) < 0 {
-            report(b"protect", name);
-            libc::close(fd);
-            os::unlink(name);
-            return false;
-        }
+    if !rights::set(fd, wanted) {
+        report(b"protect", name);
+        libc::close(fd);
+        os::unlink(name);
+        return false;
     }
     if !put(fd, bytes, name) {
         os::unlink(name);
@@ -179,8 +264,23 @@ fn make(name: &[u8], bytes: &[u8], is_private: bool) -> bool {
 }
 
 // Makes a file for the owner alone, which must not be there.
-pub fn make_private(path: &[u8], bytes: &[u8]) -> bool {
-    make(path, bytes, true)
+pub fn make_private(path: &[u8], bytes: &[u8]) -> bool
+    ensures { λ r. ⌜ OfSystemAt (now (path .entry)) r ⌝ }
+{
+    if PATH < path.len() {
+        return false;
+    }
+    let fd = os::create(path);
+    if fd < 0 {
+        report(b"make", path);
+        return false;
+    }
+    libc::close(fd);
+    if !make(path, bytes, rights::private()) {
+        os::unlink(path);
+        return false;
+    }
+    true
 }
 
 // Waits until the change of a name has reached the device. Where that cannot be had, the change stands
@@ -210,10 +310,19 @@ fn sync_folder_of(path: &[u8])
     sync_folder(&path[..n]);
 }
 
-// Puts the file's new bytes under its name at once: whoever opens it finds the old bytes or the new.
-fn swap(path: &[u8], name: &[u8], bytes: &[u8]) -> bool {
+// Puts the file's new bytes under its name at once: whoever opens it finds the old bytes or the new,
+// with the rights of the old file.
+fn swap(path: &[u8], name: &[u8], bytes: &[u8]) -> bool
+    requires { ⌜ length (now name) ≤ 4101 ⌝ }
+    ensures { λ r. ⌜ OfSystem r ⌝ }
+{
+    let r = rights::of(path);
+    if let Rights::Unknown = r {
+        report(b"look at", path);
+        return false;
+    }
     os::unlink(name);
-    if !make(name, bytes, false) {
+    if !make(name, bytes, r) {
         return false;
     }
     if os::rename(name, path) < 0 {
@@ -225,17 +334,22 @@ fn swap(path: &[u8], name: &[u8], bytes: &[u8]) -> bool {
     true
 }
 
-pub fn replace(path: &[u8], bytes: &[u8]) -> bool {
+// Gives the store new bytes.
+pub fn replace(path: &[u8], bytes: &[u8]) -> bool
+    ensures { λ r. ⌜ OfSystemAt (now (path .entry)) r ⌝ }
+{
     if PATH < path.len() {
         return false;
     }
     let mut name = [0u8; NAME];
-    let n = text::beside(path, b".new", &mut name);
+    let n = new_name(path, &mut name);
     swap(path, &name[..n], bytes)
 }
 
 // Whether there is nothing of that name.
-pub fn is_missing(path: &[u8]) -> bool {
+pub fn is_missing(path: &[u8]) -> bool
+    ensures { λ r. ⌜ OfSystem r ⌝ }
+{
     let fd = os::open_read(path);
     if fd < 0 {
         return os::errno() == libc::ENOENT;

@@ -1,0 +1,11 @@
+-- The path was seen to be short enough.
+use native.Mathlib.Omega.{arith}
+use borrow.Author.Needs.{needs}
+use Rattle.files.proofs.lock.Statement.{statement}
+use Rattle.files.proofs.lock.Tie as tie
+
+returns-2 : tie.Need-returns-2
+returns-2 c = λ h. absurd (omega arith)
+
+pub lock-spec : {M : Type 1} → statement M
+lock-spec = tie.close (tie.spec (λ c. search needs) (λ c. search needs) (λ c κs. search needs) (λ c. search needs) (λ c. search needs) (λ c κs. search needs) returns-2)
