@@ -214,7 +214,8 @@ def main():
     for kind, strings, _ in records:
         stdin += bytes([kind]) + b"".join(s.encoded() for s in strings)
     stdout = "".join(line + "\n" for _, _, line in records).encode()
-    return settle("vectors.py", __doc__, PROGRAM, stdin, stdout, len(records))
+    return settle("vectors.py", __doc__, PROGRAM, {"stdin": stdin, "stdout": stdout},
+                  "the %d records and lines" % len(records))
 
 
 if __name__ == "__main__":

@@ -516,8 +516,8 @@ def main():
     if missing:
         print("scenario.py: no line has refusal %s" % sorted(missing))
         return 1
-    return settle("scenario.py", __doc__, PROGRAM, number(len(s.records)) + b"".join(s.records),
-                  "".join(s.lines).encode(), len(s.records))
+    derived = {"stdin": number(len(s.records)) + b"".join(s.records), "stdout": "".join(s.lines).encode()}
+    return settle("scenario.py", __doc__, PROGRAM, derived, "the %d records and lines" % len(s.records))
 
 
 if __name__ == "__main__":

@@ -24,11 +24,6 @@ use Rattle.commands.specs.declared.Outcome.{Outcome}
 use Rattle.commands.specs.declared.Outcome.the-variants.{Number, Compacted as Compacted₀, Damaged, Refused, Done, Failed}
 use Rattle.mazhkuri.specs.Words.{OfWord, Ids}
 
--- an answer of the system: which of the two it is, nothing tells
-abbrev pub OfSystem : Bool → Type 0
-OfSystem true = Unit
-OfSystem false = Unit
-
 abbrev pub unlessFailed : (Outcome → Type 0) → Outcome → Type 0
 unlessFailed P (Number n) = P (Number n)
 unlessFailed P (Compacted₀ t) = P (Compacted₀ t)

@@ -25,8 +25,9 @@ ghost use Rattle.client.specs.Making.{fieldOf};
 ghost use Rattle.store.specs.Check.{checkedOf};
 ghost use Rattle.text.specs.Decimal.{decimalOf};
 ghost use Rattle.commands.specs.Told.{told, insertTold};
+ghost use Rattle.files.specs.System.{OfSystem};
 ghost use Rattle.mazhkuri.specs.Words.{OfWord, IdRead, Gathered};
-ghost use Rattle.mazhkuri.specs.Ran.{OfSystem, OrFailed, Attempted, Ran, foreignOf, showOf, InsertedWith, InsertedInto, Inserted, ErasedIn, Erased, CompactedWith, Compacted, FoundIn, CountedIn, ReadBy, MadeAs, Made};
+ghost use Rattle.mazhkuri.specs.Ran.{OrFailed, Attempted, Ran, foreignOf, showOf, InsertedWith, InsertedInto, Inserted, ErasedIn, Erased, CompactedWith, Compacted, FoundIn, CountedIn, ReadBy, MadeAs, Made};
 
 // The longest store, 884,744 bytes, and one byte more: a longer file is refused by its length.
 const SPACE: usize = 884745;

@@ -1,0 +1,38 @@
+"""The files of the program crates/mazhkuri under the gate: a find on the store that document 01's
+worked list leaves after G6, with what the model finds there, and never from our own program.
+
+  tool.py            compares args, data/ and stdout with what is derived here
+  tool.py --write    writes them
+"""
+import pathlib
+import sys
+
+import examples
+import scheme
+from examples import HUE, KEY
+from primitives import Real
+
+TESTS = pathlib.Path(__file__).resolve().parent.parent
+sys.path.append(str(TESTS))
+from derived import settle  # noqa: E402, stands one folder up
+
+
+def main():
+    model = scheme.Scheme(Real)
+    store = bytearray(scheme.length_of(4, 4, 4))
+    model.make(store, 1, 4, 4, 4)
+    for name, call, wanted in examples.worked():
+        if name > "G6":
+            break
+        assert model.call(store, call)[0] == wanted[0], name
+    ids = bytearray(16 * 4)
+    n, = model.find(store, model.find_token(KEY, *HUE), ids).values
+    words = ["find", "store", "key", *(word.decode() for word in HUE)]
+    lines = [ids[16 * i:16 * i + 16].hex() for i in range(n)]
+    derived = {"args": "\n".join(words + [""]).encode(), "data/store": bytes(store), "data/key": KEY,
+               "stdout": "\n".join(lines + [""]).encode()}
+    return settle("tool.py", __doc__, TESTS.parent / "crates" / "mazhkuri", derived, "args, data and lines")
+
+
+if __name__ == "__main__":
+    sys.exit(main())
