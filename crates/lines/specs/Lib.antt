@@ -1,0 +1,4 @@
+pub mod Put
+pub mod Decimal
+pub mod Answer
+pub mod Ids
