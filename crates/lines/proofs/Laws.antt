@@ -1,6 +1,6 @@
 -- Laws of a line that is put together piece by piece.
 use Prim.Native.Nat.{ℕ, zero, suc, _+_, _*_, _≤_, _<_}
-use mathlib.Core.Path.{_≡_, refl, sym, ap, ap₂, _∙_}
+use mathlib.Core.Path.{_≡_, refl, sym, ap, ap₂, subst, _∙_}
 use mathlib.Core.List.{List, [], _∷_, _++_, append-assoc}
 use native.Mathlib.Omega.{arith}
 use native.Mathlib.Numerals.{add-one}
@@ -30,6 +30,10 @@ then {a} {x} {b} {y} {d} {i} {j} {k} p q = record {
   holds = q .holds ∙ ap (λ (l : List ℕ). l ++ y) (p .holds) ∙ append-assoc (take i a) x y;
   room = q .room;
 }
+
+-- the same piece, said otherwise
+pub said : {a text line b : List ℕ} {i k : ℕ} → text ≡ line → Put a i text b k → Put a i line b k
+said {a} {text} {line} {b} {i} {k} e p = subst (λ (l : List ℕ). Put a i l b k) e p
 
 -- a whole line
 pub whole : {a text line b : List ℕ} {k : ℕ} → text ≡ line → Put a 0 text b k → (take k b ≡ line) × Counts k b

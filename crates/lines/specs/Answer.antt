@@ -6,11 +6,7 @@ use Rattle.text.specs.Ascii.{ascii}
 use Rattle.compact.specs.declared.Tally.{Tally}
 use Rattle.commands.specs.declared.Outcome.{Outcome}
 use Rattle.commands.specs.declared.Outcome.the-variants.{Number, Compacted, Damaged, Refused, Done, Failed}
-use Rattle.lines.specs.Decimal.{decimalText}
-
--- a number with a text after it
-abbrev pub counted : ℕ → List ℕ → List ℕ
-counted n text = decimalText n ++ text
+use Rattle.lines.specs.Decimal.{counted}
 
 -- anchors written and counters freed
 abbrev pub tallyLine : Tally → List ℕ

@@ -12,3 +12,7 @@ spelled (suc k) n = cond (ltb n 10) [] (spelled k (n / 10)) ++ ((48 + n % 10) �
 -- no number has more digits than its value and one
 unfoldable pub decimalText : ℕ → List ℕ
 decimalText n = spelled (suc n) n
+
+-- a number with a text after it
+abbrev pub counted : ℕ → List ℕ → List ℕ
+counted n text = decimalText n ++ text

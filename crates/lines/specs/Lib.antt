@@ -2,3 +2,4 @@ pub mod Put
 pub mod Decimal
 pub mod Answer
 pub mod Ids
+pub mod Show

@@ -1,12 +1,15 @@
 // The lines that the command-line tool prints, as bytes at the start of a lent slice. Each function
 // answers how many bytes the line has, and which bytes these are is said by specs/.
+mod show;
+
+pub use show::shape;
 ghost use mathlib.Core.Path.{_≡_};
 ghost use Prim.Native.Nat.{_+_, _*_, _≤_};
 ghost use lib.ListN.{length, take};
 ghost use Rattle.io.specs.Counts.{Counts};
 ghost use Rattle.lines.specs.Put.{Put};
-ghost use Rattle.lines.specs.Decimal.{decimalText};
-ghost use Rattle.lines.specs.Answer.{counted as countedText, tallyLine, refusedLine, answerLine};
+ghost use Rattle.lines.specs.Decimal.{decimalText, counted};
+ghost use Rattle.lines.specs.Answer.{tallyLine, refusedLine, answerLine};
 ghost use Rattle.lines.specs.Ids.{idLine, idLines};
 use commands::Outcome;
 use compact::Tally;
@@ -33,7 +36,7 @@ fn put_number(to: &mut [u8], at: usize, n: u64) -> usize
 // Puts a number and a text.
 fn put_counted(to: &mut [u8], at: usize, n: u64, words: &[u8]) -> usize
     requires { ⌜ at + 20 + length (now words) ≤ length (now to) ⌝ }
-    ensures { λ r. ⌜ (Put (now (to .entry)) at (countedText n (now (words .entry))) (now (to .exit)) r) × (r ≤ at + 20 + length (now (words .entry))) ⌝ }
+    ensures { λ r. ⌜ (Put (now (to .entry)) at (counted n (now (words .entry))) (now (to .exit)) r) × (r ≤ at + 20 + length (now (words .entry))) ⌝ }
 {
     let e = put_number(to, at, n);
     put(to, e, words)

@@ -1,9 +1,7 @@
 -- A number of 64 bits has at most 20 digits.
-use mathlib.Core.Path.{sym, ap, subst, _∙_}
-use mathlib.Core.List.{List}
-use Prim.Native.Nat.{ℕ}
+use mathlib.Core.Path.{_∙_}
 use native.Mathlib.Omega.{arith}
-use Rattle.lines.specs.Put.{Put}
+use Rattle.lines.proofs.Laws.{said}
 use Rattle.lines.proofs.Number.{fewest-text, at-most-20}
 use borrow.Author.Needs.{needs}
 use Rattle.lines.proofs.put_number.Statement.{statement}
@@ -20,7 +18,7 @@ returns c =
     let d = c .before .before .before .before .before .decimal in
     let s = c .before .before .before .before .before .before .before .before in
     let p = c .before .before .put in (
-      subst (λ (l : List ℕ). Put (s .args .to .now) (s .args .at) l (p .last .0) (p .result)) (d .ensures .1 .1 ∙ fewest-text (d .result) (s .args .n) (d .ensures .1 .0)) (p .ensures),
+      said (d .ensures .1 .1 ∙ fewest-text (d .result) (s .args .n) (d .ensures .1 .0)) (p .ensures),
       omega (arith, p .ensures .ends, d .ensures .0, at-most-20 (d .result) (s .args .n) (s .fits .n .fits) (d .ensures .1 .0)),
     )
 
