@@ -3,3 +3,4 @@ pub mod Decimal
 pub mod Answer
 pub mod Ids
 pub mod Show
+pub mod Message

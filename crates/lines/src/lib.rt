@@ -1,7 +1,9 @@
 // The lines that the command-line tool prints, as bytes at the start of a lent slice. Each function
 // answers how many bytes the line has, and which bytes these are is said by specs/.
+mod sentence;
 mod show;
 
+pub use sentence::message;
 pub use show::shape;
 ghost use mathlib.Core.Path.{_≡_};
 ghost use Prim.Native.Nat.{_+_, _*_, _≤_};
