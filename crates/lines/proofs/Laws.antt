@@ -1,7 +1,7 @@
 -- Laws of a line that is put together piece by piece.
-use Prim.Native.Nat.{ℕ, zero, suc, _+_, _*_, _≤_, _<_}
+use Prim.Native.Nat.{ℕ, _+_, _*_, _≤_}
 use mathlib.Core.Path.{_≡_, refl, sym, ap, ap₂, subst, _∙_}
-use mathlib.Core.List.{List, [], _∷_, _++_, append-assoc}
+use mathlib.Core.List.{List, _++_, append-assoc}
 use native.Mathlib.Omega.{arith}
 use native.Mathlib.Numerals.{add-one}
 use lib.ListN.{length, take, drop, length-append}
@@ -16,7 +16,6 @@ use Rattle.lines.specs.Ids.{idLine, idLines}
 pub put-written : (to text after : List ℕ) (at : ℕ) → at + length text ≤ length to → after ≡ written to at text
     → Put to at text after (at + length text)
 put-written to text after at h e =
-    let rest = drop (at + length text) to in
     let front : at + length text ≡ length (take at to ++ text) = sym (length-append (take at to) text ∙ ap (λ (k : ℕ). k + length text) (length-take-le at to (omega arith))) in record {
       ends = refl;
       holds = front-is (at + length text) (take at to ++ text) _ after front (e ∙ sym (append-assoc (take at to) text _));

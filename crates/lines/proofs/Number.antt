@@ -1,9 +1,9 @@
 -- The fewest digits of a number are its decimal text.
-use Prim.Native.Nat.{ℕ, zero, suc, _+_, _*_, _-_, _/_, _%_, _^_, _≤_, _<_}
+use Prim.Native.Nat.{ℕ, zero, suc, _+_, _-_, _/_, _%_, _^_, _≤_, _<_}
 use mathlib.Core.Path.{_≡_, refl, sym, ap, ap₂, _∙_}
 use mathlib.Core.Bool.{Bool, true, false, cond}
 use mathlib.Core.List.{List, [], _∷_, _++_}
-use native.Mathlib.Nat.{pow-succ', mod-lt}
+use native.Mathlib.Nat.{pow-succ'}
 use native.Mathlib.Omega.{arith}
 use lib.Dec.{ltb}
 use lib.Pow.{pow-add}
@@ -24,25 +24,25 @@ fewest-from r n f =
     let e : suc (suc r) - 1 ≡ suc r = omega arith in
     rw e at (f .2 (omega arith))
 
--- r digits, of at most k
-fewest-spelled : (r k n : ℕ) → r ≤ k → Fewest 10 1 n r → digits 10 r n ≡ spelled k n
+-- r digits, with at most k before the last
+fewest-spelled : (r k n : ℕ) → r ≤ suc k → Fewest 10 1 n r → digits 10 r n ≡ spelled k (ltb n 10) n
 unfolding spelled
 fewest-spelled zero k n h f = absurd (omega (arith, f .0))
-fewest-spelled (suc r) zero n h f = absurd (omega arith)
+fewest-spelled (suc zero) zero n h f = ap (λ (d : ℕ). d ∷ []) (glyph-is n)
 fewest-spelled (suc zero) (suc k) n h f =
-    ap (λ b. cond b [] (spelled k (n / 10)) ++ (glyph (n % 10) ∷ [])) (sym (lt-ltb n 10 (f .1)))
-    ∙ ap (λ d. cond (ltb n 10) [] (spelled k (n / 10)) ++ (d ∷ [])) (glyph-is n)
+    ap (λ (d : ℕ). d ∷ []) (glyph-is n) ∙ ap (λ (b : Bool). spelled (suc k) b n) (sym (lt-ltb n 10 (f .1)))
+fewest-spelled (suc (suc r)) zero n h f = absurd (omega arith)
 fewest-spelled (suc (suc r)) (suc k) n h f =
     let big : 10 ^ suc r ≤ n = fewest-from r n f in
     let some : 10 ≤ n = omega (arith, big, pow-succ' 10 r, below-power r) in
     let fewer : Fewest 10 1 (n / 10) (suc r) = (omega arith, omega (arith, f .1, pow-succ' 10 (suc r)), λ _. let e : suc r - 1 ≡ r = omega arith in omega (arith, big, pow-succ' 10 r, ap (λ (j : ℕ). 10 ^ j) e)) in
     ap₂ (λ (l : List ℕ) (d : ℕ). l ++ (d ∷ [])) (fewest-spelled (suc r) k (n / 10) (omega arith) fewer) (glyph-is n)
-    ∙ ap (λ (b : Bool). cond b [] (spelled k (n / 10)) ++ ((48 + n % 10) ∷ [])) (sym (le-ltb n 10 some))
+    ∙ ap (λ (b : Bool). spelled (suc k) b n) (sym (le-ltb n 10 some))
 
--- as many digits as there are, the number has more value
+-- a number has no more digits before the last than its value
 pub fewest-text : (r n : ℕ) → Fewest 10 1 n r → digits 10 r n ≡ decimalText n
 unfolding decimalText
-fewest-text r n f = fewest-spelled r (suc n) n (go r f) f
+fewest-text r n f = fewest-spelled r n n (go r f) f
   where
     go : (r : ℕ) → Fewest 10 1 n r → r ≤ suc n
     go zero f = omega arith
