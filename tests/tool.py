@@ -114,7 +114,7 @@ def worked_list(b):
     holds(A, C)
     expect(insert(0, D) == "3\n", "G4 insert")
     holds(A, D, C)
-    b.refused(["insert", "store", "key", "hue", "red", 0, E, F], "refused 15", "15: the store has room for 1 more entries, 2 were given")
+    b.refused(["insert", "store", "key", "hue", "red", 0, E, F], "refused 15", "15: the store has room for 1 more entry, 2 were given")
     expect(b.answer("erase", "store", A) == "1\n" and insert(0, E, F) == "5\n", "G6")
     holds(D, E, F, C)
     expect(b.answer("erase", "store", C) == "1\n", "G7 erase")

@@ -1,11 +1,9 @@
 -- What `beside` ensures, of the ending's bytes.
-use Rattle.text.specs.Ascii.{ascii}
 use borrow.Author.Needs.{needs}
 use Rattle.files.proofs.lock_name.Statement.{statement}
 use Rattle.files.proofs.lock_name.Tie as tie
 
 returns : tie.Need-returns
-unfolding ascii
 returns c = (c .before .before .beside .ensures .1 .0, c .before .before .beside .ensures .1 .1)
 
 pub lock-name-spec : {M : Type 1} → statement M

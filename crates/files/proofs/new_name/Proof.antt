@@ -1,12 +1,10 @@
 -- What `beside` ensures, of the ending's bytes.
 use native.Mathlib.Omega.{arith}
-use Rattle.text.specs.Ascii.{ascii}
 use borrow.Author.Needs.{needs}
 use Rattle.files.proofs.new_name.Statement.{statement}
 use Rattle.files.proofs.new_name.Tie as tie
 
 returns : tie.Need-returns
-unfolding ascii
 returns c = (c .before .before .beside .ensures .1 .0, (c .before .before .beside .ensures .1 .1, omega arith))
 
 pub new-name-spec : {M : Type 1} → statement M

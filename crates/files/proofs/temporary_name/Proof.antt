@@ -9,7 +9,6 @@ use Rattle.files.proofs.temporary_name.Statement.{statement}
 use Rattle.files.proofs.temporary_name.Tie as tie
 
 returns : tie.Need-returns
-unfolding ascii
 returns c =
     let b = c .before .before in
     let f = b .before .before .before .before in

@@ -1,16 +1,19 @@
--- The place is at most the length.
-use Prim.Native.Nat.{_≤_}
+-- The ids that are left stand from the place on.
+use Prim.Native.Nat.{_+_, _*_, _≤_}
 use lib.ListN.{length}
 use borrow.Author.Needs.{needs}
 use Rattle.mazhkuri.proofs.say.ids.Statement.{statement}
 use Rattle.mazhkuri.proofs.say.ids.Tie as tie
 
 abbrev Inv-loop : tie.InvT-loop
-Inv-loop found n left₀ at₀ left at = at ≤ length found
+Inv-loop found n left₀ at₀ left at = at + 16 * left ≤ length found
 
 abbrev μ-loop : tie.MeasureT-loop
 μ-loop found n left₀ at₀ left at = left
 
 pub ids-spec : {M : Type 1} → statement M
 ids-spec =
-    tie.close (tie.spec Inv-loop μ-loop (λ c. search needs) (λ c. search needs) (λ c. search needs) (λ c. search needs) (λ c. search needs) (λ c. search needs) (λ c. search needs) (λ c κs. search needs) (λ c. search needs) (λ c. search needs) (λ c. search needs) (λ c. search needs))
+    tie.close
+    (tie.spec Inv-loop μ-loop (λ c κs. search needs) (λ c. search needs) (λ c κs. search needs) (λ c. search needs)
+    (λ c. search needs) (λ c. search needs) (λ c. search needs) (λ c. search needs) (λ c κs. search needs) (λ c. search needs)
+    (λ c. search needs) (λ c. search needs) (λ c. search needs))

@@ -1,0 +1,17 @@
+-- Two pieces.
+use native.Mathlib.Omega.{arith}
+use Rattle.lines.proofs.Laws.{then}
+use borrow.Author.Needs.{needs}
+use Rattle.lines.proofs.put_tally.Statement.{statement}
+use Rattle.lines.proofs.put_tally.Tie as tie
+
+returns : tie.Need-returns
+returns c =
+    let p = c .before .before .before .before .before .before .before .put-counted in
+    let q = c .before .before .put-counted2 in
+    (then (p .ensures .0) (q .ensures .0), omega (arith, p .ensures .1, q .ensures .1))
+
+pub put-tally-spec : {M : Type 1} → statement M
+put-tally-spec =
+    tie.close
+    (tie.spec (λ c. search needs) (λ c κs. search needs) (λ c. search needs) (λ c κs. search needs) (λ c. search needs) returns)

@@ -1,0 +1,17 @@
+-- Two pieces.
+use native.Mathlib.Omega.{arith}
+use Rattle.lines.proofs.Laws.{then}
+use borrow.Author.Needs.{needs}
+use Rattle.lines.proofs.show.put_shares.Statement.{statement}
+use Rattle.lines.proofs.show.put_shares.Tie as tie
+
+returns : tie.Need-returns
+returns c =
+    let p = c .before .before .before .before .before .before .before .put in
+    let q = c .before .before .put-counted in
+    (then (p .ensures) (q .ensures .0), omega (arith, p .ensures .ends, q .ensures .1))
+
+pub put-shares-spec : {M : Type 1} → statement M
+put-shares-spec =
+    tie.close
+    (tie.spec (λ c. search needs) (λ c κs. search needs) (λ c. search needs) (λ c κs. search needs) (λ c. search needs) returns)

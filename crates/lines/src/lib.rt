@@ -1,0 +1,106 @@
+// The lines that the command-line tool prints, as bytes at the start of a lent slice. Each function
+// answers how many bytes the line has, and which bytes these are is said by specs/.
+mod sentence;
+mod show;
+
+pub use sentence::message;
+pub use show::shape;
+ghost use mathlib.Core.Path.{_≡_};
+ghost use Prim.Native.Nat.{_+_, _*_, _≤_};
+ghost use lib.ListN.{length, take};
+ghost use Rattle.io.specs.Counts.{Counts};
+ghost use Rattle.lines.specs.Put.{Put};
+ghost use Rattle.lines.specs.Decimal.{decimalText, counted};
+ghost use Rattle.lines.specs.Answer.{tallyLine, refusedLine, answerLine};
+ghost use Rattle.lines.specs.Ids.{idLine, idLines};
+use commands::Outcome;
+use compact::Tally;
+
+// Puts a text after the first `at` bytes.
+fn put(to: &mut [u8], at: usize, words: &[u8]) -> usize
+    requires { ⌜ at + length (now words) ≤ length (now to) ⌝ }
+    ensures { λ r. ⌜ Put (now (to .entry)) at (now (words .entry)) (now (to .exit)) r ⌝ }
+{
+    octets::copy_at(to, at, words);
+    at + words.len()
+}
+
+// Puts a number's decimal digits.
+fn put_number(to: &mut [u8], at: usize, n: u64) -> usize
+    requires { ⌜ at + 20 ≤ length (now to) ⌝ }
+    ensures { λ r. ⌜ (Put (now (to .entry)) at (decimalText n) (now (to .exit)) r) × (r ≤ at + 20) ⌝ }
+{
+    let mut digits = [0u8; 20];
+    let k = io::decimal(n, &mut digits);
+    put(to, at, &digits[..k])
+}
+
+// Puts a number and a text.
+fn put_counted(to: &mut [u8], at: usize, n: u64, words: &[u8]) -> usize
+    requires { ⌜ at + 20 + length (now words) ≤ length (now to) ⌝ }
+    ensures { λ r. ⌜ (Put (now (to .entry)) at (counted n (now (words .entry))) (now (to .exit)) r) × (r ≤ at + 20 + length (now (words .entry))) ⌝ }
+{
+    let e = put_number(to, at, n);
+    put(to, e, words)
+}
+
+fn put_tally(to: &mut [u8], at: usize, t: Tally) -> usize
+    requires { ⌜ at + 42 ≤ length (now to) ⌝ }
+    ensures { λ r. ⌜ (Put (now (to .entry)) at (tallyLine t) (now (to .exit)) r) × (r ≤ at + 42) ⌝ }
+{
+    let e = put_counted(to, at, t.anchors, b" ");
+    put_counted(to, e, t.counters, b"\n")
+}
+
+// The line of a refusal.
+fn put_refused(to: &mut [u8], number: u64) -> usize
+    requires { ⌜ 29 ≤ length (now to) ⌝ }
+    ensures { λ r. ⌜ (Put (now (to .entry)) 0 (refusedLine number) (now (to .exit)) r) × (r ≤ 29) ⌝ }
+{
+    let e = put(to, 0, b"refused ");
+    put_counted(to, e, number, b"\n")
+}
+
+// What standard output gets of an outcome.
+pub fn answer(o: Outcome, to: &mut [u8]) -> usize
+    requires { ⌜ 256 ≤ length (now to) ⌝ }
+    ensures { λ r. ⌜ take r (now (to .exit)) ≡ answerLine o ⌝ }
+    ensures { λ r. ⌜ Counts r (now (to .exit)) ⌝ }
+{
+    match o {
+        Outcome::Number(n) => put_counted(to, 0, n, b"\n"),
+        Outcome::Compacted(t) => put_tally(to, 0, t),
+        Outcome::Damaged(_) => put_refused(to, 13),
+        Outcome::Refused(r, _) => put_refused(to, answer::number(r)),
+        Outcome::Done => 0,
+        Outcome::Failed => put(to, 0, b"refused\n"),
+    }
+}
+
+// An id's line, after the first `at` bytes.
+fn put_id(to: &mut [u8], at: usize, id: &[u8]) -> usize
+    requires { ⌜ (length (now id) ≡ 16) × (at + 33 ≤ length (now to)) ⌝ }
+    ensures { λ r. ⌜ (Put (now (to .entry)) at (idLine (now (id .entry))) (now (to .exit)) r) × (r ≡ at + 33) ⌝ }
+{
+    let mut digits = [0u8; 32];
+    text::hex(id, &mut digits);
+    let e = put(to, at, &digits);
+    put(to, e, b"\n")
+}
+
+// The lines of the first n ids of a slice.
+pub fn ids(found: &[u8], n: usize, to: &mut [u8]) -> usize
+    requires { ⌜ (16 * n ≤ length (now found)) × (33 * n ≤ length (now to)) ⌝ }
+    ensures { λ r. ⌜ take r (now (to .exit)) ≡ idLines n (now (found .entry)) ⌝ }
+    ensures { λ r. ⌜ Counts r (now (to .exit)) ⌝ }
+{
+    let mut at = 0;
+    let mut i = 0;
+    while i < n {
+        let a = 16 * i;
+        let e = a + 16;
+        at = put_id(to, at, &found[a..e]);
+        i += 1;
+    }
+    at
+}
