@@ -5,9 +5,10 @@
   tool.py --kills N       with as many interrupted runs (default 1000; 300 where they take more than a minute)
 
 Tests: the worked list of document 01 ('A day in the ledger'), bad words, files that are no store,
-refusals from the state, the largest store on a small stack, a disk that is full, a folder that cannot be written, no randomness, two tools at once, and runs
-interrupted by kill -9. What the tool leaves in a store is read back by the model (tests/model) too,
-which shares no code with it.
+refusals from the state, the largest store on a small stack, a disk that is full, a folder that cannot
+be written, no randomness, owner and mode, several tools at once, each call of the system failing or
+never reached, and runs interrupted by kill -9. What the tool leaves in a store is read back by the
+model (tests/model) too, which shares no code with it.
 """
 import argparse
 import hashlib
@@ -374,6 +375,112 @@ def at_once(b, tools=4, each=25):
     print(f"  {tools} tools at once: {len(ids)} inserts, lock met {sum(met)} times, lost 0")
 
 
+STOP = """
+#define _GNU_SOURCE
+#include <dlfcn.h>
+#include <errno.h>
+#include <fcntl.h>
+#include <signal.h>
+#include <stdarg.h>
+#include <stdlib.h>
+#include <sys/stat.h>
+#include <unistd.h>
+/* Ends the process before its AT-th call of the system, or lets that call fail where FAIL is set. */
+static int due(void) {
+  static int calls;
+  if (++calls != atoi(getenv("AT"))) return 0;
+  if (getenv("FAIL")) return errno = EIO, 1;
+  return kill(getpid(), SIGKILL), 1;
+}
+#define CALL(type, name, parameters, arguments) \\
+  type name parameters { return due() ? -1 : ((type (*) parameters)dlsym(RTLD_NEXT, #name)) arguments; }
+CALL(int, close, (int fd), (fd))
+CALL(int, fchmod, (int fd, mode_t mode), (fd, mode))
+CALL(int, fchown, (int fd, uid_t owner, gid_t group), (fd, owner, group))
+CALL(int, fstat, (int fd, struct stat *to), (fd, to))
+CALL(int, fsync, (int fd), (fd))
+CALL(int, getentropy, (void *to, size_t n), (to, n))
+CALL(int, mkstemp, (char *name), (name))
+CALL(ssize_t, read, (int fd, void *to, size_t n), (fd, to, n))
+CALL(ssize_t, write, (int fd, const void *from, size_t n), (fd, from, n))
+CALL(int, rename, (const char *from, const char *to), (from, to))
+CALL(int, unlink, (const char *name), (name))
+int open(const char *name, int flags, ...) {
+  va_list more;
+  va_start(more, flags);
+  mode_t mode = va_arg(more, int);
+  va_end(more);
+  return due() ? -1 : ((int (*)(const char *, int, ...))dlsym(RTLD_NEXT, "open"))(name, flags, mode);
+}
+"""
+
+
+def points(b, shim, words, clean, check):
+    """Runs the command once for each call of the system that it makes: ended before it, then with that call failing. Gives
+    how many calls there are."""
+    for fail in ({}, {"FAIL": "1"}):
+        at, met = 0, True
+        while met:
+            at += 1
+            clean()
+            run = b.start(*words, env={"LD_PRELOAD": str(shim), "AT": str(at), **fail})
+            out, err = run.communicate(timeout=60)
+            check(f"{words}, {'failing' if fail else 'ended before'} call {at}", out, err, bool(fail))
+            met = at < calls if fail else run.returncode == -9
+            if not fail:
+                calls = at - 1 + met
+    return calls
+
+
+def every_point(b):
+    """Before each call of the system that a command makes: ended by kill -9 there, or with that call failing. The store is the
+    old one or the new one, the new one where an answer was printed, the old one where the command was refused."""
+    if not shutil.which("cc"):
+        print("  left out: there is no cc")
+        return
+    source, shim = b.folder / "stop.c", b.folder / "stop.so"
+    source.write_text(STOP)
+    subprocess.run(["cc", "-Wall", "-Werror", "-Wno-nonnull-compare", "-shared", "-fPIC", "-o", shim, source, "-ldl"], check=True)
+    inserted = ["insert", "store", "key", "hue", "red", 0]
+    b.answer(*inserted, ident(1), ident(2))
+    begin, calls = b.store.read_bytes(), 0
+
+    def state():
+        return b.found(), b.answer("show", "store")
+
+    def clean():
+        for path in list(b.folder.iterdir()):
+            if path.suffix in (".new", ".lock") or len(path.suffix) == 7 or path.name in ("store2", "key2"):
+                path.unlink()
+        b.store.write_bytes(begin)
+
+    for words in (inserted + [ident(3)], ["erase", "store", ident(1)], ["compact", "store", "key"]):
+        clean()
+        old, answer, new = state(), b.answer(*words), state()
+        expect(old != new, f"{words} changes nothing")
+
+        def check(where, out, err, fail):
+            now = state()
+            expect(now in (old, new), f"{where}: neither the old store nor the new one")
+            expect(now == new or out != answer, f"{where}: answered and not made")
+            expect(now == old or not out.startswith("refused"), f"{where}: refused and made")
+            expect(out in ("", "refused\n", answer), f"{where}: {out!r}")
+            expect(err or not fail or now == new, f"{where}: nothing is said")
+
+        calls += points(b, shim, words, clean, check)
+    for words, size in ((["new", "store2", 1, 4, 4, 4], scheme.length_of(4, 4, 4)), (["key", "key2"], 32)):
+        made = b.folder / words[1]
+
+        def check(where, out, err, fail):
+            # a key's name is taken by an empty file first
+            expect(not made.exists() or made.stat().st_size in (size, 0 if words[0] == "key" else size), f"{where}: half a file")
+            expect(out != "refused\n" or not made.exists(), f"{where}: refused and made")
+            expect(err or not fail or made.stat().st_size == size, f"{where}: nothing is said")
+
+        calls += points(b, shim, words, clean, check)
+    print(f"  every point: ended before each of {calls} calls of the system, and each of these failing; never half a change")
+
+
 def interrupted(b, kills):
     """Runs ended by kill -9 after a random time: what was answered is there, once."""
     r = random.Random(7)
@@ -425,7 +532,8 @@ def main():
     tests = [("the worked list", worked_list, [1, 4, 4, 4]), ("bad words", bad_words, [1, 4, 4, 4]), ("files that are no store", no_stores, [1, 4, 4, 4]),
              ("refusals from the state", states, [0, 8, 4, 2]), ("the largest store", small_stack, [15, 4096, 4096, 4096]),
              ("writes that fail", lambda b: (b.answer("insert", "store", "key", "hue", "red", 0, ident(1)), no_room(b)), [1, 8, 8, 8]),
-             ("modes", modes, [1, 64, 64, 64]), ("tools at once", at_once, [1, 200, 200, 200]), ("kill -9", lambda b: interrupted(b, kills), [1, 4096, 512, 512])]
+             ("modes", modes, [1, 64, 64, 64]), ("tools at once", at_once, [1, 200, 200, 200]),
+             ("every point", every_point, [1, 16, 16, 16]), ("kill -9", lambda b: interrupted(b, kills), [1, 4096, 512, 512])]
     for name, test, sizes in tests:
         with tempfile.TemporaryDirectory() as folder:
             before, began = checks, time.monotonic()

@@ -39,6 +39,15 @@ pub fn report(what: &[u8], path: &[u8])
     os::fail(path);
 }
 
+// Says that a read stopped before the file's end, and that a further one did not fail.
+fn report_short(path: &[u8])
+    ensures { λ r. ⌜ r ≡ tt ⌝ }
+{
+    io::write_all(STDERR_FILENO, b"cannot read all of ");
+    io::write_all(STDERR_FILENO, path);
+    io::write_all(STDERR_FILENO, b": try again\n");
+}
+
 // Whether nothing is left to read: a read that fails is told from the end.
 fn is_at_end(fd: i32, path: &[u8]) -> bool
     ensures { λ r. ⌜ OfSystem r ⌝ }
@@ -47,6 +56,9 @@ fn is_at_end(fd: i32, path: &[u8]) -> bool
     let got = libc::read(fd, &mut one);
     if got < 0 {
         report(b"read", path);
+    }
+    if got > 0 {
+        report_short(path);
     }
     got == 0
 }
