@@ -351,7 +351,7 @@ def modes(b):
 
 
 def at_once(b, tools=4, each=25):
-    """Tools that change one store at the same time: every insert is there once."""
+    """Tools that change one store at the same time: every insert is there once [01:SC6]."""
     met = [0] * tools
 
     def work(t):
