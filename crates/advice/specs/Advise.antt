@@ -44,8 +44,8 @@ adviceOf (OutputLength n) p e l = Output n
 adviceOf NonceCount p e l = Fault
 
 -- rows of S are used, and no anchor was written for them
-abbrev pub strangerOf : ℕ → ℕ → Bool
-strangerOf logged anchors = cond (ltb logged 1) false (ltb anchors 1)
+abbrev pub isWrongKey : ℕ → ℕ → Bool
+isWrongKey logged anchors = cond (ltb logged 1) false (ltb anchors 1)
 
 abbrev pub lengthOf : ℕ → ℕ → ℕ → ℕ
 lengthOf m c s = cond (ltb 4096 m) 0 (cond (ltb 4096 c) 0 (cond (ltb 4096 s) 0 (8 + 110 * m + 61 * c + 45 * s)))

@@ -3,7 +3,7 @@
 ghost use mathlib.Core.Path.{_≡_};
 ghost use Prim.Native.Nat.{_-_, _≤_, min};
 ghost use Rattle.store.specs.Check.{checkedOf};
-ghost use Rattle.advice.specs.Advise.{roomOf, adviceOf, strangerOf, lengthOf};
+ghost use Rattle.advice.specs.Advise.{roomOf, adviceOf, isWrongKey, lengthOf};
 use answer::Refusal;
 use compact::Tally;
 use store::Checked;
@@ -107,8 +107,8 @@ pub fn advise(r: Refusal, p: u64, entries: usize, logged: usize) -> Advice
 }
 
 // Whether a compaction found none of the logged counters: then the key is not the store's.
-pub fn is_stranger(logged: usize, t: Tally) -> bool
-    ensures { λ r. ⌜ r ≡ strangerOf logged (t .anchors) ⌝ }
+pub fn is_wrong_key(logged: usize, t: Tally) -> bool
+    ensures { λ r. ⌜ r ≡ isWrongKey logged (t .anchors) ⌝ }
 {
     if logged < 1 {
         return false;

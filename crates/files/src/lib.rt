@@ -292,6 +292,7 @@ pub fn make_private(path: &[u8], bytes: &[u8]) -> bool
         os::unlink(path);
         return false;
     }
+    sync_folder_of(path);
     true
 }
 

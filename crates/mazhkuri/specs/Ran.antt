@@ -18,7 +18,7 @@ use Rattle.text.specs.Hex.{isIdOf, unhexOf}
 use Rattle.text.specs.declared.Parsed.the-variants.{Number as Number₀}
 use Rattle.text.specs.declared.Command.{Command}
 use Rattle.text.specs.declared.Command.the-variants.{New, Key, Insert, Find, Count, Erase, Compact, Show, Help, Unknown}
-use Rattle.advice.specs.Advise.{strangerOf, roomOf, lengthOf}
+use Rattle.advice.specs.Advise.{isWrongKey, roomOf, lengthOf}
 use Rattle.commands.specs.Told.{told, insertTold}
 use Rattle.commands.specs.declared.Outcome.{Outcome}
 use Rattle.commands.specs.declared.Outcome.the-variants.{Number, Compacted as Compacted₀, Damaged, Refused, Done, Failed}
@@ -88,13 +88,13 @@ pub record Compacted (r : Outcome) : Type 0 where
   pub made : CompactedWith before key after r
 
 -- a compaction that found none of the logged counters
-abbrev pub foreignOf : Outcome → ℕ → Bool
-foreignOf (Compacted₀ t) logged = strangerOf logged (t .anchors)
-foreignOf (Number n) logged = false
-foreignOf (Damaged t) logged = false
-foreignOf (Refused r room) logged = false
-foreignOf Done logged = false
-foreignOf Failed logged = false
+abbrev pub hasWrongKey : Outcome → ℕ → Bool
+hasWrongKey (Compacted₀ t) logged = isWrongKey logged (t .anchors)
+hasWrongKey (Number n) logged = false
+hasWrongKey (Damaged t) logged = false
+hasWrongKey (Refused r room) logged = false
+hasWrongKey Done logged = false
+hasWrongKey Failed logged = false
 
 -- what is left to tell of a find once its ids are printed
 abbrev pub printed : Outcome → Outcome

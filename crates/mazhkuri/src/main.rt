@@ -27,7 +27,7 @@ ghost use Rattle.text.specs.Decimal.{decimalOf};
 ghost use Rattle.commands.specs.Told.{told, insertTold};
 ghost use Rattle.files.specs.System.{OfSystem};
 ghost use Rattle.mazhkuri.specs.Words.{OfWord, IdRead, Gathered};
-ghost use Rattle.mazhkuri.specs.Ran.{OrFailed, Attempted, Ran, foreignOf, showOf, InsertedWith, InsertedInto, Inserted, ErasedIn, Erased, CompactedWith, Compacted, FoundIn, CountedIn, ReadBy, MadeAs, Made};
+ghost use Rattle.mazhkuri.specs.Ran.{OrFailed, Attempted, Ran, hasWrongKey, showOf, InsertedWith, InsertedInto, Inserted, ErasedIn, Erased, CompactedWith, Compacted, FoundIn, CountedIn, ReadBy, MadeAs, Made};
 
 // The longest store, 884,744 bytes, and one byte more: a longer file is refused by its length.
 const SPACE: usize = 884745;
@@ -248,11 +248,11 @@ fn erase() -> Outcome
 }
 
 // Whether a compaction was made with another key than the store's.
-fn is_foreign(o: Outcome, logged: usize) -> bool
-    ensures { λ r. ⌜ r ≡ foreignOf o logged ⌝ }
+fn has_wrong_key(o: Outcome, logged: usize) -> bool
+    ensures { λ r. ⌜ r ≡ hasWrongKey o logged ⌝ }
 {
     match o {
-        Outcome::Compacted(t) => advice::is_stranger(logged, t),
+        Outcome::Compacted(t) => advice::is_wrong_key(logged, t),
         Outcome::Number(_) => false,
         Outcome::Damaged(_) => false,
         Outcome::Refused(_, _) => false,
@@ -261,13 +261,13 @@ fn is_foreign(o: Outcome, logged: usize) -> bool
     }
 }
 
-// Such a compaction would empty the log for nothing: it is not kept.
+// A compaction that found nothing would empty the log for nothing: it is not kept.
 fn keep_compacted(path: &[u8], store: &[u8], o: Outcome, logged: usize) -> Outcome
     ensures { λ r. ⌜ OrFailed o r ⌝ }
 {
-    if is_foreign(o, logged) {
+    if has_wrong_key(o, logged) {
         say::err(
-            b"this key file is not the one that the store was filled with: nothing was changed\n",
+            b"none of the logged counters was found: this key file is not the one that the store was filled with, or the file was damaged: nothing was changed\n",
         );
         return Outcome::Failed;
     }

@@ -1,8 +1,8 @@
 -- The test decides.
 use borrow.Author.Tests.{lt-ltb, le-ltb}
 use borrow.Author.Needs.{needs}
-use Rattle.advice.proofs.is_stranger.Statement.{statement}
-use Rattle.advice.proofs.is_stranger.Tie as tie
+use Rattle.advice.proofs.is_wrong_key.Statement.{statement}
+use Rattle.advice.proofs.is_wrong_key.Tie as tie
 
 returns : tie.Need-returns
 returns c = simp (lt-ltb _ _ (c .if1 .taken))
@@ -10,5 +10,5 @@ returns c = simp (lt-ltb _ _ (c .if1 .taken))
 returns-2 : tie.Need-returns-2
 returns-2 c = simp (le-ltb _ _ (c .before .if1 .left))
 
-pub is-stranger-spec : {M : Type 1} → statement M
-is-stranger-spec = tie.close (tie.spec returns returns-2)
+pub is-wrong-key-spec : {M : Type 1} → statement M
+is-wrong-key-spec = tie.close (tie.spec returns returns-2)
