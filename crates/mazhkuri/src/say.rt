@@ -67,51 +67,48 @@ pub fn shape(x: Shape)
     out(&text[..n]);
 }
 
+const NEW: [u8; 132] =
+    *b"mazhkuri new STORE P M C S: makes a store for shares 0 to P (at most 15) with M entries, C counters and S log rows (1 to 4096 each)\n";
+
+const KEY: [u8; 79] =
+    *b"mazhkuri key KEYFILE: makes a key file of 32 random bytes, for its owner alone\n";
+
+const INSERT: [u8; 133] =
+    *b"mazhkuri insert STORE KEYFILE FIELD VALUE SHARE ID...: inserts 1 to 64 ids of 32 hex digits each; prints the new count of this share\n";
+
+const FIND: [u8; 66] = *b"mazhkuri find STORE KEYFILE FIELD VALUE: prints each id on a line\n";
+
+const COUNT: [u8; 105] =
+    *b"mazhkuri count STORE KEYFILE FIELD VALUE: prints how many ids were ever inserted, erased ones among them\n";
+
+const ERASE: [u8; 87] =
+    *b"mazhkuri erase STORE ID: erases an id from every field; prints how many entries it had\n";
+
+const COMPACT: [u8; 110] =
+    *b"mazhkuri compact STORE KEYFILE: frees counter and log rows; prints the anchors written and the counters freed\n";
+
+const SHOW: [u8; 82] =
+    *b"mazhkuri show STORE: prints the sizes of a store and how full it is; takes no key\n";
+
+const HELP: [u8; 53] = *b"mazhkuri help [COMMAND]: prints what a command takes\n";
+
+const UNKNOWN: [u8; 64] = *b"a command of: new key insert find count erase compact show help\n";
+
 // What a command takes.
 pub fn usage(fd: i32, c: Command)
     ensures { λ r. ⌜ r ≡ tt ⌝ }
 {
     match c {
-        Command::New => io::write_all(
-            fd,
-            b"mazhkuri new STORE P M C S: makes a store for shares 0 to P (at most 15) with M entries, C counters and S log rows (1 to 4096 each)\n",
-        ),
-        Command::Key => io::write_all(
-            fd,
-            b"mazhkuri key KEYFILE: makes a key file of 32 random bytes, for its owner alone\n",
-        ),
-        Command::Insert => io::write_all(
-            fd,
-            b"mazhkuri insert STORE KEYFILE FIELD VALUE SHARE ID...: inserts 1 to 64 ids of 32 hex digits each; prints the new count of this share\n",
-        ),
-        Command::Find => io::write_all(
-            fd,
-            b"mazhkuri find STORE KEYFILE FIELD VALUE: prints each id on a line\n",
-        ),
-        Command::Count => io::write_all(
-            fd,
-            b"mazhkuri count STORE KEYFILE FIELD VALUE: prints how many ids were ever inserted, erased ones among them\n",
-        ),
-        Command::Erase => io::write_all(
-            fd,
-            b"mazhkuri erase STORE ID: erases an id from every field; prints how many entries it had\n",
-        ),
-        Command::Compact => io::write_all(
-            fd,
-            b"mazhkuri compact STORE KEYFILE: frees counter and log rows; prints the anchors written and the counters freed\n",
-        ),
-        Command::Show => io::write_all(
-            fd,
-            b"mazhkuri show STORE: prints the sizes of a store and how full it is; takes no key\n",
-        ),
-        Command::Help => io::write_all(
-            fd,
-            b"mazhkuri help [COMMAND]: prints what a command takes\n",
-        ),
-        Command::Unknown => io::write_all(
-            fd,
-            b"a command of: new key insert find count erase compact show help\n",
-        ),
+        Command::New => io::write_all(fd, &NEW),
+        Command::Key => io::write_all(fd, &KEY),
+        Command::Insert => io::write_all(fd, &INSERT),
+        Command::Find => io::write_all(fd, &FIND),
+        Command::Count => io::write_all(fd, &COUNT),
+        Command::Erase => io::write_all(fd, &ERASE),
+        Command::Compact => io::write_all(fd, &COMPACT),
+        Command::Show => io::write_all(fd, &SHOW),
+        Command::Help => io::write_all(fd, &HELP),
+        Command::Unknown => io::write_all(fd, &UNKNOWN),
     }
     ;
 }
