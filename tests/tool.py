@@ -6,7 +6,7 @@
 
 Tests: the worked list of document 01 ('A day in the ledger'), bad words, files that are no store,
 refusals from the state, the largest store on a small stack, a disk that is full, a folder that cannot
-be written, no randomness, owner and mode, several tools at once, each call of the system failing or
+be written, no randomness, links, owner and mode, several tools at once, each call of the system failing or
 never reached, and runs interrupted by kill -9. What the tool leaves in a store is read back by the
 model (tests/model) too, which shares no code with it.
 """
@@ -309,6 +309,20 @@ def no_room(b):
     print("  store unchanged under: " + ", ".join(tried))
 
 
+def links(b):
+    """A link is not changed: under another name the store would have another lock. Reading goes through it."""
+    target = b.store.rename(b.folder / "target")
+    b.store.symlink_to("target")
+    insert = ["insert", "store", "key", "hue", "red", 0, ident(1)]
+    for words in (insert, ["erase", "store", ident(1)], ["compact", "store", "key"], ["new", "store", 1, 4, 4, 4]):
+        b.refused(words, "refused", "store is a link: give the name of the file itself")
+    expect(b.answer("insert", "target", *insert[2:]) == "1\n" and b.found() == [ident(1)], "a store is read through a link")
+    target.unlink()
+    b.refused(["new", "store", 1, 4, 4, 4], "refused", "store is a link")
+    expect(b.store.is_symlink() and not target.exists(), "a link that leads nowhere is left")
+    b.refused(["key", "store"], "refused", "cannot make store: File exists")
+
+
 def modes(b):
     """A store that is replaced keeps owner, group and mode; where it may not, the mode is narrowed."""
     def has():
@@ -401,6 +415,7 @@ CALL(int, fstat, (int fd, struct stat *to), (fd, to))
 CALL(int, fsync, (int fd), (fd))
 CALL(int, getentropy, (void *to, size_t n), (to, n))
 CALL(int, mkstemp, (char *name), (name))
+CALL(ssize_t, readlink, (const char *name, char *to, size_t n), (name, to, n))
 CALL(ssize_t, read, (int fd, void *to, size_t n), (fd, to, n))
 CALL(ssize_t, write, (int fd, const void *from, size_t n), (fd, from, n))
 CALL(int, rename, (const char *from, const char *to), (from, to))
@@ -532,7 +547,7 @@ def main():
     tests = [("the worked list", worked_list, [1, 4, 4, 4]), ("bad words", bad_words, [1, 4, 4, 4]), ("files that are no store", no_stores, [1, 4, 4, 4]),
              ("refusals from the state", states, [0, 8, 4, 2]), ("the largest store", small_stack, [15, 4096, 4096, 4096]),
              ("writes that fail", lambda b: (b.answer("insert", "store", "key", "hue", "red", 0, ident(1)), no_room(b)), [1, 8, 8, 8]),
-             ("modes", modes, [1, 64, 64, 64]), ("tools at once", at_once, [1, 200, 200, 200]),
+             ("links", links, [1, 4, 4, 4]), ("modes", modes, [1, 64, 64, 64]), ("tools at once", at_once, [1, 200, 200, 200]),
              ("every point", every_point, [1, 16, 16, 16]), ("kill -9", lambda b: interrupted(b, kills), [1, 4096, 512, 512])]
     for name, test, sizes in tests:
         with tempfile.TemporaryDirectory() as folder:

@@ -150,6 +150,30 @@ fn report_lock(name: &[u8])
     io::write_all(STDERR_FILENO, b"\n");
 }
 
+// Whether a path names a link: then another tool may lock the file that it leads to under its own name,
+// and the file would be replaced here alone.
+fn is_link(path: &[u8]) -> bool
+    requires { ⌜ length (now path) ≤ 4096 ⌝ }
+    ensures { λ r. ⌜ OfSystem r ⌝ }
+{
+    let mut name = io::buffer();
+    octets::copy_at(&mut name, 0, path);
+    name[PATH - 1] = 0;
+    let mut start = [0u8; 1];
+    libc::readlink(&name, &mut start) >= 0
+}
+
+// Says that a link is not changed, and what to do.
+fn report_link(path: &[u8])
+    ensures { λ r. ⌜ r ≡ tt ⌝ }
+{
+    io::write_all(STDERR_FILENO, path);
+    io::write_all(
+        STDERR_FILENO,
+        b" is a link: give the name of the file itself, so that every tool locks the same one\n",
+    );
+}
+
 // Makes the lock file, which must not be there. Nothing is left behind where the answer is false.
 fn make_lock(name: &[u8]) -> bool
     ensures { λ r. ⌜ OfSystem r ⌝ }
@@ -172,6 +196,10 @@ pub fn lock(path: &[u8]) -> bool
     ensures { λ r. ⌜ OfSystemAt (now (path .entry)) r ⌝ }
 {
     if PATH < path.len() {
+        return false;
+    }
+    if is_link(path) {
+        report_link(path);
         return false;
     }
     let mut name = [0u8; NAME];

@@ -4,8 +4,9 @@ use borrow.Author.Needs.{needs}
 use Rattle.files.proofs.lock.Statement.{statement}
 use Rattle.files.proofs.lock.Tie as tie
 
-returns-2 : tie.Need-returns-2
-returns-2 c = λ h. absurd (omega arith)
+returns-3 : tie.Need-returns-3
+returns-3 c = λ h. absurd (omega arith)
 
 pub lock-spec : {M : Type 1} → statement M
-lock-spec = tie.close (tie.spec (λ c. search needs) (λ c. search needs) (λ c κs. search needs) (λ c. search needs) (λ c. search needs) (λ c κs. search needs) returns-2)
+lock-spec =
+    tie.close (tie.spec (λ c. search needs) (λ c κs. search needs) (λ c κs. search needs) (λ c. search needs) (λ c. search needs) (λ c κs. search needs) (λ c. search needs) (λ c. search needs) (λ c κs. search needs) returns-3)
