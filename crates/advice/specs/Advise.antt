@@ -1,7 +1,8 @@
 -- What the tool tells of a store and of a refusal.
-use Prim.Native.Nat.{ℕ, _+_, _*_, _-_, min}
+use Prim.Native.Nat.{ℕ, _-_, min}
 use mathlib.Core.Bool.{Bool, true, false, cond, _||_, _&&_}
 use lib.Dec.{ltb, eqb}
+use Rattle.scheme.specs.Store.{lengthFor}
 use Rattle.answer.specs.declared.Refusal.{Refusal}
 use Rattle.answer.specs.declared.Refusal.the-variants.{KeyLength, FieldLength, ShareRange, NonceLength, IdLength, TokenLength, SizeRange, SliceLength, TextLength, Header, Mark, TokenShares, Damage, CountRange, EntryRows, CounterRows, LogRows, OutputLength, NonceCount}
 use Rattle.store.specs.declared.Checked.{Checked}
@@ -11,10 +12,14 @@ use Rattle.advice.specs.declared.Advice.{Advice}
 use Rattle.advice.specs.declared.Advice.the-variants.{Key, Field, Share, Ids, Sizes, NoStore, Marks, Count, Entries, Compact, Larger, Log, Output, Fault}
 use Rattle.advice.specs.declared.Advice.the-variants.{Damage as Damage₀}
 
+-- of what is no store
+abbrev pub noRoom : Room
+noRoom = record { p = 0; entries = 0; logged = 0 }
+
 -- entries take a row of M and one of V; a row of S is used for each insert since the last compaction
 abbrev pub roomOf : Checked → Room
 roomOf (Fit x) = record { p = x .p; entries = min (x .free .m) (x .free .v); logged = x .s - x .free .s }
-roomOf (Refused r) = record { p = 0; entries = 0; logged = 0 }
+roomOf (Refused r) = noRoom
 
 abbrev pub pickAdvice : Bool → Advice → Advice → Advice
 pickAdvice true a b = a
@@ -47,5 +52,6 @@ adviceOf NonceCount p e l = Fault
 abbrev pub isWrongKey : ℕ → ℕ → Bool
 isWrongKey logged anchors = cond (ltb logged 1) false (ltb anchors 1)
 
+-- the length that the rules give a store of these sizes; 0 where one is above 4,096
 abbrev pub lengthOf : ℕ → ℕ → ℕ → ℕ
-lengthOf m c s = cond (ltb 4096 m) 0 (cond (ltb 4096 c) 0 (cond (ltb 4096 s) 0 (8 + 110 * m + 61 * c + 45 * s)))
+lengthOf m c s = cond (ltb 4096 m) 0 (cond (ltb 4096 c) 0 (cond (ltb 4096 s) 0 (lengthFor (record { p = 0; m = m; c = c; s = s }))))

@@ -7,19 +7,35 @@ use Rattle.scheme.specs.Labels.{Field}
 use Rattle.scheme.specs.Call.{Call}
 use Rattle.scheme.specs.Run.{Step}
 use Rattle.suite.specs.Program.{program}
+use Rattle.advice.specs.Advise.{roomOf}
+use Rattle.advice.specs.declared.Room.{Room}
+use Rattle.store.specs.Check.{checkedOf}
 use Rattle.store.specs.declared.Checked.{Checked}
 use Rattle.store.specs.declared.Checked.the-variants.{Fit, Refused as Refused₀}
 use Rattle.commands.specs.declared.Outcome.{Outcome}
 use Rattle.commands.specs.declared.Outcome.the-variants.{Number, Compacted, Damaged, Refused, Done, Failed}
 
--- the answer that an outcome tells; a failure of the tool's own is no answer of a call and stands with Done
+-- the answer that an outcome tells; a failure of the tool's own is no answer of a call, and 0 no rule's number
 abbrev pub told : Outcome → Answer
 told (Number n) = done (n ∷ [])
 told (Compacted t) = done (t .anchors ∷ t .counters ∷ [])
 told (Damaged t) = refused 13 (t .anchors ∷ t .counters ∷ [])
 told (Refused r room) = refusal r
 told Done = done []
-told Failed = done []
+told Failed = refused 0 []
+
+-- an outcome whose refusal tells this room
+abbrev pub withRoom : Room → Outcome → Outcome
+withRoom x (Number n) = Number n
+withRoom x (Compacted t) = Compacted t
+withRoom x (Damaged t) = Damaged t
+withRoom x (Refused r room) = Refused r x
+withRoom x Done = Done
+withRoom x Failed = Failed
+
+-- what is said of a refusal goes by the room that the store had before the call
+abbrev pub Roomed : List ℕ → Outcome → Type 0
+Roomed before o = o ≡ withRoom (roomOf (checkedOf before)) o
 
 -- an insert into a store is the call with the store's p; what is no store is refused by 10 or 11 and left
 abbrev pub insertTold : Checked → List ℕ → List ℕ → Field → ℕ → List ℕ → List ℕ → List ℕ → Answer → List ℕ → Type 0

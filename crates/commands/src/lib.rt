@@ -10,7 +10,8 @@ ghost use Rattle.suite.specs.Program.{program};
 ghost use Rattle.client.specs.Making.{fieldOf};
 ghost use Rattle.compact.specs.Outcome.{compactionAnswer};
 ghost use Rattle.store.specs.Check.{checkedOf};
-ghost use Rattle.commands.specs.Told.{told, insertTold};
+ghost use Rattle.advice.specs.Advise.{noRoom};
+ghost use Rattle.commands.specs.Told.{told, withRoom, Roomed, insertTold};
 use advice::Room;
 use answer::Completion;
 use answer::Counted;
@@ -34,6 +35,7 @@ pub enum Outcome {
 
 fn of_counted(r: Counted, room: Room) -> Outcome
     ensures { λ o. ⌜ told o ≡ counted r ⌝ }
+    ensures { λ o. ⌜ o ≡ withRoom room o ⌝ }
 {
     match r {
         Counted::Number(n) => Outcome::Number(n),
@@ -43,6 +45,7 @@ fn of_counted(r: Counted, room: Room) -> Outcome
 
 fn of_compaction(r: Compaction, room: Room) -> Outcome
     ensures { λ o. ⌜ told o ≡ compactionAnswer r ⌝ }
+    ensures { λ o. ⌜ o ≡ withRoom room o ⌝ }
 {
     match r {
         Compaction::Done(t) => Outcome::Compacted(t),
@@ -53,6 +56,7 @@ fn of_compaction(r: Compaction, room: Room) -> Outcome
 
 fn of_completion(r: Completion, room: Room) -> Outcome
     ensures { λ o. ⌜ told o ≡ completion r ⌝ }
+    ensures { λ o. ⌜ o ≡ withRoom room o ⌝ }
 {
     match r {
         Completion::Done => Outcome::Done,
@@ -64,6 +68,7 @@ fn of_completion(r: Completion, room: Room) -> Outcome
 pub fn make(p: u64, m: u64, c: u64, s: u64, slice: &mut [u8]) -> Outcome
     ensures { λ o. ⌜ told o ≡ makeOf (record { p = p; m = m; c = c; s = s }) (now (slice .entry)) .answer ⌝ }
     ensures { λ _. ⌜ now (slice .exit) ≡ makeOf (record { p = p; m = m; c = c; s = s }) (now (slice .entry)) .store ⌝ }
+    ensures { λ o. ⌜ o ≡ withRoom noRoom o ⌝ }
 {
     let room = Room {
         p: 0,
@@ -85,6 +90,7 @@ fn insert_fit(
     nonces: &[u8],
 ) -> Outcome
     ensures { λ o. ⌜ Step program (Call.insert (now (key .entry)) (fieldOf (now (name .entry)) (now (value .entry))) p u (now (nonce .entry)) (now (ids .entry)) (now (nonces .entry))) (now (store .entry)) (record { answer = told o; output = [] }) (now (store .exit)) ⌝ }
+    ensures { λ o. ⌜ Roomed (now (store .entry)) o ⌝ }
 {
     let room = advice::room_in(store);
     of_counted(
@@ -105,6 +111,7 @@ pub fn insert(
     nonces: &[u8],
 ) -> Outcome
     ensures { λ o. ⌜ insertTold (checkedOf (now (store .entry))) (now (store .entry)) (now (key .entry)) (fieldOf (now (name .entry)) (now (value .entry))) u (now (nonce .entry)) (now (ids .entry)) (now (nonces .entry)) (told o) (now (store .exit)) ⌝ }
+    ensures { λ o. ⌜ Roomed (now (store .entry)) o ⌝ }
 {
     match store::sizes(store) {
         Checked::Refused(r) => Outcome::Refused(
@@ -124,6 +131,7 @@ pub fn insert(
 
 pub fn erase(store: &mut [u8], id: &[u8]) -> Outcome
     ensures { λ o. ⌜ Step program (Call.erase (now (id .entry))) (now (store .entry)) (record { answer = told o; output = [] }) (now (store .exit)) ⌝ }
+    ensures { λ o. ⌜ Roomed (now (store .entry)) o ⌝ }
 {
     let room = advice::room_in(store);
     of_counted(calls::erase(store, id), room)
@@ -131,6 +139,7 @@ pub fn erase(store: &mut [u8], id: &[u8]) -> Outcome
 
 pub fn find(store: &[u8], key: &[u8], name: &[u8], value: &[u8], output: &mut [u8]) -> Outcome
     ensures { λ o. ⌜ Step program (Call.find (now (key .entry)) (fieldOf (now (name .entry)) (now (value .entry))) (now (output .entry))) (now (store .entry)) (record { answer = told o; output = now (output .exit) }) (now (store .entry)) ⌝ }
+    ensures { λ o. ⌜ Roomed (now (store .entry)) o ⌝ }
 {
     let room = advice::room_in(store);
     of_counted(calls::find(store, key, name, value, output), room)
@@ -138,6 +147,7 @@ pub fn find(store: &[u8], key: &[u8], name: &[u8], value: &[u8], output: &mut [u
 
 pub fn count(store: &[u8], key: &[u8], name: &[u8], value: &[u8]) -> Outcome
     ensures { λ o. ⌜ Step program (Call.count (now (key .entry)) (fieldOf (now (name .entry)) (now (value .entry)))) (now (store .entry)) (record { answer = told o; output = [] }) (now (store .entry)) ⌝ }
+    ensures { λ o. ⌜ Roomed (now (store .entry)) o ⌝ }
 {
     let room = advice::room_in(store);
     of_counted(calls::count(store, key, name, value), room)
@@ -145,6 +155,7 @@ pub fn count(store: &[u8], key: &[u8], name: &[u8], value: &[u8]) -> Outcome
 
 pub fn compact(store: &mut [u8], key: &[u8], nonces: &[u8]) -> Outcome
     ensures { λ o. ⌜ Step program (Call.compact (now (key .entry)) (now (nonces .entry))) (now (store .entry)) (record { answer = told o; output = [] }) (now (store .exit)) ⌝ }
+    ensures { λ o. ⌜ Roomed (now (store .entry)) o ⌝ }
 {
     let room = advice::room_in(store);
     of_compaction(calls::compact(store, key, nonces), room)

@@ -14,8 +14,8 @@ use Rattle.text.specs.Decimal.{decimalOf}
 use Rattle.text.specs.Hex.{unhexOf}
 use Rattle.text.specs.declared.Parsed.the-variants.{Number as Number₀}
 use Rattle.text.specs.declared.Command.{Command}
-use Rattle.advice.specs.Advise.{lengthOf}
-use Rattle.commands.specs.Told.{told, insertTold}
+use Rattle.advice.specs.Advise.{noRoom, lengthOf}
+use Rattle.commands.specs.Told.{told, withRoom, Roomed, insertTold}
 use Rattle.commands.specs.declared.Outcome.{Outcome}
 use Rattle.commands.specs.declared.Outcome.the-variants.{Number, Compacted, Damaged, Refused, Done, Failed}
 use Rattle.mazhkuri.specs.Words.{OfWord, IdRead, Ids}
@@ -49,10 +49,10 @@ or-failed {P} p k = attempted (λ x e. subst P (sym e) p) k
 
 -- what a caller knows more of
 pub inserted-with : {r : Outcome} {u : ℕ} (before key name value nonce ids nonces after : List ℕ)
-    → Attempted (λ o. insertTold (checkedOf before) before key (fieldOf name value) u nonce ids nonces (told o) after) r
+    → Attempted (λ o. insertTold (checkedOf before) before key (fieldOf name value) u nonce ids nonces (told o) after × Roomed before o) r
     → Attempted (InsertedWith before key u ids after) r
 inserted-with before key name value nonce ids nonces after =
-    attempted (λ o m. record { name = name; value = value; nonce = nonce; nonces = nonces; made = m })
+    attempted (λ o m. record { name = name; value = value; nonce = nonce; nonces = nonces; made = m .0; room = m .1 })
 
 pub inserted-into : {r : Outcome} {before key : List ℕ} {u : ℕ} {ids after : List ℕ}
     → Attempted (InsertedWith before key u ids after) r → Attempted (InsertedInto u ids) r
@@ -63,17 +63,17 @@ pub inserted : {r : Outcome} {count u : ℕ} {ids : List ℕ} → OfWord decimal
 inserted {u} {ids} s i = attempted (λ o m. record { u = u; share = s; ids = ids; read = i; made = m })
 
 pub erased-in : {r : Outcome} (id before after : List ℕ)
-    → Attempted (λ o. Step program (Call.erase id) before (record { answer = told o; output = [] }) after) r → Attempted (ErasedIn id) r
-erased-in id before after = attempted (λ o m. record { before = before; after = after; made = m })
+    → Attempted (λ o. Step program (Call.erase id) before (record { answer = told o; output = [] }) after × Roomed before o) r → Attempted (ErasedIn id) r
+erased-in id before after = attempted (λ o m. record { before = before; after = after; made = m .0; room = m .1 })
 
 pub erased : {r : Outcome} {id kept : List ℕ} → IdRead kept id true → Attempted (ErasedIn id) r → Attempted Erased r
 erased {id} {kept} i =
     attempted (λ o m. record { word = i .word; is-id = sym (i .answer); made = subst (λ x. ErasedIn x o) (i .held ∙ ap (λ b. cond b (unhexOf (i .word) 16) kept) (sym (i .answer))) m })
 
 pub compacted-with : {r : Outcome} {before key nonces after : List ℕ}
-    → Attempted (λ o. Step program (Call.compact key nonces) before (record { answer = told o; output = [] }) after) r
+    → Attempted (λ o. Step program (Call.compact key nonces) before (record { answer = told o; output = [] }) after × Roomed before o) r
     → Attempted (CompactedWith before key after) r
-compacted-with {nonces} = attempted (λ o m. record { nonces = nonces; made = m })
+compacted-with {nonces} = attempted (λ o m. record { nonces = nonces; made = m .0; room = m .1 })
 
 pub compacted : {r : Outcome} {before key after : List ℕ} → Attempted (CompactedWith before key after) r → Attempted Compacted₀ r
 compacted {before} {key} {after} = attempted (λ o m. record { before = before; key = key; after = after; made = m })
@@ -82,8 +82,8 @@ pub read-by : {r : Outcome} {c : Command} (store key : List ℕ) → ReadIn c st
 read-by store key m = met (record { store = store; key = key; made = m })
 
 pub made-as : {r : Outcome} {p m c s : ℕ} (lent : List ℕ) → length lent ≡ lengthOf m c s
-    → Attempted (λ o. told o ≡ make (record { p = p; m = m; c = c; s = s }) lent .answer) r → Attempted (MadeAs p m c s) r
-made-as lent l = attempted (λ o m. record { lent = lent; sized = l; made = m })
+    → Attempted (λ o. (told o ≡ make (record { p = p; m = m; c = c; s = s }) lent .answer) × (o ≡ withRoom noRoom o)) r → Attempted (MadeAs p m c s) r
+made-as lent l = attempted (λ o m. record { lent = lent; sized = l; made = m .0; room = m .1 })
 
 pub made : {r : Outcome} {p m c s : ℕ} → OfWord decimalOf (Number₀ p) → OfWord decimalOf (Number₀ m) → OfWord decimalOf (Number₀ c)
     → OfWord decimalOf (Number₀ s) → Attempted (MadeAs p m c s) r → Attempted Made r

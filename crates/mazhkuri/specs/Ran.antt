@@ -18,8 +18,8 @@ use Rattle.text.specs.Hex.{isIdOf, unhexOf}
 use Rattle.text.specs.declared.Parsed.the-variants.{Number as Number₀}
 use Rattle.text.specs.declared.Command.{Command}
 use Rattle.text.specs.declared.Command.the-variants.{New, Key, Insert, Find, Count, Erase, Compact, Show, Help, Unknown}
-use Rattle.advice.specs.Advise.{isWrongKey, roomOf, lengthOf}
-use Rattle.commands.specs.Told.{told, insertTold}
+use Rattle.advice.specs.Advise.{isWrongKey, noRoom, roomOf, lengthOf}
+use Rattle.commands.specs.Told.{told, withRoom, Roomed, insertTold}
 use Rattle.commands.specs.declared.Outcome.{Outcome}
 use Rattle.commands.specs.declared.Outcome.the-variants.{Number, Compacted as Compacted₀, Damaged, Refused, Done, Failed}
 use Rattle.mazhkuri.specs.Words.{OfWord, Ids}
@@ -47,6 +47,7 @@ pub record InsertedWith (before key : List ℕ) (u : ℕ) (ids after : List ℕ)
   pub nonce : List ℕ
   pub nonces : List ℕ
   pub made : insertTold (checkedOf before) before key (fieldOf name value) u nonce ids nonces (told r) after
+  pub room : Roomed before r
 
 -- the same into a store with a key that files gave
 pub record InsertedInto (u : ℕ) (ids : List ℕ) (r : Outcome) : Type 0 where
@@ -68,6 +69,7 @@ pub record ErasedIn (id : List ℕ) (r : Outcome) : Type 0 where
   pub before : List ℕ
   pub after : List ℕ
   pub made : Step program (Call.erase id) before (record { answer = told r; output = [] }) after
+  pub room : Roomed before r
 
 -- the same of an id that a word gave
 pub record Erased (r : Outcome) : Type 0 where
@@ -79,6 +81,7 @@ pub record Erased (r : Outcome) : Type 0 where
 pub record CompactedWith (before key after : List ℕ) (r : Outcome) : Type 0 where
   pub nonces : List ℕ
   pub made : Step program (Call.compact key nonces) before (record { answer = told r; output = [] }) after
+  pub room : Roomed before r
 
 -- the same of a store with a key that files gave
 pub record Compacted (r : Outcome) : Type 0 where
@@ -113,6 +116,7 @@ pub record FoundIn (store key : List ℕ) (r : Outcome) : Type 0 where
   pub ids : List ℕ
   pub outcome : Outcome
   pub made : Step program (Call.find key (fieldOf name value) lent) store (record { answer = told outcome; output = ids }) store
+  pub room : Roomed store outcome
   pub rest : r ≡ printed outcome
 
 -- a count under a field that words gave
@@ -120,6 +124,7 @@ pub record CountedIn (store key : List ℕ) (r : Outcome) : Type 0 where
   pub name : List ℕ
   pub value : List ℕ
   pub made : Step program (Call.count key (fieldOf name value)) store (record { answer = told r; output = [] }) store
+  pub room : Roomed store r
 
 -- whether a file is a store
 abbrev pub showOf : Checked → Outcome
@@ -149,6 +154,7 @@ pub record MadeAs (p m c s : ℕ) (r : Outcome) : Type 0 where
   pub lent : List ℕ
   pub sized : length lent ≡ lengthOf m c s
   pub made : told r ≡ make (record { p = p; m = m; c = c; s = s }) lent .answer
+  pub room : r ≡ withRoom noRoom r
 
 -- the same with sizes that words gave
 pub record Made (r : Outcome) : Type 0 where

@@ -24,7 +24,8 @@ ghost use Rattle.suite.specs.Program.{program};
 ghost use Rattle.client.specs.Making.{fieldOf};
 ghost use Rattle.store.specs.Check.{checkedOf};
 ghost use Rattle.text.specs.Decimal.{decimalOf};
-ghost use Rattle.commands.specs.Told.{told, insertTold};
+ghost use Rattle.advice.specs.Advise.{noRoom};
+ghost use Rattle.commands.specs.Told.{told, withRoom, Roomed, insertTold};
 ghost use Rattle.files.specs.System.{OfSystem};
 ghost use Rattle.mazhkuri.specs.Words.{OfWord, IdRead, Gathered};
 ghost use Rattle.mazhkuri.specs.Ran.{OrFailed, Attempted, Ran, hasWrongKey, showOf, InsertedWith, InsertedInto, Inserted, ErasedIn, Erased, CompactedWith, Compacted, FoundIn, CountedIn, ReadBy, MadeAs, Made};
@@ -132,7 +133,7 @@ fn insert_with(
     ids: &[u8],
     nonces: &[u8],
 ) -> Outcome
-    ensures { λ r. ⌜ Attempted (λ o. insertTold (checkedOf (now (store .entry))) (now (store .entry)) (now (key .entry)) (fieldOf (now (name .entry)) (now (value .entry))) u (now (nonce .entry)) (now (ids .entry)) (now (nonces .entry)) (told o) (now (store .exit))) r ⌝ }
+    ensures { λ r. ⌜ Attempted (λ o. (insertTold (checkedOf (now (store .entry))) (now (store .entry)) (now (key .entry)) (fieldOf (now (name .entry)) (now (value .entry))) u (now (nonce .entry)) (now (ids .entry)) (now (nonces .entry)) (told o) (now (store .exit))) × Roomed (now (store .entry)) o) r ⌝ }
 {
     let o = commands::insert(store, key, name, value, u, nonce, ids, nonces);
     keep(path, store, o)
@@ -224,7 +225,7 @@ fn erase_into(path: &[u8], id: &[u8]) -> Outcome
 }
 
 fn erase_loaded(path: &[u8], store: &mut [u8], id: &[u8]) -> Outcome
-    ensures { λ r. ⌜ Attempted (λ o. Step program (Call.erase (now (id .entry))) (now (store .entry)) (record { answer = told o; output = [] }) (now (store .exit))) r ⌝ }
+    ensures { λ r. ⌜ Attempted (λ o. (Step program (Call.erase (now (id .entry))) (now (store .entry)) (record { answer = told o; output = [] }) (now (store .exit))) × Roomed (now (store .entry)) o) r ⌝ }
 {
     let o = commands::erase(store, id);
     keep(path, store, o)
@@ -275,7 +276,7 @@ fn keep_compacted(path: &[u8], store: &[u8], o: Outcome, logged: usize) -> Outco
 }
 
 fn compact_with(path: &[u8], store: &mut [u8], key: &[u8], nonces: &[u8], logged: usize) -> Outcome
-    ensures { λ r. ⌜ Attempted (λ o. Step program (Call.compact (now (key .entry)) (now (nonces .entry))) (now (store .entry)) (record { answer = told o; output = [] }) (now (store .exit))) r ⌝ }
+    ensures { λ r. ⌜ Attempted (λ o. (Step program (Call.compact (now (key .entry)) (now (nonces .entry))) (now (store .entry)) (record { answer = told o; output = [] }) (now (store .exit))) × Roomed (now (store .entry)) o) r ⌝ }
 {
     let o = commands::compact(store, key, nonces);
     keep_compacted(path, store, o, logged)
@@ -289,7 +290,7 @@ fn compact_fresh(
     nonces: &mut [u8],
     logged: usize,
 ) -> Outcome
-    ensures { λ r. ⌜ Attempted (λ o. Step program (Call.compact (now (key .entry)) (now (nonces .exit))) (now (store .entry)) (record { answer = told o; output = [] }) (now (store .exit))) r ⌝ }
+    ensures { λ r. ⌜ Attempted (λ o. (Step program (Call.compact (now (key .entry)) (now (nonces .exit))) (now (store .entry)) (record { answer = told o; output = [] }) (now (store .exit))) × Roomed (now (store .entry)) o) r ⌝ }
     ensures { λ _. ⌜ length (now (nonces .exit)) ≡ length (now (nonces .entry)) ⌝ }
 {
     if !files::randomize(nonces) {
@@ -407,7 +408,7 @@ fn read(c: Command) -> Outcome
 }
 
 fn make_in(path: &[u8], store: &mut [u8], p: u64, m: u64, c: u64, s: u64) -> Outcome
-    ensures { λ r. ⌜ Attempted (λ o. told o ≡ makeOf (record { p = p; m = m; c = c; s = s }) (now (store .entry)) .answer) r ⌝ }
+    ensures { λ r. ⌜ Attempted (λ o. (told o ≡ makeOf (record { p = p; m = m; c = c; s = s }) (now (store .entry)) .answer) × (o ≡ withRoom noRoom o)) r ⌝ }
     ensures { λ _. ⌜ now (store .exit) ≡ makeOf (record { p = p; m = m; c = c; s = s }) (now (store .entry)) .store ⌝ }
 {
     let o = commands::make(p, m, c, s, store);

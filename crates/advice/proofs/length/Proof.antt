@@ -1,6 +1,7 @@
 -- The tests bound each size.
 use borrow.Author.Tests.{lt-ltb, le-ltb}
 use native.Mathlib.Omega.{arith}
+use Rattle.scheme.specs.Store.{lengthFor}
 use borrow.Author.Needs.{needs}
 use Rattle.advice.proofs.length.Statement.{statement}
 use Rattle.advice.proofs.length.Tie as tie
@@ -33,6 +34,7 @@ add-result-3 : tie.Need-add-result-3
 add-result-3 c = search needs
 
 returns-4 : tie.Need-returns-4
+unfolding lengthFor
 returns-4 c = (simp (le-ltb _ _ (c .before .before .if1 .left), le-ltb _ _ (c .before .if2 .left), le-ltb _ _ (c .if3 .left)), omega arith)
 
 pub length-spec : {M : Type 1} → statement M

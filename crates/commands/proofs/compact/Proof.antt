@@ -1,4 +1,5 @@
 -- The call's own contract.
+use Rattle.commands.proofs.Rooms.{roomed}
 use mathlib.Core.Path.{refl, sym, subst}
 use Rattle.answer.specs.Answer.{Answer}
 use Rattle.suite.specs.Program.{program}
@@ -22,8 +23,10 @@ same-length c = search needs
 returns : tie.Need-returns
 returns c =
     let a = c .before .before .before .before .before .before .before .before .before .before .args in
-    let n = c .before .before .before .compact in
-    (subst (λ (x : Answer). CompactCall program (a .store .now) (a .key .now) (a .nonces .now) x (n .last .0)) (sym (c .of-compaction .ensures)) (n .ensures .0), refl)
+    let n = c .before .before .before .compact in (
+      (subst (λ (x : Answer). CompactCall program (a .store .now) (a .key .now) (a .nonces .now) x (n .last .0)) (sym (c .of-compaction .ensures .0)) (n .ensures .0), refl),
+      roomed _ _ _ (c .of-compaction .ensures .1) (c .before .before .before .before .before .room-in .ensures),
+    )
 
 pub compact-spec : {M : Type 1} → statement M
 compact-spec =

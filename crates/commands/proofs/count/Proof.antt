@@ -1,4 +1,5 @@
 -- The call's own contract.
+use Rattle.commands.proofs.Rooms.{roomed}
 use mathlib.Core.Path.{_∙_}
 use borrow.Author.Needs.{needs}
 use Rattle.commands.proofs.count.Statement.{statement}
@@ -15,8 +16,10 @@ of-counted-requires c κs = search needs
 
 returns : tie.Need-returns
 returns c =
-    let e = c .before .count .ensures in
-    record { answer = c .of-counted .ensures ∙ e .answer; output = e .output; store = e .store }
+    let e = c .before .count .ensures in (
+      record { answer = c .of-counted .ensures .0 ∙ e .answer; output = e .output; store = e .store },
+      roomed _ _ _ (c .of-counted .ensures .1) (c .before .before .room-in .ensures),
+    )
 
 pub count-spec : {M : Type 1} → statement M
 count-spec = tie.close (tie.spec room-in-requires count-requires of-counted-requires returns)

@@ -1,4 +1,5 @@
 -- The call's own contract.
+use Rattle.commands.proofs.Rooms.{roomed}
 use mathlib.Core.Path.{_∙_}
 use borrow.Author.Needs.{needs}
 use Rattle.commands.proofs.erase.Statement.{statement}
@@ -18,8 +19,10 @@ same-length c = search needs
 
 returns : tie.Need-returns
 returns c =
-    let e = c .before .before .before .erase .ensures in
-    record { answer = c .of-counted .ensures ∙ e .answer; output = e .output; store = e .store }
+    let e = c .before .before .before .erase .ensures in (
+      record { answer = c .of-counted .ensures .0 ∙ e .answer; output = e .output; store = e .store },
+      roomed _ _ _ (c .of-counted .ensures .1) (c .before .before .before .before .before .room-in .ensures),
+    )
 
 pub erase-spec : {M : Type 1} → statement M
 erase-spec =

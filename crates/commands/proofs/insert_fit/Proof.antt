@@ -1,4 +1,5 @@
 -- The call's own contract.
+use Rattle.commands.proofs.Rooms.{roomed}
 use mathlib.Core.Path.{refl, sym, subst}
 use Rattle.answer.specs.Answer.{Answer}
 use Rattle.suite.specs.Program.{program}
@@ -24,10 +25,13 @@ returns : tie.Need-returns
 returns c =
     let a = c .before .before .before .before .before .before .before .before .before .before .before .before .before .before .args in
     let n = c .before .before .before .insert in (
-      subst
-          (λ (x : Answer). InsertCall program (a .store .now) (a .key .now) (fieldOf (a .name .now) (a .value .now)) (a .p) (a .u) (a .nonce .now) (a .ids .now) (a .nonces .now) x (n .last .0))
-          (sym (c .of-counted .ensures)) (n .ensures .0),
-      refl,
+      (
+        subst
+            (λ (x : Answer). InsertCall program (a .store .now) (a .key .now) (fieldOf (a .name .now) (a .value .now)) (a .p) (a .u) (a .nonce .now) (a .ids .now) (a .nonces .now) x (n .last .0))
+            (sym (c .of-counted .ensures .0)) (n .ensures .0),
+        refl,
+      ),
+      roomed _ _ _ (c .of-counted .ensures .1) (c .before .before .before .before .before .room-in .ensures),
     )
 
 pub insert-fit-spec : {M : Type 1} → statement M

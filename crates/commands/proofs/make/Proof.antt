@@ -16,7 +16,7 @@ same-length c = search needs
 returns : tie.Need-returns
 returns c =
     let e = c .before .before .before .make .ensures in
-    (c .of-completion .ensures ∙ e .0, e .1)
+    (c .of-completion .ensures .0 ∙ e .0, (e .1, c .of-completion .ensures .1))
 
 pub make-spec : {M : Type 1} → statement M
 make-spec = tie.close (tie.spec make-requires of-completion-requires same-length returns)

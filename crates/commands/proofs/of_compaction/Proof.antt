@@ -1,5 +1,5 @@
 -- Each arm knows its answer.
-use mathlib.Core.Path.{sym, ap}
+use mathlib.Core.Path.{refl, sym, ap}
 use Rattle.compact.specs.Outcome.{compactionAnswer}
 use borrow.Author.Needs.{needs}
 use Rattle.commands.proofs.of_compaction.Statement.{statement}
@@ -15,13 +15,13 @@ enum-known-r-3 : tie.Need-enum-known-r-3
 enum-known-r-3 c = search needs
 
 returns : tie.Need-returns
-returns c = sym (ap compactionAnswer (c .before .r .given .1))
+returns c = (sym (ap compactionAnswer (c .before .r .given .1)), refl)
 
 returns-2 : tie.Need-returns-2
-returns-2 c = sym (ap compactionAnswer (c .before .r2 .given .1))
+returns-2 c = (sym (ap compactionAnswer (c .before .r2 .given .1)), refl)
 
 returns-3 : tie.Need-returns-3
-returns-3 c = sym (ap compactionAnswer (c .before .r3 .given .1))
+returns-3 c = (sym (ap compactionAnswer (c .before .r3 .given .1)), refl)
 
 pub of-compaction-spec : {M : Type 1} → statement M
 of-compaction-spec =

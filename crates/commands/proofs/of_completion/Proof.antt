@@ -1,5 +1,5 @@
 -- Each arm knows its answer.
-use mathlib.Core.Path.{sym, ap}
+use mathlib.Core.Path.{refl, sym, ap}
 use Rattle.answer.specs.Answer.{completion}
 use borrow.Author.Needs.{needs}
 use Rattle.commands.proofs.of_completion.Statement.{statement}
@@ -12,10 +12,10 @@ enum-known-r : tie.Need-enum-known-r
 enum-known-r c = search needs
 
 returns : tie.Need-returns
-returns c = sym (ap completion (c .enum-told .given .1))
+returns c = (sym (ap completion (c .enum-told .given .1)), refl)
 
 returns-2 : tie.Need-returns-2
-returns-2 c = sym (ap completion (c .before .r .given .1))
+returns-2 c = (sym (ap completion (c .before .r .given .1)), refl)
 
 pub of-completion-spec : {M : Type 1} → statement M
 of-completion-spec = tie.close (tie.spec enum-told enum-known-r returns returns-2)

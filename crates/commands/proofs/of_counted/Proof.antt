@@ -1,5 +1,5 @@
 -- Each arm knows its answer.
-use mathlib.Core.Path.{sym, ap}
+use mathlib.Core.Path.{refl, sym, ap}
 use Rattle.answer.specs.Answer.{counted}
 use borrow.Author.Needs.{needs}
 use Rattle.commands.proofs.of_counted.Statement.{statement}
@@ -12,10 +12,10 @@ enum-known-r-2 : tie.Need-enum-known-r-2
 enum-known-r-2 c = search needs
 
 returns : tie.Need-returns
-returns c = sym (ap counted (c .before .r .given .1))
+returns c = (sym (ap counted (c .before .r .given .1)), refl)
 
 returns-2 : tie.Need-returns-2
-returns-2 c = sym (ap counted (c .before .r2 .given .1))
+returns-2 c = (sym (ap counted (c .before .r2 .given .1)), refl)
 
 pub of-counted-spec : {M : Type 1} → statement M
 of-counted-spec = tie.close (tie.spec enum-known-r enum-known-r-2 returns returns-2)
