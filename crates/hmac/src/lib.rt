@@ -89,7 +89,7 @@ pub fn tagged(k: Keyed, m: &[u8]) -> [u8; 32]
 }
 
 // F(key, message), for a key and a message of at most 65,536 bytes each; refusal 9 above, with the
-// tag left as lent.
+// tag left as lent. [01:KF7]
 pub fn mac(key: &[u8], message: &[u8], out: &mut [u8; 32]) -> Completion
     ensures { λ r. ⌜ completion r ≡ macAnswer (now (key .entry)) (now (message .entry)) ⌝ }
     ensures { λ _. ⌜ now (out .exit) ≡ macTag (now (key .entry)) (now (message .entry)) (now (out .entry)) ⌝ }

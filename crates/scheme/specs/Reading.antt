@@ -71,6 +71,6 @@ module _ (suite : Suite) (c : ℕ) (cl : List ℕ) (t : Table) where
   unfoldable pub isDamage : Bool
   isDamage = ltb limit (anchorNumbers .a) || (ltb limit (anchorNumbers .n) || (not (eqb (counterNumbers .a) 0) || ltb limit (counterNumbers .n)))
 
-  -- the reading, by this walk alone [01:RC5 RC7]
+  -- the reading, by this walk alone and not by the source's [01:SC3 RC5 RC7]
   unfoldable pub reading : Reading
   reading = cond isDamage damage (counter anchorsHeld startOf countersHeld (counterNumbers .n))

@@ -42,7 +42,7 @@ sizesOf b = record {
   s = 256 * getD b 6 0 + getD b 7 0;
 }
 
--- a store's header and tables [01:ST3]
+-- a store's header and tables [01:SC1 SC4 ST3]
 pub record Store : Type 0 where
   pub header : List ℕ
   pub tM : Table
@@ -50,7 +50,7 @@ pub record Store : Type 0 where
   pub tC : Table
   pub tS : Table
 
--- each table is the part of the one slice that holds it [01:ST1 ST3 ST4]
+-- each table is the part of the one slice that holds it [01:ST1 ST3 ST4 FM6]
 unfoldable pub cut : List ℕ → Store
 cut b = record {
   header = take 8 b;

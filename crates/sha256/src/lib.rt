@@ -103,7 +103,7 @@ pub fn digest(s: State, to: &mut [u8])
     }
 }
 
-// The hash of a message of at most 65,536 bytes; refusal 9 above, with the digest left as lent.
+// The hash of a message of at most 65,536 bytes; refusal 9 above, with the digest left as lent. [01:KF7]
 pub fn hash(message: &[u8], out: &mut [u8; 32]) -> Completion
     ensures { λ r. ⌜ completion r ≡ hashAnswer (now (message .entry)) ⌝ }
     ensures { λ _. ⌜ now (out .exit) ≡ hashDigest (now (message .entry)) (now (out .entry)) ⌝ }
