@@ -13,7 +13,7 @@ use Rattle.table.specs.Table.{Table, used, freeAt}
 use Rattle.table.proofs.Counting.{same-true, same-refl, count-le, select-map}
 use Rattle.table.proofs.Distinct.{without, without-self, distinct-without}
 use Rattle.table.proofs.Rows.{free-where-used}
-use Rattle.scheme.specs.Store.{clIn, anchorRow}
+use Rattle.scheme.specs.Store.{tableC, tableS, widthOf, clIn, anchorRow}
 use Rattle.scheme.specs.Reading
 use Rattle.scheme.specs.Reading.{Reading, damage, reading}
 use Rattle.scheme.specs.Compaction.{heldPlaces, freedCounters, nextAnchor, Anchored, logOf, freeLog, Treats, finished, stopped, skipped, anchored}
@@ -63,15 +63,15 @@ module _ (x : Setting) where
 
   pub log-free : (ks cl : List ℕ) (t : Table) → logOf suite ks (freeLog suite ks cl t) ≡ without cl (logOf suite ks t)
   unfolding logOf freeLog
-  log-free ks cl t = ap (map (clIn suite ks)) (free-where-used 45 (λ b. same (clIn suite ks b) cl) t) ∙ sym (select-map (clIn suite ks) (λ y. not (same y cl)) (used t))
+  log-free ks cl t = ap (map (clIn suite ks)) (free-where-used (widthOf tableS) (λ b. same (clIn suite ks b) cl) t) ∙ sym (select-map (clIn suite ks) (λ y. not (same y cl)) (used t))
 
   module _ (ks : List ℕ) (i : ℕ) (hi : i ≤ length calls) (made : Pair → ℕ) where
     pub record Compacts (A anchors counters n w : ℕ) (answer : Answer) (tC′ tS′ : Table) : Type 0 where
       pub told : answer ≡ done ((anchors + n) ∷ (counters + w) ∷ [])
       pub counted : Counters x tC′ (logOf suite ks tS′) (A + n) i made
       pub gone : logOf suite ks tS′ ≡ []
-      pub C-ok : TableOK 61 (z .c) tC′
-      pub S-ok : TableOK 45 (z .s) tS′
+      pub C-ok : TableOK tableC (z .c) tC′
+      pub S-ok : TableOK tableS (z .s) tS′
 
     -- the head of the distinct CL: its pair, and what the reading gives
     record First (cl : List ℕ) (cls : List (List ℕ)) (tC tS : Table) (A : ℕ) (C : Counters x tC (logOf suite ks tS) A i made) : Type 0 where
@@ -82,11 +82,11 @@ module _ (x : Setting) where
       read : reading suite (z .c) cl tC ≡ Reading.counter (C .pairs pair ok .B) (C .pairs pair ok .start) (runOf x (logOf suite ks tS) pair) (made pair)
       left : cls ≡ distinct (logOf suite ks (freeLog suite ks cl tS))
 
-    head-from : (cl : List ℕ) (cls : List (List ℕ)) (tC tS : Table) (A : ℕ) (C : Counters x tC (logOf suite ks tS) A i made) → TableOK 61 (z .c) tC
+    head-from : (cl : List ℕ) (cls : List (List ℕ)) (tC tS : Table) (A : ℕ) (C : Counters x tC (logOf suite ks tS) A i made) → TableOK tableC (z .c) tC
         → cls ≡ distinct (without cl (logOf suite ks tS)) → 0 < count (same cl) (logOf suite ks tS) → Known cl → First cl cls tC tS A C
     head-from cl cls tC tS A C ok left w k =
         let r : 0 < runOf x (logOf suite ks tS) (k .pair) = rw (k .is) at w in
-        let u = used-le 61 (z .c) tC ok in
+        let u = used-le tableC (z .c) tC ok in
         let t = C .total in
         let c = count-le (same (clOf x (k .pair))) (logOf suite ks tS) in
         record {
@@ -99,7 +99,7 @@ module _ (x : Setting) where
           left = left ∙ ap distinct (sym (log-free ks cl tS));
         }
 
-    head-of : (cl : List ℕ) (cls : List (List ℕ)) (tC tS : Table) (A : ℕ) (C : Counters x tC (logOf suite ks tS) A i made) → TableOK 61 (z .c) tC
+    head-of : (cl : List ℕ) (cls : List (List ℕ)) (tC tS : Table) (A : ℕ) (C : Counters x tC (logOf suite ks tS) A i made) → TableOK tableC (z .c) tC
         → cl ∷ cls ≡ distinct (logOf suite ks tS) → First cl cls tC tS A C
     head-of cl cls tC tS A C ok e =
         let s = distinct-starts cl cls (logOf suite ks tS) e in
@@ -108,7 +108,7 @@ module _ (x : Setting) where
         let m = C .log-same .counts (same cl) in
         head-from cl cls tC tS A C ok (s .left) (omega arith) (known cl (C .log) (C .log-OK) (omega arith))
 
-    row-ok : (pr : Pair) (nonce : List ℕ) (b a n : ℕ) → length nonce ≡ 12 → RowOK 61 (anchorRow suite (clOf x pr) b nonce a n)
+    row-ok : (pr : Pair) (nonce : List ℕ) (b a n : ℕ) → length nonce ≡ 12 → RowOK tableC (anchorRow suite (clOf x pr) b nonce a n)
     unfolding anchorRow
     row-ok pr nonce b a n h = record {
       width = counted-length suite (clOf x pr) (ctag x pr anchor b) nonce a n (tag-length suite (clOf x pr) anchor b) h;
@@ -131,7 +131,7 @@ module _ (x : Setting) where
     module _ (A : ℕ) (cl : List ℕ) (cls : List (List ℕ)) (tC tS : Table) (nonces : List ℕ) (a w : ℕ) (B start k n : ℕ) (tC₁ : Table) (answer : Answer) (tC′ tS′ : Table)
         (r : reading suite (z .c) cl tC ≡ Reading.counter B start (suc k) n)
         (an : Anchored suite cl (take 12 nonces) tC B start (suc k) n tC₁)
-        (C : Counters x tC (logOf suite ks tS) A i made) (okC : TableOK 61 (z .c) tC) (okS : TableOK 45 (z .s) tS)
+        (C : Counters x tC (logOf suite ks tS) A i made) (okC : TableOK tableC (z .c) tC) (okS : TableOK tableS (z .s) tS)
         (h : 12 * length (logOf suite ks tS) ≤ length nonces)
         (f : First cl cls tC tS A C) where
       abbrev L : List (List ℕ)
@@ -158,16 +158,16 @@ module _ (x : Setting) where
       C₁ : Counters x tC₁ (logOf suite ks (freeLog suite ks cl tS)) (A + 1) i made
       C₁ = rw log-is (counters-treat x tC L A i made C hi (f .pair) (f .ok) (f .run) (take 12 nonces) nonce-length tC₁ an₅)
 
-      okC₁ : TableOK 61 (z .c) tC₁
+      okC₁ : TableOK tableC (z .c) tC₁
       unfolding freedCounters nextAnchor
       okC₁ =
-          placed-ok 61 (z .c) (freeAt 61 (heldPlaces suite (clOf x (f .pair)) tC (C .pairs (f .pair) (f .ok) .start) (runOf x L (f .pair))) tC)
+          placed-ok tableC (z .c) (freeAt (widthOf tableC) (heldPlaces suite (clOf x (f .pair)) tC (C .pairs (f .pair) (f .ok) .start) (runOf x L (f .pair))) tC)
           _ tC₁ (an₅ .placed) (row-ok (f .pair) (take 12 nonces) (C .pairs (f .pair) (f .ok) .B + 1) (C .pairs (f .pair) (f .ok) .start + runOf x L (f .pair)) (made (f .pair)) nonce-length)
-          (free-at-ok 61 (z .c) (heldPlaces suite (clOf x (f .pair)) tC (C .pairs (f .pair) (f .ok) .start) (runOf x L (f .pair))) tC okC)
+          (free-at-ok tableC (z .c) (heldPlaces suite (clOf x (f .pair)) tC (C .pairs (f .pair) (f .ok) .start) (runOf x L (f .pair))) tC okC)
 
-      okS₁ : TableOK 45 (z .s) (freeLog suite ks cl tS)
+      okS₁ : TableOK tableS (z .s) (freeLog suite ks cl tS)
       unfolding freeLog
-      okS₁ = free-where-ok 45 (z .s) (λ b. same (clIn suite ks b) cl) tS okS
+      okS₁ = free-where-ok tableS (z .s) (λ b. same (clIn suite ks b) cl) tS okS
 
       fewer : length L ≡ suc k + length (logOf suite ks (freeLog suite ks cl tS))
       fewer = let wl = without-length x L (f .pair) in let e = ap length log-is in let kk = p .k-is in omega arith
@@ -194,7 +194,7 @@ module _ (x : Setting) where
         → Treats suite (z .c) ks cls tC tS nonces anchors counters answer tC′ tS′
         → cls ≡ distinct (logOf suite ks tS)
         → Counters x tC (logOf suite ks tS) A i made
-        → TableOK 61 (z .c) tC → TableOK 45 (z .s) tS
+        → TableOK tableC (z .c) tC → TableOK tableS (z .s) tS
         → 12 * length (logOf suite ks tS) ≤ length nonces
         → Compacts A anchors counters (length cls) (length (logOf suite ks tS)) answer tC′ tS′
     compacts A (finished {tC = tC} {tS = tS} {anchors = a} {counters = k}) e C okC okS h =

@@ -12,9 +12,9 @@ use borrow.Author.Tests.{ltb-false}
 use Rattle.answer.specs.Answer.{Answer, done}
 use Rattle.table.specs.Lists.{same, anyOf, distinct}
 use Rattle.table.specs.Table.{used}
-use Rattle.scheme.specs.Keys.{KS, compactionToken}
+use Rattle.scheme.specs.Keys.{KS, compactionToken, compactionTokenLength}
 use Rattle.scheme.specs.Suite.{number8}
-use Rattle.scheme.specs.Store.{Store, cut, headerBad, marksBad, clIn}
+use Rattle.scheme.specs.Store.{Store, tableC, tableS, putIn, cut, stateTests, clIn}
 use Rattle.scheme.specs.Refusals.{keyTests, compactionInputTests, tokenTests, lengthNot}
 use Rattle.answer.specs.Verdict.{Test, _⇒_, verdict}
 use Rattle.scheme.specs.Compaction.{logOf, logged, compactedStore, compactVerdict, Compacted, Compact, Treats}
@@ -24,10 +24,11 @@ use Rattle.scheme.specs.Ledger.{Ledger, ledgerCompactVerdict, afterCompa
 use Rattle.scheme.specs.Run.{CompactCall}
 use Rattle.scheme.specs.Claim.{boundsOf}
 use Rattle.scheme.proofs.Setting.{Setting, clOf}
+use Rattle.scheme.proofs.Shape.{shaped-put}
 use Rattle.scheme.proofs.Compacting.{Compacts, compacts}
 use Rattle.scheme.proofs.Simulation.{madeIn, logIn, Sim, later, counters-later}
 use Rattle.scheme.proofs.Verdicts.{orElse, both-none, verdict-append, passed, key-is, length-refused}
-use Rattle.scheme.proofs.Queries.{After, told-eq, cut-is, sizes-are, header-is, marks-are}
+use Rattle.scheme.proofs.Queries.{After, told-eq, cut-is, sizes-are, states-pass}
 
 module _ (x : Setting) (i : ℕ) (before : List ℕ) (l : Ledger) (hi : suc i ≤ length (x .calls)) (s : Sim x i before l) (nonces : List ℕ) where
   open Setting x using (suite, K, z, calls)
@@ -36,29 +37,29 @@ module _ (x : Setting) (i : ℕ) (before : List ℕ) (l : Ledger) (hi : suc i �
   hi₀ = omega arith
 
   abbrev L : List (List ℕ)
-  L = logIn x (s .st .tS)
+  L = logIn x (s .st .table tableS)
 
   abbrev fewTests : List Test
   fewTests = (ltb (length nonces / 12) (l .W) ⇒ 19) ∷ []
 
-  log-used : length L ≡ length (used (s .st .tS))
+  log-used : length L ≡ length (used (s .st .table tableS))
   unfolding logOf
-  log-used = lib.ListN.length-map (used (s .st .tS)) (clIn suite (KS suite K))
+  log-used = lib.ListN.length-map (used (s .st .table tableS)) (clIn suite (KS suite K))
 
   KS-length : length (KS suite K) ≡ 32
   unfolding KS
   KS-length = suite .F-length K (number8 3)
 
-  rest-verdict : verdict (tokenTests 32 (KS suite K) ++ ((headerBad before ⇒ 10) ∷ (marksBad (cut before) ⇒ 11) ∷ (ltb (length nonces / 12) (length (used (cut before .tS))) ⇒ 19) ∷ [])) ≡ verdict fewTests
+  rest-verdict : verdict (tokenTests compactionTokenLength (KS suite K) ++ (stateTests before ++ ((ltb (length nonces / 12) (length (used (cut before .table tableS))) ⇒ 19) ∷ []))) ≡ verdict fewTests
   unfolding tokenTests
   rest-verdict =
-      let w : length (used (cut before .tS)) ≡ l .W = ap (λ (t : Store). length (used (t .tS))) (cut-is x i before l hi₀ s) ∙ sym log-used ∙ sym (s .W-is) in
-      rw (length-refused 32 (KS suite K) KS-length, header-is x i before l hi₀ s, marks-are x i before l hi₀ s, w) refl
+      let w : length (used (cut before .table tableS)) ≡ l .W = ap (λ (t : Store). length (used (t .table tableS))) (cut-is x i before l hi₀ s) ∙ sym log-used ∙ sym (s .W-is) in
+      rw (length-refused compactionTokenLength (KS suite K) KS-length) (states-pass x i before l hi₀ s ((ltb (length nonces / 12) (length (used (cut before .table tableS))) ⇒ 19) ∷ []) ∙ rw w refl)
 
   compact-verdict : compactVerdict suite before nonces (KS suite K) ≡ orElse (verdict (compactionInputTests nonces)) (verdict fewTests)
   unfolding compactVerdict
   compact-verdict =
-      verdict-append (compactionInputTests nonces) (tokenTests 32 (KS suite K) ++ ((headerBad before ⇒ 10) ∷ (marksBad (cut before) ⇒ 11) ∷ (ltb (length nonces / 12) (length (used (cut before .tS))) ⇒ 19) ∷ []))
+      verdict-append (compactionInputTests nonces) (tokenTests compactionTokenLength (KS suite K) ++ (stateTests before ++ ((ltb (length nonces / 12) (length (used (cut before .table tableS))) ⇒ 19) ∷ [])))
       ∙ ap (orElse (verdict (compactionInputTests nonces))) rest-verdict
 
   -- ---- an accepted compaction
@@ -71,12 +72,12 @@ module _ (x : Setting) (i : ℕ) (before : List ℕ) (l : Ledger) (hi : suc i �
         let w = s .W-is in
         omega arith
 
-    loop : Treats suite (z .c) (KS suite K) (distinct L) (s .st .tC) (s .st .tS) nonces 0 0 answer (d .tC′) (d .tS′)
+    loop : Treats suite (z .c) (KS suite K) (distinct L) (s .st .table tableC) (s .st .table tableS) nonces 0 0 answer (d .tC′) (d .tS′)
     unfolding logged
     loop = rw (sizes-are x i before l hi₀ s, cut-is x i before l hi₀ s) at (d .treats)
 
     result : Compacts x (KS suite K) i hi₀ (madeIn l) (l .A) 0 0 (length (distinct L)) (length L) answer (d .tC′) (d .tS′)
-    result = compacts x (KS suite K) i hi₀ (madeIn l) (l .A) loop refl (s .counters) (s .shaped .C-ok) (s .shaped .S-ok) nonces-enough
+    result = compacts x (KS suite K) i hi₀ (madeIn l) (l .A) loop refl (s .counters) (s .shaped .tables tableC) (s .shaped .tables tableS) nonces-enough
 
     answer-is : answer ≡ done (length (l .T) ∷ l .W ∷ [])
     answer-is =
@@ -90,9 +91,9 @@ module _ (x : Setting) (i : ℕ) (before : List ℕ) (l : Ledger) (hi : suc i �
     compact-sim : Sim x (suc i) after (afterCompaction (boundsOf z) l)
     unfolding afterCompaction compactedStore
     compact-sim = record {
-      st = record { header = s .st .header; tM = s .st .tM; tV = s .st .tV; tC = d .tC′; tS = d .tS′ };
+      st = putIn tableS (d .tS′) (putIn tableC (d .tC′) (s .st));
       bytes = d .written ∙ rw (cut-is x i before l hi₀ s) refl;
-      shaped = record { head = s .shaped .head; M-ok = s .shaped .M-ok; V-ok = s .shaped .V-ok; C-ok = result .C-ok; S-ok = result .S-ok };
+      shaped = shaped-put z _ tableS (d .tS′) (result .S-ok) (shaped-put z (s .st) tableC (d .tC′) (result .C-ok) (s .shaped));
       counters = counters-later x (d .tC′) (logIn x (d .tS′)) (l .A + length (l .T)) i (madeIn l) hi₀ (rw A-is at (result .counted));
       entries = s .entries;
       small = λ pr ok. let w = s .small pr ok in omega arith;

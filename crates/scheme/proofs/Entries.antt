@@ -17,7 +17,7 @@ use Rattle.table.proofs.Counting.{both, same-true, same-refl, same-eq, ne-same,
 use Rattle.table.proofs.Rows.{placed-same, free-where-used, placed-none, placed-next}
 use Rattle.scheme.specs.Suite.{number8}
 use Rattle.scheme.specs.Keys.{MT, ME}
-use Rattle.scheme.specs.Store.{entryTag, entryRow, reverseRow, idIn, reverseId, reverseTag}
+use Rattle.scheme.specs.Store.{tableM, tableV, widthOf, entryTag, entryRow, reverseRow, idIn, reverseId, reverseTag}
 use Rattle.scheme.specs.Insert.{entryRows, reverseRows}
 use Rattle.scheme.specs.Find.{idOf, idsTo}
 use Rattle.scheme.specs.Ledger.{Pair, samePair}
@@ -405,20 +405,20 @@ module _ (x : Setting) where
         ∙ count-agree Good (λ g. same (reverseId (itemV g)) id) (λ g. same (g .id) id) reverse-agrees (X .G) (X .good)
         ∙ sym (X .listing .counts (λ y. same y id) ∙ count-map (λ (g : Item). g .id) (λ y. same y id) (X .G))
 
-    pub entries-erase : Entries (freeWhere 61 (erasedIn tV id) tM) (freeWhere 49 (λ b. same (reverseId b) id) tV) (select (λ y. not (same y id)) all) (λ q. select (λ y. not (same y id)) (ids q)) made
+    pub entries-erase : Entries (freeWhere (widthOf tableM) (erasedIn tV id) tM) (freeWhere (widthOf tableV) (λ b. same (reverseId b) id) tV) (select (λ y. not (same y id)) all) (λ q. select (λ y. not (same y id)) (ids q)) made
     entries-erase = record {
       G = G′;
       good = all-select Good keep (X .G) (X .good);
       rowsM = record {
         counts = λ p.
-            ap (count p) (free-where-used 61 (erasedIn tV id) tM)
+            ap (count p) (free-where-used (widthOf tableM) (erasedIn tV id) tM)
             ∙ Same-select (λ b. not (erasedIn tV id b)) (used tM) (map itemM (X .G)) (X .rowsM) .counts p
             ∙ ap (count p) (select-map itemM (λ b. not (erasedIn tV id b)) (X .G)
             ∙ ap (map itemM) (select-agree (λ g. erasedIn tV id (itemM g) ≡ same (g .id) id) (λ g. not (erasedIn tV id (itemM g))) keep (λ g e. ap not e) (X .G) erased-all));
       };
       rowsV = record {
         counts = λ p.
-            ap (count p) (free-where-used 49 (λ b. same (reverseId b) id) tV)
+            ap (count p) (free-where-used (widthOf tableV) (λ b. same (reverseId b) id) tV)
             ∙ Same-select (λ b. not (same (reverseId b) id)) (used tV) (map itemV (X .G)) (X .rowsV) .counts p
             ∙ ap (count p) (select-map itemV (λ b. not (same (reverseId b) id)) (X .G)
             ∙ ap (map itemV) (select-agree Good (λ g. not (same (reverseId (itemV g)) id)) keep (λ g h. ap not (reverse-agrees g h)) (X .G) (X .good)));

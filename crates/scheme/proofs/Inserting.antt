@@ -18,8 +18,8 @@ use Rattle.table.proofs.Rows.{placed-same, rows-length, rows-wide}
 use Rattle.table.proofs.Distinct.{any-same, distinct-same, distinct-more}
 use Rattle.scheme.specs.Suite.{Suite, number8}
 use Rattle.scheme.specs.Labels.{Field, fieldLengthsBad}
-use Rattle.scheme.specs.Keys.{KS, insertToken}
-use Rattle.scheme.specs.Store.{Store, Sizes, cut, entryTag, entryRow, reverseRow, counterRow, logRow, clIn}
+use Rattle.scheme.specs.Keys.{KS, insertToken, insertTokenLength}
+use Rattle.scheme.specs.Store.{Store, Sizes, tableM, tableV, tableC, tableS, putIn, stateTests, cut, entryTag, entryRow, reverseRow, counterRow, logRow, clIn}
 use Rattle.scheme.specs.Reading
 use Rattle.scheme.specs.Reading.{Reading, damaged, countOf, positionOf, limit}
 use Rattle.scheme.specs.Refusals.{idCount, idsIn, insertTokenTests, insertInputTests, tokenTests, lengthNot}
@@ -33,13 +33,13 @@ use Rattle.scheme.specs.Premise.{counter}
 use Rattle.scheme.specs.Run.{InsertCall}
 use Rattle.scheme.specs.Claim.{boundsOf}
 use Rattle.scheme.proofs.Setting.{Setting, OK, clOf, ctag, tag-length, counted-length, counted-mark, cl-differ, by-pair}
-use Rattle.scheme.proofs.Shape.{Shaped, RowOK, placed-ok, placed-all-ok, free-is}
+use Rattle.scheme.proofs.Shape.{Shaped, RowOK, shaped-put, placed-ok, placed-all-ok, free-is}
 use Rattle.scheme.proofs.Counters.{runOf, PairCounter, Counters, counters-insert}
 use Rattle.scheme.proofs.Entries.{Item, Entries, mtOf, meOf, itemM, itemV, entries-insert-all}
 use Rattle.scheme.proofs.LedgerLaws.{entry-own, entry-other, listed-more, with-length, with-own, with-other}
 use Rattle.scheme.proofs.Simulation.{madeIn, listIn, logIn, Sim, later}
 use Rattle.scheme.proofs.Verdicts.{orElse, both-none, verdict-append, passed, key-is, length-passed, length-refused, shift}
-use Rattle.scheme.proofs.Queries.{After, told-eq, cut-is, sizes-are, header-is, marks-are, read-is}
+use Rattle.scheme.proofs.Queries.{After, told-eq, cut-is, sizes-are, states-pass, read-is}
 use Rattle.scheme.proofs.Tokens
 
 -- where nothing refuses the token
@@ -78,7 +78,7 @@ input-good ids nonces e =
     record { nonces-length = length-passed (12 * (idCount ids + 1)) nonces (a .0); whole = omega arith; least = m; most = n }
 
 -- the new rows have their widths and marks
-entry-row-ok : (suite : Suite) (mt me : List ℕ) (a : ℕ) (nonce id : List ℕ) → length nonce ≡ 12 → length id ≡ 16 → RowOK 61 (entryRow suite mt me a nonce id)
+entry-row-ok : (suite : Suite) (mt me : List ℕ) (a : ℕ) (nonce id : List ℕ) → length nonce ≡ 12 → length id ≡ 16 → RowOK tableM (entryRow suite mt me a nonce id)
 unfolding entryRow entryTag
 entry-row-ok suite mt me a nonce id hn hi = record {
   width =
@@ -90,13 +90,13 @@ entry-row-ok suite mt me a nonce id hn hi = record {
   mark = refl;
 }
 
-entry-rows-ok : (suite : Suite) (mt me : List ℕ) (g : ℕ) (l : List (List ℕ)) (nonces : List ℕ) → All (λ r. length r ≡ 16) l → 12 * length l ≤ length nonces → All (RowOK 61) (entryRows suite mt me g l nonces)
+entry-rows-ok : (suite : Suite) (mt me : List ℕ) (g : ℕ) (l : List (List ℕ)) (nonces : List ℕ) → All (λ r. length r ≡ 16) l → 12 * length l ≤ length nonces → All (RowOK tableM) (entryRows suite mt me g l nonces)
 entry-rows-ok suite mt me g [] nonces a h = tt
 entry-rows-ok suite mt me g (id ∷ l) nonces a h =
     let d = length-drop 12 nonces in
     (entry-row-ok suite mt me (suc g) (take 12 nonces) id (length-take-le 12 nonces (omega arith)) (a .0), entry-rows-ok suite mt me (suc g) l (drop 12 nonces) (a .1) (omega arith))
 
-reverse-row-ok : (suite : Suite) (mt : List ℕ) (a : ℕ) (id : List ℕ) → length id ≡ 16 → RowOK 49 (reverseRow suite mt a id)
+reverse-row-ok : (suite : Suite) (mt : List ℕ) (a : ℕ) (id : List ℕ) → length id ≡ 16 → RowOK tableV (reverseRow suite mt a id)
 unfolding reverseRow entryTag
 reverse-row-ok suite mt a id hi = record {
   width =
@@ -106,7 +106,7 @@ reverse-row-ok suite mt a id hi = record {
   mark = refl;
 }
 
-reverse-rows-ok : (suite : Suite) (mt : List ℕ) (g : ℕ) (l : List (List ℕ)) → All (λ r. length r ≡ 16) l → All (RowOK 49) (reverseRows suite mt g l)
+reverse-rows-ok : (suite : Suite) (mt : List ℕ) (g : ℕ) (l : List (List ℕ)) → All (λ r. length r ≡ 16) l → All (RowOK tableV) (reverseRows suite mt g l)
 reverse-rows-ok suite mt g [] a = tt
 reverse-rows-ok suite mt g (id ∷ l) a = (reverse-row-ok suite mt (suc g) id (a .0), reverse-rows-ok suite mt (suc g) l (a .1))
 
@@ -138,59 +138,59 @@ module _ (x : Setting) (i : ℕ) (before : List ℕ) (l : Ledger) (hi : suc i �
   hi₀ = omega arith
 
   abbrev L : List (List ℕ)
-  L = logIn x (s .st .tS)
+  L = logIn x (s .st .table tableS)
 
-  used-M : length (used (s .st .tM)) ≡ H l
+  used-M : length (used (s .st .table tableM)) ≡ H l
   unfolding H
   used-M =
-      let a = same-length (used (s .st .tM)) (map (itemM x) (s .entries .G)) (s .entries .rowsM) in
+      let a = same-length (used (s .st .table tableM)) (map (itemM x) (s .entries .G)) (s .entries .rowsM) in
       let b = same-length (listed (l .entries)) (map (λ (g : Item). g .id) (s .entries .G)) (s .entries .listing) in
       let c = lib.ListN.length-map (s .entries .G) (itemM x) in
       let d = lib.ListN.length-map (s .entries .G) (λ (g : Item). g .id) in
       omega arith
 
-  used-V : length (used (s .st .tV)) ≡ H l
+  used-V : length (used (s .st .table tableV)) ≡ H l
   unfolding H
   used-V =
-      let a = same-length (used (s .st .tV)) (map (itemV x) (s .entries .G)) (s .entries .rowsV) in
+      let a = same-length (used (s .st .table tableV)) (map (itemV x) (s .entries .G)) (s .entries .rowsV) in
       let b = same-length (listed (l .entries)) (map (λ (g : Item). g .id) (s .entries .G)) (s .entries .listing) in
       let c = lib.ListN.length-map (s .entries .G) (itemV x) in
       let d = lib.ListN.length-map (s .entries .G) (λ (g : Item). g .id) in
       omega arith
 
-  log-used : length L ≡ length (used (s .st .tS))
+  log-used : length L ≡ length (used (s .st .table tableS))
   unfolding logOf
-  log-used = lib.ListN.length-map (used (s .st .tS)) (clIn suite (KS suite K))
+  log-used = lib.ListN.length-map (used (s .st .table tableS)) (clIn suite (KS suite K))
 
-  room-entries : (ltb (freeRows (cut before .tM)) j || ltb (freeRows (cut before .tV)) j) ≡ ltb (z .m) (H l + j)
+  room-entries : (ltb (freeRows (cut before .table tableM)) j || ltb (freeRows (cut before .table tableV)) j) ≡ ltb (z .m) (H l + j)
   room-entries =
-      let a = free-is 61 (z .m) (s .st .tM) (s .shaped .M-ok) in
-      let b = free-is 49 (z .m) (s .st .tV) (s .shaped .V-ok) in
+      let a = free-is tableM (z .m) (s .st .table tableM) (s .shaped .tables tableM) in
+      let b = free-is tableV (z .m) (s .st .table tableV) (s .shaped .tables tableV) in
       let c = used-M in
       let d = used-V in
-      rw (cut-is x i before l hi₀ s, shift (freeRows (s .st .tM)) (H l) (z .m) j (omega arith), shift (freeRows (s .st .tV)) (H l) (z .m) j (omega arith))
+      rw (cut-is x i before l hi₀ s, shift (freeRows (s .st .table tableM)) (H l) (z .m) j (omega arith), shift (freeRows (s .st .table tableV)) (H l) (z .m) j (omega arith))
       (or-self (ltb (z .m) (H l + j)))
 
-  room-counter : ltb (freeRows (cut before .tC)) 1 ≡ ltb (z .c) (l .A + l .W + 1)
+  room-counter : ltb (freeRows (cut before .table tableC)) 1 ≡ ltb (z .c) (l .A + l .W + 1)
   room-counter =
-      let a = free-is 61 (z .c) (s .st .tC) (s .shaped .C-ok) in
+      let a = free-is tableC (z .c) (s .st .table tableC) (s .shaped .tables tableC) in
       let b = s .counters .total in
       let w = s .W-is in
-      rw (cut-is x i before l hi₀ s) (shift (freeRows (s .st .tC)) (l .A + l .W) (z .c) 1 (omega arith))
+      rw (cut-is x i before l hi₀ s) (shift (freeRows (s .st .table tableC)) (l .A + l .W) (z .c) 1 (omega arith))
 
-  room-log : ltb (freeRows (cut before .tS)) 1 ≡ ltb (z .s) (l .W + 1)
+  room-log : ltb (freeRows (cut before .table tableS)) 1 ≡ ltb (z .s) (l .W + 1)
   room-log =
-      let a = free-is 45 (z .s) (s .st .tS) (s .shaped .S-ok) in
+      let a = free-is tableS (z .s) (s .st .table tableS) (s .shaped .tables tableS) in
       let b = log-used in
       let w = s .W-is in
-      rw (cut-is x i before l hi₀ s) (shift (freeRows (s .st .tS)) (l .W) (z .s) 1 (omega arith))
+      rw (cut-is x i before l hi₀ s) (shift (freeRows (s .st .table tableS)) (l .W) (z .s) 1 (omega arith))
 
   -- where the token's p is the store's
   module _ (p-is : p ≡ z .p) where
     ok : OK x pr
     ok = record { named = named; valid = valid; shared = omega arith }
 
-    abbrev P : PairCounter x (s .st .tC) L (l .A) i pr (madeIn l pr)
+    abbrev P : PairCounter x (s .st .table tableC) L (l .A) i pr (madeIn l pr)
     P = s .counters .pairs pr ok
 
     read : insertReading suite before token ≡ Reading.counter (P .B) (P .start) (runOf x L pr) (madeIn l pr)
@@ -204,7 +204,7 @@ module _ (x : Setting) (i : ℕ) (before : List ℕ) (l : Ledger) (hi : suc i �
   states : verdict (insertStateTests suite before ids nonces token) ≡ verdict (ledgerTests z l f p u ids)
   unfolding insertStateTests
   states =
-      rw (header-is x i before l hi₀ s, marks-are x i before l hi₀ s, Tokens.token-p suite K f p u nonce, sizes-are x i before l hi₀ s, room-entries, room-counter, room-log)
+      rw (Tokens.token-p suite K f p u nonce, sizes-are x i before l hi₀ s, room-entries, room-counter, room-log)
       (go (eqb p (z .p)) refl)
     where
       go : (b : Bool) → eqb p (z .p) ≡ b
@@ -218,12 +218,9 @@ module _ (x : Setting) (i : ℕ) (before : List ℕ) (l : Ledger) (hi : suc i �
   insert-verdict : insertVerdict suite before ids nonces token ≡ orElse (verdict (insertInputTests ids nonces)) (verdict (ledgerTests z l f p u ids))
   unfolding insertVerdict tokenTests
   insert-verdict =
-      verdict-append (insertInputTests ids nonces) (tokenTests 141 token ++ insertStateTests suite before ids nonces token)
+      verdict-append (insertInputTests ids nonces) (tokenTests insertTokenLength token ++ (stateTests before ++ insertStateTests suite before ids nonces token))
       ∙ ap (orElse (verdict (insertInputTests ids nonces)))
-      (verdict-append (tokenTests 141 token) (insertStateTests suite before ids nonces token) ∙ right)
-    where
-      right : orElse (verdict (tokenTests 141 token)) (verdict (insertStateTests suite before ids nonces token)) ≡ verdict (ledgerTests z l f p u ids)
-      right = rw (length-refused 141 token (Tokens.token-length suite K f p u nonce nonce-length)) states
+      (rw (length-refused insertTokenLength token (Tokens.token-length suite K f p u nonce nonce-length)) (states-pass x i before l hi₀ s (insertStateTests suite before ids nonces token) ∙ states))
 
   -- ---- an accepted insert
 
@@ -261,19 +258,19 @@ module _ (x : Setting) (i : ℕ) (before : List ℕ) (l : Ledger) (hi : suc i �
     position-read : positionOf (insertReading suite before token) ≡ P p-is .start + runOf x L pr
     position-read = ap positionOf (read p-is)
 
-    pM : PlacedAll (s .st .tM) (entryRows suite (mtOf x pr) (meOf x pr) (madeIn l pr) (idsIn ids) nonces) (ins .tM′)
+    pM : PlacedAll (s .st .table tableM) (entryRows suite (mtOf x pr) (meOf x pr) (madeIn l pr) (idsIn ids) nonces) (ins .tM′)
     unfolding newEntries
     pM = rw (cut-is x i before l hi₀ s, Tokens.token-MT suite K f p u nonce, Tokens.token-ME suite K f p u nonce, count-read) at (ins .entries)
 
-    pV : PlacedAll (s .st .tV) (reverseRows suite (mtOf x pr) (madeIn l pr) (idsIn ids)) (ins .tV′)
+    pV : PlacedAll (s .st .table tableV) (reverseRows suite (mtOf x pr) (madeIn l pr) (idsIn ids)) (ins .tV′)
     unfolding newReverses
     pV = rw (cut-is x i before l hi₀ s, Tokens.token-MT suite K f p u nonce, count-read) at (ins .reverses)
 
-    pC : Placed (s .st .tC) (counterRow suite (clOf x pr) (P p-is .start + runOf x L pr + 1) (drop (12 * j) nonces) (madeIn l pr + j)) (ins .tC′)
+    pC : Placed (s .st .table tableC) (counterRow suite (clOf x pr) (P p-is .start + runOf x L pr + 1) (drop (12 * j) nonces) (madeIn l pr + j)) (ins .tC′)
     unfolding newCounter
     pC = rw (cut-is x i before l hi₀ s, Tokens.token-CL suite K f p u nonce, position-read, new-is p-is) at (ins .counter)
 
-    pS : Placed (s .st .tS) (logRow (Tokens.log suite K f p u nonce)) (ins .tS′)
+    pS : Placed (s .st .table tableS) (logRow (Tokens.log suite K f p u nonce)) (ins .tS′)
     unfolding newLog
     pS = rw (cut-is x i before l hi₀ s, Tokens.token-log suite K f p u nonce) at (ins .log)
 
@@ -287,7 +284,7 @@ module _ (x : Setting) (i : ℕ) (before : List ℕ) (l : Ledger) (hi : suc i �
 
     logged : Same (logIn x (ins .tS′)) (clOf x pr ∷ L)
     unfolding logOf
-    logged = rw bodyS at (Same-map (clIn suite (KS suite K)) (used (ins .tS′)) (body (logRow (Tokens.log suite K f p u nonce)) ∷ used (s .st .tS)) (placed-same (s .st .tS) (logRow (Tokens.log suite K f p u nonce)) (ins .tS′) pS busyS))
+    logged = rw bodyS at (Same-map (clIn suite (KS suite K)) (used (ins .tS′)) (body (logRow (Tokens.log suite K f p u nonce)) ∷ used (s .st .table tableS)) (placed-same (s .st .table tableS) (logRow (Tokens.log suite K f p u nonce)) (ins .tS′) pS busyS))
 
     last-nonce : length (drop (12 * j) nonces) ≡ 12
     last-nonce = let d = length-drop (12 * j) nonces in let n = good .nonces-length in omega arith
@@ -304,7 +301,7 @@ module _ (x : Setting) (i : ℕ) (before : List ℕ) (l : Ledger) (hi : suc i �
     counters-after : Counters x (ins .tC′) (logIn x (ins .tS′)) (l .A) (suc i) (madeIn l′)
     counters-after =
         let g = good .least in
-        counters-insert x (s .st .tC) L (l .A) i (madeIn l) (s .counters) hi pr (ok p-is) (drop (12 * j) nonces) (madeIn l pr + j) last-nonce (omega arith) fits
+        counters-insert x (s .st .table tableC) L (l .A) i (madeIn l) (s .counters) hi pr (ok p-is) (drop (12 * j) nonces) (madeIn l pr + j) last-nonce (omega arith) fits
         (ins .tC′) pC (logIn x (ins .tS′)) logged (madeIn l′) made-own made-other
 
     entries-after : Entries x (ins .tM′) (ins .tV′) (listed (l′ .entries)) (listIn l′) (madeIn l′)
@@ -313,17 +310,17 @@ module _ (x : Setting) (i : ℕ) (before : List ℕ) (l : Ledger) (hi : suc i �
         let m = s .small pr (ok p-is) in
         let g = good .most in
         let own : madeIn l′ pr ≡ madeIn l pr + length (idsIn ids) = made-own ∙ ap (λ (n : ℕ). madeIn l pr + n) (sym a) in
-        entries-insert-all x pr (ok p-is) (idsIn ids) nonces (madeIn l pr) (s .st .tM) (s .st .tV) (ins .tM′) (ins .tV′) (listed (l .entries)) (listed (l′ .entries)) (listIn l) (listIn l′) (madeIn l) (madeIn l′)
+        entries-insert-all x pr (ok p-is) (idsIn ids) nonces (madeIn l pr) (s .st .table tableM) (s .st .table tableV) (ins .tM′) (ins .tV′) (listed (l .entries)) (listed (l′ .entries)) (listIn l) (listIn l′) (madeIn l) (madeIn l′)
         (s .entries) refl ids-wide nonces-enough (omega arith) pM pV listing ids-own ids-other own made-other
 
     st′ : Store
-    st′ = record { header = s .st .header; tM = ins .tM′; tV = ins .tV′; tC = ins .tC′; tS = ins .tS′ }
+    st′ = putIn tableS (ins .tS′) (putIn tableC (ins .tC′) (putIn tableV (ins .tV′) (putIn tableM (ins .tM′) (s .st))))
 
-    log-row-ok : RowOK 45 (logRow (Tokens.log suite K f p u nonce))
+    log-row-ok : RowOK tableS (logRow (Tokens.log suite K f p u nonce))
     unfolding logRow
     log-row-ok = record { width = ap suc (Tokens.log-length suite K f p u nonce nonce-length); mark = refl }
 
-    counter-row-ok : RowOK 61 (counterRow suite (clOf x pr) (P p-is .start + runOf x L pr + 1) (drop (12 * j) nonces) (madeIn l pr + j))
+    counter-row-ok : RowOK tableC (counterRow suite (clOf x pr) (P p-is .start + runOf x L pr + 1) (drop (12 * j) nonces) (madeIn l pr + j))
     unfolding counterRow
     counter-row-ok = record {
       width = counted-length suite (clOf x pr) (ctag x pr counter (P p-is .start + runOf x L pr + 1)) (drop (12 * j) nonces) 0 (madeIn l pr + j) (tag-length suite (clOf x pr) counter (P p-is .start + runOf x L pr + 1)) last-nonce;
@@ -332,13 +329,12 @@ module _ (x : Setting) (i : ℕ) (before : List ℕ) (l : Ledger) (hi : suc i �
 
     shaped′ : Shaped z st′
     unfolding st′
-    shaped′ = record {
-      head = s .shaped .head;
-      M-ok = placed-all-ok 61 (z .m) (s .st .tM) _ (ins .tM′) pM (entry-rows-ok suite (mtOf x pr) (meOf x pr) (madeIn l pr) (idsIn ids) nonces ids-wide nonces-enough) (s .shaped .M-ok);
-      V-ok = placed-all-ok 49 (z .m) (s .st .tV) _ (ins .tV′) pV (reverse-rows-ok suite (mtOf x pr) (madeIn l pr) (idsIn ids) ids-wide) (s .shaped .V-ok);
-      C-ok = placed-ok 61 (z .c) (s .st .tC) _ (ins .tC′) pC counter-row-ok (s .shaped .C-ok);
-      S-ok = placed-ok 45 (z .s) (s .st .tS) _ (ins .tS′) pS log-row-ok (s .shaped .S-ok);
-    }
+    shaped′ =
+        shaped-put z _ tableS (ins .tS′) (placed-ok tableS (z .s) (s .st .table tableS) _ (ins .tS′) pS log-row-ok (s .shaped .tables tableS))
+        (shaped-put z _ tableC (ins .tC′) (placed-ok tableC (z .c) (s .st .table tableC) _ (ins .tC′) pC counter-row-ok (s .shaped .tables tableC))
+        (shaped-put z _ tableV (ins .tV′) (placed-all-ok tableV (z .m) (s .st .table tableV) _ (ins .tV′) pV (reverse-rows-ok suite (mtOf x pr) (madeIn l pr) (idsIn ids) ids-wide) (s .shaped .tables tableV))
+        (shaped-put z (s .st) tableM (ins .tM′) (placed-all-ok tableM (z .m) (s .st .table tableM) _ (ins .tM′) pM (entry-rows-ok suite (mtOf x pr) (meOf x pr) (madeIn l pr) (idsIn ids) nonces ids-wide nonces-enough) (s .shaped .tables tableM))
+        (s .shaped))))
 
     members : (q : Pair) → OK x q → anyOf (samePair q) (withPair pr (l .T)) ≡ anyOf (λ y. same y (clOf x q)) (logIn x (ins .tS′))
     members = by-pair pr (λ q. OK x q → anyOf (samePair q) (withPair pr (l .T)) ≡ anyOf (λ y. same y (clOf x q)) (logIn x (ins .tS′)))

@@ -1,6 +1,7 @@
 pub mod Numbers
 pub mod Labels
 pub mod Setting
+pub mod Plan
 pub mod Shape
 pub mod Counters
 pub mod Treat

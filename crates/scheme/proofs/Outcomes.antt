@@ -17,8 +17,8 @@ use Rattle.table.specs.Table.PlacedAll.{none-placed, one-placed}
 use Rattle.table.proofs.Counting.{neither, same-length}
 use Rattle.table.proofs.Rows.{zero-free, free-used, placed-same, placed-length, index-holds, place-held, rows-length}
 use Rattle.scheme.specs.Suite.{Suite}
-use Rattle.scheme.specs.Keys.{insertToken, compactionToken, tokenP, tokenMT, tokenME}
-use Rattle.scheme.specs.Store.{cut, sizesOf, headerBad, marksBad, entryRow, reverseRow, counterTag}
+use Rattle.scheme.specs.Keys.{insertToken, insertTokenLength, compactionToken, tokenP, tokenMT, tokenME}
+use Rattle.scheme.specs.Store.{tableM, tableV, tableC, tableS, widthOf, cut, sizesOf, stateTests, entryRow, reverseRow, counterTag}
 use Rattle.scheme.specs.Reading
 use Rattle.scheme.specs.Reading.{Reading, damage, reading, damaged, countOf, limit, walk, isDamage, anchorsHeld, startOf, countersHeld, counterNumbers}
 use Rattle.scheme.specs.Refusals.{Result, idCount, idsIn, insertTokenTests, insertInputTests, tokenTests, keyTests}
@@ -29,7 +29,7 @@ use Rattle.scheme.specs.Call
 use Rattle.scheme.specs.Call.{Call, Told}
 use Rattle.scheme.specs.Run.{Step, Run, ended, step}
 use Rattle.scheme.specs.Lowest.{place, placeAll, insertedLowest, insertLowest, Treated, byReading, treatLowest, treatedLowest, compactLowest, callLowest, tellsLowest, storeLowest}
-use Rattle.scheme.proofs.Verdicts.{both-none, verdict-append, passed}
+use Rattle.scheme.proofs.Verdicts.{after-none, passed}
 
 -- ---- a free row takes a new one
 
@@ -84,32 +84,29 @@ reverses-number suite mt g (id ∷ l) = ap suc (reverses-number suite mt (suc g)
 
 module _ (suite : Suite) (before ids nonces token : List ℕ) where
   record Room : Type 0 where
-    inM : idCount ids ≤ freeRows (cut before .tM)
-    inV : idCount ids ≤ freeRows (cut before .tV)
-    inC : 1 ≤ freeRows (cut before .tC)
-    inTS : 1 ≤ freeRows (cut before .tS)
+    inM : idCount ids ≤ freeRows (cut before .table tableM)
+    inV : idCount ids ≤ freeRows (cut before .table tableV)
+    inC : 1 ≤ freeRows (cut before .table tableC)
+    inTS : 1 ≤ freeRows (cut before .table tableS)
 
   room : insertVerdict suite before ids nonces token ≡ none → Room
   unfolding insertVerdict insertStateTests
   room e =
-      let a = both-none (verdict (insertInputTests ids nonces)) (verdict (tokenTests 141 token ++ insertStateTests suite before ids nonces token))
-      (sym (verdict-append (insertInputTests ids nonces) (tokenTests 141 token ++ insertStateTests suite before ids nonces token)) ∙ e) in
-      let b = both-none (verdict (tokenTests 141 token)) (verdict (insertStateTests suite before ids nonces token))
-      (sym (verdict-append (tokenTests 141 token) (insertStateTests suite before ids nonces token)) ∙ a .1) in
-      let c = passed (headerBad before) _ _ (b .1) in
-      let d = passed (marksBad (cut before)) _ _ (c .1) in
-      let f = passed (not (eqb (tokenP token) (sizesOf before .p))) _ _ (d .1) in
+      let a = after-none (insertInputTests ids nonces) (tokenTests insertTokenLength token ++ (stateTests before ++ insertStateTests suite before ids nonces token)) e in
+      let b = after-none (tokenTests insertTokenLength token) (stateTests before ++ insertStateTests suite before ids nonces token) a in
+      let d = after-none (stateTests before) (insertStateTests suite before ids nonces token) b in
+      let f = passed (not (eqb (tokenP token) (sizesOf before .p))) _ _ d in
       let g = passed (damaged (insertReading suite before token)) _ _ (f .1) in
       let h = passed (ltb limit (newCount suite before ids token)) _ _ (g .1) in
-      let i = passed (ltb (freeRows (cut before .tM)) (idCount ids) || ltb (freeRows (cut before .tV)) (idCount ids)) _ _ (h .1) in
-      let j = passed (ltb (freeRows (cut before .tC)) 1) _ _ (i .1) in
-      let k = passed (ltb (freeRows (cut before .tS)) 1) _ _ (j .1) in
-      let n = neither (ltb (freeRows (cut before .tM)) (idCount ids)) (ltb (freeRows (cut before .tV)) (idCount ids)) (i .0) in
+      let i = passed (ltb (freeRows (cut before .table tableM)) (idCount ids) || ltb (freeRows (cut before .table tableV)) (idCount ids)) _ _ (h .1) in
+      let j = passed (ltb (freeRows (cut before .table tableC)) 1) _ _ (i .1) in
+      let k = passed (ltb (freeRows (cut before .table tableS)) 1) _ _ (j .1) in
+      let n = neither (ltb (freeRows (cut before .table tableM)) (idCount ids)) (ltb (freeRows (cut before .table tableV)) (idCount ids)) (i .0) in
       record {
-        inM = ltb-false (freeRows (cut before .tM)) (idCount ids) (n .0);
-        inV = ltb-false (freeRows (cut before .tV)) (idCount ids) (n .1);
-        inC = ltb-false (freeRows (cut before .tC)) 1 (j .0);
-        inTS = ltb-false (freeRows (cut before .tS)) 1 (k .0);
+        inM = ltb-false (freeRows (cut before .table tableM)) (idCount ids) (n .0);
+        inV = ltb-false (freeRows (cut before .table tableV)) (idCount ids) (n .1);
+        inC = ltb-false (freeRows (cut before .table tableC)) 1 (j .0);
+        inTS = ltb-false (freeRows (cut before .table tableS)) 1 (k .0);
       }
 
   pub insert-outcome : Insert suite before ids nonces token (insertLowest suite before ids nonces token .answer) (insertLowest suite before ids nonces token .store)
@@ -125,14 +122,14 @@ module _ (suite : Suite) (before ids nonces token : List ℕ) where
         let hM = r .inM in
         let hV = r .inV in
         record {
-          tM′ = insertedLowest suite before ids nonces token .tM;
-          tV′ = insertedLowest suite before ids nonces token .tV;
-          tC′ = insertedLowest suite before ids nonces token .tC;
-          tS′ = insertedLowest suite before ids nonces token .tS;
-          entries = placed-all-lowest (cut before .tM) _ (entries-busy suite (tokenMT token) (tokenME token) (countOf (insertReading suite before token)) (idsIn ids) nonces) (omega arith);
-          reverses = placed-all-lowest (cut before .tV) _ (reverses-busy suite (tokenMT token) (countOf (insertReading suite before token)) (idsIn ids)) (omega arith);
-          counter = placed-lowest (cut before .tC) _ (r .inC);
-          log = placed-lowest (cut before .tS) _ (r .inTS);
+          tM′ = insertedLowest suite before ids nonces token .table tableM;
+          tV′ = insertedLowest suite before ids nonces token .table tableV;
+          tC′ = insertedLowest suite before ids nonces token .table tableC;
+          tS′ = insertedLowest suite before ids nonces token .table tableS;
+          entries = placed-all-lowest (cut before .table tableM) _ (entries-busy suite (tokenMT token) (tokenME token) (countOf (insertReading suite before token)) (idsIn ids) nonces) (omega arith);
+          reverses = placed-all-lowest (cut before .table tableV) _ (reverses-busy suite (tokenMT token) (countOf (insertReading suite before token)) (idsIn ids)) (omega arith);
+          counter = placed-lowest (cut before .table tableC) _ (r .inC);
+          log = placed-lowest (cut before .table tableS) _ (r .inTS);
           written = rw e refl;
         };
   }
@@ -186,11 +183,11 @@ anchor-room suite c cl t B start k n e =
     let w : walk (λ i. holds (counterTag suite cl i) t) c start ≡ suc k = rw (p .start-is) at (p .run-is) in
     let h = place-held (counterTag suite cl (suc start)) t (walk-held (λ i. holds (counterTag suite cl i) t) c start k w) in
     let i : ℕ = placeOf (counterTag suite cl (suc start)) t in
-    let l : i < length (set t i (zeroRow 61)) = rw (lib.ListN.length-set t i (zeroRow 61)) (h .inside) in
-    let f : isFree (getD (set t i (zeroRow 61)) i []) ≡ true = rw (getD-set-same t i (zeroRow 61) [] (h .inside)) (zero-free 61) in
-    let g = freed-stays 61 (heldPlaces suite cl t (suc start) k) (set t i (zeroRow 61)) i l f in
-    free-counts (freeAt 61 (heldPlaces suite cl t start (suc k)) t) i
-    (rw (Rattle.table.proofs.Rows.free-at-length 61 (heldPlaces suite cl t start (suc k)) t) (h .inside)) g
+    let l : i < length (set t i (zeroRow (widthOf tableC))) = rw (lib.ListN.length-set t i (zeroRow (widthOf tableC))) (h .inside) in
+    let f : isFree (getD (set t i (zeroRow (widthOf tableC))) i []) ≡ true = rw (getD-set-same t i (zeroRow (widthOf tableC)) [] (h .inside)) (zero-free (widthOf tableC)) in
+    let g = freed-stays (widthOf tableC) (heldPlaces suite cl t (suc start) k) (set t i (zeroRow (widthOf tableC))) i l f in
+    free-counts (freeAt (widthOf tableC) (heldPlaces suite cl t start (suc k)) t) i
+    (rw (Rattle.table.proofs.Rows.free-at-length (widthOf tableC) (heldPlaces suite cl t start (suc k)) t) (h .inside)) g
 
 treats-by : (suite : Suite) (c : ℕ) (ks cl : List ℕ) (cls : List (List ℕ)) (tC tS : Table) (nonces : List ℕ) (a w : ℕ) (r : Reading) → reading suite c cl tC ≡ r
     → (rest : Table → Table → List ℕ → ℕ → ℕ → Treated)
@@ -213,7 +210,7 @@ unfolding compactLowest treatedLowest compactedStore logged
 compact-outcome suite before nonces token = record {
   kept = λ r e. (rw e refl, rw e refl);
   wrote = λ e.
-      let t = treats suite (sizesOf before .c) token (distinct (Rattle.scheme.specs.Compaction.logOf suite token (cut before .tS))) (cut before .tC) (cut before .tS) nonces 0 0 in
+      let t = treats suite (sizesOf before .c) token (distinct (Rattle.scheme.specs.Compaction.logOf suite token (cut before .table tableS))) (cut before .table tableC) (cut before .table tableS) nonces 0 0 in
       record {
         tC′ = treatedLowest suite before nonces token .tC;
         tS′ = treatedLowest suite before nonces token .tS;

@@ -4,7 +4,7 @@ use mathlib.Core.Path.{_≡_, refl, sym, ap, _∙_, fun-ext}
 use mathlib.Core.Bool.{false, not}
 use mathlib.Core.Logic.{_⊎_}
 use mathlib.Core.Option.{Option, none, some}
-use mathlib.Core.List.{List, [], _∷_, _++_, map, List·Memᴰ}
+use mathlib.Core.List.{List, [], _∷_, _++_, append-nil, map, List·Memᴰ}
 use native.Mathlib.Omega.{arith}
 use lib.Dec.{ltb}
 use lib.ListN.{length, take, drop, length-append}
@@ -14,8 +14,8 @@ use Rattle.table.specs.Lists.{same, select, count, anyOf, flat, sum, upTo}
 use Rattle.table.specs.Table.{used, freeWhere}
 use Rattle.table.proofs.Counting.{count-le, Same-refl}
 use Rattle.scheme.specs.Labels.{Field, fieldLengthsBad}
-use Rattle.scheme.specs.Keys.{MT, ME, CL, MTof, MEof, CLof, findToken, countToken, findMT, findME, findCL}
-use Rattle.scheme.specs.Store.{Store, cut, joined, sizesOf, headerBad, marksBad, reverseId, reverseTag}
+use Rattle.scheme.specs.Keys.{MT, ME, CL, MTof, MEof, CLof, findToken, findTokenLength, countToken, countTokenLength, findMT, findME, findCL}
+use Rattle.scheme.specs.Store.{Store, tableM, tableV, tableC, tableS, widthOf, cut, joined, putIn, sizesOf, headerBad, marksBad, stateTests, reverseId, reverseTag}
 use Rattle.scheme.specs.Reading
 use Rattle.scheme.specs.Reading.{Reading, reading, damaged, countOf}
 use Rattle.scheme.specs.Refusals.{Result, eraseInputTests, fieldTokenTests, tokenTests, lengthNot}
@@ -32,7 +32,7 @@ use Rattle.scheme.specs.Ledger.{Pair, Entry, Ledger, listed, removed, af
 use Rattle.scheme.specs.Run.{findCall, countCall, Gives}
 use Rattle.scheme.specs.Claim.{boundsOf}
 use Rattle.scheme.proofs.Setting.{Setting, OK, clOf}
-use Rattle.scheme.proofs.Shape.{free-where-ok, used-le, sizes-is, cut-joined, header-good, marks-is}
+use Rattle.scheme.proofs.Shape.{free-where-ok, shaped-put, used-le, sizes-is, cut-joined, header-good, marks-is}
 use Rattle.scheme.proofs.Counters.{runOf, reading-is}
 use Rattle.scheme.proofs.Entries.{entries-as, ids-to, entries-erase, erase-count, erasedIn}
 use Rattle.scheme.proofs.LedgerLaws.{entry-removed, listed-removed}
@@ -57,45 +57,47 @@ module _ (x : Setting) where
     pub sizes-are : sizesOf before ≡ z
     sizes-are = ap sizesOf (s .bytes) ∙ sizes-is z (s .st) (s .shaped)
 
-    pub header-is : headerBad before ≡ false
+    header-is : headerBad before ≡ false
     header-is = ap headerBad (s .bytes) ∙ header-good z (s .st) (s .shaped) (x .sizes-good)
 
-    pub marks-are : marksBad (cut before) ≡ false
+    marks-are : marksBad (cut before) ≡ false
     marks-are = ap (λ (b : List ℕ). marksBad (cut b)) (s .bytes) ∙ marks-is z (s .st) (s .shaped)
 
+    -- none of the tests that every call begins with refuses
+    pub states-pass : (ts : List Test) → verdict (stateTests before ++ ts) ≡ verdict ts
+    unfolding stateTests
+    states-pass ts = rw (header-is, marks-are) refl
+
     pub read-is : (pr : Pair) (ok : OK x pr)
-        → reading suite (sizesOf before .c) (clOf x pr) (cut before .tC) ≡ Reading.counter (s .counters .pairs pr ok .B) (s .counters .pairs pr ok .start) (runOf x (logIn x (s .st .tS)) pr) (madeIn l pr)
+        → reading suite (sizesOf before .c) (clOf x pr) (cut before .table tableC) ≡ Reading.counter (s .counters .pairs pr ok .B) (s .counters .pairs pr ok .start) (runOf x (logIn x (s .st .table tableS)) pr) (madeIn l pr)
     read-is pr ok =
-        let u = used-le 61 (z .c) (s .st .tC) (s .shaped .C-ok) in
+        let u = used-le tableC (z .c) (s .st .table tableC) (s .shaped .tables tableC) in
         let t = s .counters .total in
-        let c = count-le (same (clOf x pr)) (logIn x (s .st .tS)) in
+        let c = count-le (same (clOf x pr)) (logIn x (s .st .table tableS)) in
         rw (sizes-are, cut-is)
-        (reading-is x (s .st .tC) (logIn x (s .st .tS)) (l .A) i pr (madeIn l pr) (s .counters .pairs pr ok) (z .c) hi (omega arith) (omega arith))
+        (reading-is x (s .st .table tableC) (logIn x (s .st .table tableS)) (l .A) i pr (madeIn l pr) (s .counters .pairs pr ok) (z .c) hi (omega arith) (omega arith))
 
     -- ---- erase
 
     erase-verdict : (id : List ℕ) → eraseVerdict before id ≡ verdict (eraseInputTests id)
     unfolding eraseVerdict
     erase-verdict id =
-        verdict-append (eraseInputTests id) ((headerBad before ⇒ 10) ∷ (marksBad (cut before) ⇒ 11) ∷ [])
-        ∙ rw (header-is, marks-are) (or-none (verdict (eraseInputTests id)))
+        verdict-append (eraseInputTests id) (stateTests before)
+        ∙ ap (orElse (verdict (eraseInputTests id))) (ap verdict (sym (append-nil (stateTests before))) ∙ states-pass [])
+        ∙ or-none (verdict (eraseInputTests id))
 
     reverse-is : (id : List ℕ) → isReverse before id ≡ (λ b. same (reverseId b) id)
     unfolding isReverse
     reverse-is id = refl
 
-    erased-is : (id : List ℕ) → isErased before id ≡ erasedIn x (s .st .tV) id
+    erased-is : (id : List ℕ) → isErased before id ≡ erasedIn x (s .st .table tableV) id
     unfolding isErased erasedTags isReverse
-    erased-is id = fun-ext (λ b. ap (λ (t : Store). anyOf (same (take 32 b)) (map reverseTag (select (λ b. same (reverseId b) id) (used (t .tV))))) cut-is)
+    erased-is id = fun-ext (λ b. ap (λ (t : Store). anyOf (same (take 32 b)) (map reverseTag (select (λ b. same (reverseId b) id) (used (t .table tableV))))) cut-is)
 
     abbrev erasedSt : List ℕ → Store
-    erasedSt id = record {
-      header = s .st .header;
-      tM = freeWhere 61 (erasedIn x (s .st .tV) id) (s .st .tM);
-      tV = freeWhere 49 (λ b. same (reverseId b) id) (s .st .tV);
-      tC = s .st .tC;
-      tS = s .st .tS;
-    }
+    erasedSt id =
+        putIn tableV (freeWhere (widthOf tableV) (λ b. same (reverseId b) id) (s .st .table tableV))
+        (putIn tableM (freeWhere (widthOf tableM) (erasedIn x (s .st .table tableV) id) (s .st .table tableM)) (s .st))
 
     erased-store : (id : List ℕ) → erasedStore before id ≡ erasedSt id
     unfolding erasedStore
@@ -111,31 +113,27 @@ module _ (x : Setting) where
         record {
           st = erasedSt id;
           bytes = refl;
-          shaped = record {
-            head = s .shaped .head;
-            M-ok = free-where-ok 61 (z .m) (erasedIn x (s .st .tV) id) (s .st .tM) (s .shaped .M-ok);
-            V-ok = free-where-ok 49 (z .m) (λ b. same (reverseId b) id) (s .st .tV) (s .shaped .V-ok);
-            C-ok = s .shaped .C-ok;
-            S-ok = s .shaped .S-ok;
-          };
-          counters = counters-as x (s .st .tC) (logIn x (s .st .tS)) (l .A) (suc i) (madeIn l) (madeIn (afterErase (boundsOf z) l id)) em
-              (counters-later x (s .st .tC) (logIn x (s .st .tS)) (l .A) i (madeIn l) hi (s .counters));
+          shaped =
+              shaped-put z _ tableV _ (free-where-ok tableV (z .m) (λ b. same (reverseId b) id) (s .st .table tableV) (s .shaped .tables tableV))
+              (shaped-put z (s .st) tableM _ (free-where-ok tableM (z .m) (erasedIn x (s .st .table tableV) id) (s .st .table tableM) (s .shaped .tables tableM)) (s .shaped));
+          counters = counters-as x (s .st .table tableC) (logIn x (s .st .table tableS)) (l .A) (suc i) (madeIn l) (madeIn (afterErase (boundsOf z) l id)) em
+              (counters-later x (s .st .table tableC) (logIn x (s .st .table tableS)) (l .A) i (madeIn l) hi (s .counters));
           entries =
-              entries-as x (freeWhere 61 (erasedIn x (s .st .tV) id) (s .st .tM)) (freeWhere 49 (λ b. same (reverseId b) id) (s .st .tV))
-              (freeWhere 61 (erasedIn x (s .st .tV) id) (s .st .tM)) (freeWhere 49 (λ b. same (reverseId b) id) (s .st .tV))
+              entries-as x (freeWhere (widthOf tableM) (erasedIn x (s .st .table tableV) id) (s .st .table tableM)) (freeWhere (widthOf tableV) (λ b. same (reverseId b) id) (s .st .table tableV))
+              (freeWhere (widthOf tableM) (erasedIn x (s .st .table tableV) id) (s .st .table tableM)) (freeWhere (widthOf tableV) (λ b. same (reverseId b) id) (s .st .table tableV))
               (select (λ y. not (same y id)) (listed (l .entries))) (listed (map (removed id) (l .entries)))
               (λ q. select (λ y. not (same y id)) (listIn l q)) (listIn (afterErase (boundsOf z) l id)) (madeIn l) (madeIn (afterErase (boundsOf z) l id))
               refl refl (rw el (Same-refl (select (λ y. not (same y id)) (listed (l .entries))))) ei em
-              (entries-erase x (s .st .tM) (s .st .tV) (listed (l .entries)) (listIn l) (madeIn l) (s .entries) id);
+              (entries-erase x (s .st .table tableM) (s .st .table tableV) (listed (l .entries)) (listIn l) (madeIn l) (s .entries) id);
           small = λ pr ok. let w = n .small pr ok in rw (em pr) w;
           W-is = s .W-is;
           T-length = s .T-length;
           T-member = s .T-member;
         }
 
-    erase-number : (id : List ℕ) → count (isReverse before id) (used (cut before .tV)) ≡ count (λ y. same y id) (listed (l .entries))
+    erase-number : (id : List ℕ) → count (isReverse before id) (used (cut before .table tableV)) ≡ count (λ y. same y id) (listed (l .entries))
     erase-number id =
-        rw (reverse-is id, cut-is) (erase-count x (s .st .tM) (s .st .tV) (listed (l .entries)) (listIn l) (madeIn l) (s .entries) id)
+        rw (reverse-is id, cut-is) (erase-count x (s .st .table tableM) (s .st .table tableV) (listed (l .entries)) (listIn l) (madeIn l) (s .entries) id)
 
     pub erase-step : (id : List ℕ) (told : Told) (after : List ℕ) → Gives (Erase.erase before id) told after → After i (Call.erase id) l told after
     unfolding ledgerStep Erase.erase
@@ -181,7 +179,7 @@ module _ (x : Setting) where
       ok-at u h = record { named = named; valid = valid; shared = h }
 
       share-is : (u : ℕ) → (h : u ≤ z .p) → shareReading suite before (CLof suite K f) u
-          ≡ Reading.counter (s .counters .pairs (pairAt f u) (ok-at u h) .B) (s .counters .pairs (pairAt f u) (ok-at u h) .start) (runOf x (logIn x (s .st .tS)) (pairAt f u)) (madeIn l (pairAt f u))
+          ≡ Reading.counter (s .counters .pairs (pairAt f u) (ok-at u h) .B) (s .counters .pairs (pairAt f u) (ok-at u h) .start) (runOf x (logIn x (s .st .table tableS)) (pairAt f u)) (madeIn l (pairAt f u))
       unfolding shareReading
       share-is u h = unfold CL in read-is (pairAt f u) (ok-at u h)
 
@@ -201,7 +199,7 @@ module _ (x : Setting) where
       count-verdict : countVerdict suite before (CLof suite K f) ≡ none
       unfolding countVerdict tokenTests CLof
       count-verdict =
-          rw (header-is, marks-are, none-damaged, length-refused 32 (CLof suite K f) (suite .F-length _ _)) refl
+          rw (length-refused countTokenLength (CLof suite K f) (suite .F-length _ _)) (states-pass _ ∙ rw none-damaged refl)
 
       MT-length : length (MTof suite K f) ≡ 32
       unfolding MTof
@@ -247,7 +245,7 @@ module _ (x : Setting) where
           let m = s .small (pairAt f u) ok in
           rw (token-MT, token-ME, token-CL, count-is u h, cut-is)
           (unfold MT ME in
-          (ids-to x (s .st .tM) (s .st .tV) (listed (l .entries)) (listIn l) (madeIn l) (s .entries) (pairAt f u) ok (madeIn l (pairAt f u)) (omega arith)
+          (ids-to x (s .st .table tableM) (s .st .table tableV) (listed (l .entries)) (listIn l) (madeIn l) (s .entries) (pairAt f u) ok (madeIn l (pairAt f u)) (omega arith)
           ∙ s .entries .gathers (pairAt f u) ok))
 
       found-is : (output : List ℕ) → idsFound suite before (findToken suite K f) ≡ ledgerIds (boundsOf z) l f
@@ -257,7 +255,8 @@ module _ (x : Setting) where
       find-verdict : (output : List ℕ) → findVerdict suite before (findToken suite K f) output
           ≡ verdict ((ltb (length output) (16 * length (ledgerIds (boundsOf z) l f)) ⇒ 18 carrying (length (ledgerIds (boundsOf z) l f) ∷ [])) ∷ [])
       unfolding findVerdict tokenTests
-      find-verdict output = rw (token-CL, header-is, marks-are, none-damaged, length-refused 96 (findToken suite K f) token-length, found-is output) refl
+      find-verdict output =
+          rw (token-CL, length-refused findTokenLength (findToken suite K f) token-length) (states-pass _ ∙ rw (none-damaged, found-is output) refl)
 
     module _ (key : List ℕ) (f : Field) (keyed : (key ≡ K) ⊎ (length key ≡ 32 → ⊥)) (named : List·Memᴰ f (flat (map Rattle.scheme.specs.Premise.fieldsOf calls))) where
       abbrev room : List ℕ → List Test

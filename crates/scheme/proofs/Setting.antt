@@ -16,7 +16,7 @@ use Rattle.table.proofs.Counting.{both, same-true, same-refl}
 use Rattle.scheme.specs.Suite.{Suite, number8, valueOf}
 use Rattle.scheme.specs.Labels.{sameField}
 use Rattle.scheme.specs.Keys.{MT, CL, CT, CE}
-use Rattle.scheme.specs.Store.{Sizes, sizesBad, entryTag, counterTag, anchorTag, countedRow, plainIn}
+use Rattle.scheme.specs.Store.{tableC, widthOf, Sizes, sizesBad, entryTag, counterTag, anchorTag, countedRow, plainIn}
 use Rattle.scheme.specs.Reading.{numbersAt}
 use Rattle.scheme.specs.Call.{Call}
 use Rattle.scheme.specs.Ledger.{Pair, samePair}
@@ -100,7 +100,7 @@ module _ (suite : Suite) where
   unfolding countedRow
   counted-tag cl tag nonce a n h = take-at tag _ 32 h
 
-  pub counted-length : (cl tag nonce : List ℕ) (a n : ℕ) → length tag ≡ 32 → length nonce ≡ 12 → length (countedRow suite cl tag nonce a n) ≡ 61
+  pub counted-length : (cl tag nonce : List ℕ) (a n : ℕ) → length tag ≡ 32 → length nonce ≡ 12 → length (countedRow suite cl tag nonce a n) ≡ widthOf tableC
   unfolding countedRow
   counted-length cl tag nonce a n h k =
       let e = suite .E-length (CE suite cl) nonce (number8 a ++ number8 n) in

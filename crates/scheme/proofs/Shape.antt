@@ -1,81 +1,83 @@
 -- A store whose rows have their widths and marks: cutting its bytes gives its tables back, and it is never refused by 10 or 11.
 use Prim.Native.Nat.{ℕ, zero, suc, _+_, _*_, _-_, _/_, _%_, _≤_}
-use mathlib.Core.Path.{_≡_, refl, sym, ap, _∙_}
+use mathlib.Core.Path.{_≡_, refl, sym, ap, ap₂, subst, _∙_}
 use mathlib.Core.Bool.{Bool, false}
-use mathlib.Core.List.{List, [], _∷_, _++_, append-assoc, append-nil}
+use mathlib.Core.List.{List, [], _∷_, _++_}
 use native.Mathlib.Omega.{arith}
 use lib.Dec.{ltb}
-use lib.ListN.{length, getD, take, drop, replicate, length-append, length-replicate}
-use lib.Seq.{take-at, drop-at}
+use lib.ListN.{length, getD, replicate, length-replicate, replicate-append-replicate}
 use borrow.Author.Tests.{le-ltb, eq-eqb}
-use Rattle.table.specs.Lists.{flat, All}
-use Rattle.table.specs.Table.{Row, Table, rows, markOf, markBad, used, freeRows, zeroRow, freeAt, freeWhere, Placed, PlacedAll}
-use Rattle.table.proofs.Rows.{placed-none, placed-next, flat-length, rows-flat, placed-all, placed-length, free-where-all, free-where-length, free-at-all, free-at-length, free-used, rows-zero, all-replicate}
+use Rattle.table.specs.Lists.{anyOf, All}
+use Rattle.table.specs.Table.{Row, Table, markOf, markBad, used, freeRows, zeroRow, freeAt, freeWhere, Placed, PlacedAll}
+use Rattle.table.proofs.Rows.{placed-none, placed-next, placed-all, placed-length, free-where-all, free-where-length, free-at-all, free-at-length, free-used, rows-zero, all-replicate}
 use Rattle.table.proofs.Counting.{all-map}
 use Rattle.answer.specs.Answer.{done}
-use Rattle.scheme.specs.Store.{Sizes, sizesBad, lengthFor, headerOf, sizesOf, Store, cut, joined, headerBad, marksBad, fresh, makeTests, make}
+use Rattle.scheme.specs.Store.{Sizes, Which, plan, widthOf, rowsOf, greatestMark, headerLength, endFrom, sizesBad, lengthFor, headerOf, sizesOf, Store, cut, joinedFrom, joined, instead, putIn, headerBad, marksBad, fresh, makeTests, make}
+use Rattle.scheme.specs.Layout.{spanOf, Wide, Laid}
+use Rattle.scheme.proofs.Plan.{by-table, put-own, put-other, laid-length, grows, cut-laid}
 
-pub record RowOK (w : ℕ) (r : Row) : Type 0 where
-  pub width : length r ≡ w
-  pub mark : ltb 1 (markOf r) ≡ false
+-- a row of a table: its width, and a mark that the table allows
+pub record RowOK (k : Which) (r : Row) : Type 0 where
+  pub width : length r ≡ widthOf k
+  pub mark : ltb (greatestMark k) (markOf r) ≡ false
 
-pub record TableOK (w n : ℕ) (t : Table) : Type 0 where
-  pub all : All (RowOK w) t
+pub record TableOK (k : Which) (n : ℕ) (t : Table) : Type 0 where
+  pub all : All (RowOK k) t
   pub number : length t ≡ n
 
-zero-mark : (w : ℕ) → ltb 1 (markOf (zeroRow w)) ≡ false
-zero-mark zero = refl
-zero-mark (suc w) = refl
+zero-mark : (most w : ℕ) → ltb most (markOf (zeroRow w)) ≡ false
+zero-mark most zero = le-ltb most 0 (omega arith)
+zero-mark most (suc w) = le-ltb most 0 (omega arith)
 
-pub zero-ok : (w : ℕ) → RowOK w (zeroRow w)
-zero-ok w = record { width = length-replicate w 0; mark = zero-mark w }
+zero-ok : (k : Which) → RowOK k (zeroRow (widthOf k))
+zero-ok k = record { width = length-replicate (widthOf k) 0; mark = zero-mark (greatestMark k) (widthOf k) }
 
-pub placed-ok : (w n : ℕ) (t : Table) (row : Row) (t′ : Table) → Placed t row t′ → RowOK w row → TableOK w n t → TableOK w n t′
-placed-ok w n t row t′ p r a = record { all = placed-all (RowOK w) t row t′ p r (a .all); number = placed-length t row t′ p ∙ a .number }
+pub placed-ok : (k : Which) (n : ℕ) (t : Table) (row : Row) (t′ : Table) → Placed t row t′ → RowOK k row → TableOK k n t → TableOK k n t′
+placed-ok k n t row t′ p r a = record { all = placed-all (RowOK k) t row t′ p r (a .all); number = placed-length t row t′ p ∙ a .number }
 
-pub free-where-ok : (w n : ℕ) (q : List ℕ → Bool) (t : Table) → TableOK w n t → TableOK w n (freeWhere w q t)
-free-where-ok w n q t a = record { all = free-where-all (RowOK w) w q t (zero-ok w) (a .all); number = free-where-length w q t ∙ a .number }
+pub free-where-ok : (k : Which) (n : ℕ) (q : List ℕ → Bool) (t : Table) → TableOK k n t → TableOK k n (freeWhere (widthOf k) q t)
+free-where-ok k n q t a = record { all = free-where-all (RowOK k) (widthOf k) q t (zero-ok k) (a .all); number = free-where-length (widthOf k) q t ∙ a .number }
 
-pub free-at-ok : (w n : ℕ) (is : List ℕ) (t : Table) → TableOK w n t → TableOK w n (freeAt w is t)
-free-at-ok w n is t a = record { all = free-at-all (RowOK w) w is t (zero-ok w) (a .all); number = free-at-length w is t ∙ a .number }
+pub free-at-ok : (k : Which) (n : ℕ) (is : List ℕ) (t : Table) → TableOK k n t → TableOK k n (freeAt (widthOf k) is t)
+free-at-ok k n is t a = record { all = free-at-all (RowOK k) (widthOf k) is t (zero-ok k) (a .all); number = free-at-length (widthOf k) is t ∙ a .number }
 
-pub zeros-ok : (w n : ℕ) → TableOK w n (replicate n (zeroRow w))
-zeros-ok w n = record { all = all-replicate (RowOK w) n (zeroRow w) (zero-ok w); number = length-replicate n (zeroRow w) }
+zeros-ok : (k : Which) (n : ℕ) → TableOK k n (replicate n (zeroRow (widthOf k)))
+zeros-ok k n = record { all = all-replicate (RowOK k) n (zeroRow (widthOf k)) (zero-ok k); number = length-replicate n (zeroRow (widthOf k)) }
 
 -- used rows are at most the rows
-pub used-le : (w n : ℕ) (t : Table) → TableOK w n t → length (used t) ≤ n
-used-le w n t a = let e = free-used t in let f = a .number in omega arith
+pub used-le : (k : Which) (n : ℕ) (t : Table) → TableOK k n t → length (used t) ≤ n
+used-le k n t a = let e = free-used t in let f = a .number in omega arith
 
-pub free-is : (w n : ℕ) (t : Table) → TableOK w n t → freeRows t + length (used t) ≡ n
-free-is w n t a = sym (free-used t) ∙ a .number
+pub free-is : (k : Which) (n : ℕ) (t : Table) → TableOK k n t → freeRows t + length (used t) ≡ n
+free-is k n t a = sym (free-used t) ∙ a .number
 
-widths : (w : ℕ) (t : Table) → All (RowOK w) t → All (λ r. length r ≡ w) t
-widths w t a = all-map (λ r h. h .width) t a
+ok-wide : (k : Which) (n : ℕ) (t : Table) → TableOK k n t → Wide (widthOf k) n t
+ok-wide k n t a = record { number = a .number; widths = all-map (λ r h. h .width) t (a .all) }
 
-flat-is : (w n : ℕ) (t : Table) → TableOK w n t → length (flat t) ≡ w * n
-flat-is w n t a = flat-length w t (widths w t (a .all)) ∙ ap (λ (k : ℕ). w * k) (a .number)
-
-rows-is : (w n : ℕ) (t : Table) (rest : List ℕ) → TableOK w n t → rows w n (flat t ++ rest) ≡ t
-rows-is w n t rest a = ap (λ (k : ℕ). rows w k (flat t ++ rest)) (sym (a .number)) ∙ rows-flat w t rest (widths w t (a .all))
-
-marks-good : (w n : ℕ) (t : Table) → TableOK w n t → markBad t ≡ false
-marks-good w n t a = go t (a .all)
+marks-good : (k : Which) (n : ℕ) (t : Table) → TableOK k n t → markBad (greatestMark k) t ≡ false
+marks-good k n t a = go t (a .all)
   where
-    go : (t : Table) → All (RowOK w) t → markBad t ≡ false
+    go : (t : Table) → All (RowOK k) t → markBad (greatestMark k) t ≡ false
     go [] a = refl
     go (r ∷ rs) a = rw (a .0 .mark) (go rs (a .1))
 
 pub record Shaped (z : Sizes) (st : Store) : Type 0 where
   pub head : st .header ≡ headerOf z
-  pub M-ok : TableOK 61 (z .m) (st .tM)
-  pub V-ok : TableOK 49 (z .m) (st .tV)
-  pub C-ok : TableOK 61 (z .c) (st .tC)
-  pub S-ok : TableOK 45 (z .s) (st .tS)
+  pub tables : (k : Which) → TableOK k (rowsOf z k) (st .table k)
+
+-- another table of the same rows in place of one
+pub shaped-put : (z : Sizes) (st : Store) (k : Which) (t : Table) → TableOK k (rowsOf z k) t → Shaped z st → Shaped z (putIn k t st)
+shaped-put z st k t a s = record {
+  head = s .head;
+  tables =
+      by-table k (λ j. TableOK j (rowsOf z j) (instead k t (st .table) j)) (subst (TableOK k (rowsOf z k)) (sym (put-own k t (st .table))) a)
+      (λ j e. subst (TableOK j (rowsOf z j)) (sym (put-other k j t (st .table) e)) (s .tables j));
+}
 
 module _ (z : Sizes) (st : Store) (s : Shaped z st) where
-  header-length : length (st .header) ≡ 8
+  laid : Laid (spanOf z) (joined st) st
   unfolding headerOf
-  header-length = ap length (s .head)
+  laid = record { bytes = refl; head = ap length (s .head); wide = λ k. ok-wide k (rowsOf z k) (st .table k) (s .tables k); start = λ k. refl; end = λ k. refl }
 
   pub sizes-is : sizesOf (joined st) ≡ z
   unfolding sizesOf joined headerOf
@@ -85,54 +87,12 @@ module _ (z : Sizes) (st : Store) (s : Shaped z st) where
       let g : 256 * (z .s / 256) + z .s % 256 ≡ z .s = omega arith in
       λ i. record { p = z .p; m = e i; c = f i; s = g i })
 
-  -- after a prefix of known length
-  after : (pre rest : List ℕ) (n w k : ℕ) (t : Table) (tail : List ℕ) → length pre ≡ n → TableOK w k t → rest ≡ flat t ++ tail → rows w k (drop n (pre ++ rest)) ≡ t
-  after pre rest n w k t tail h a e = ap (rows w k) (drop-at pre rest n h ∙ e) ∙ rows-is w k t tail a
-
   pub cut-joined : cut (joined st) ≡ st
-  unfolding cut joined
-  cut-joined =
-      let h = header-length in
-      let zs : sizesOf (st .header ++ (flat (st .tM) ++ (flat (st .tV) ++ (flat (st .tC) ++ flat (st .tS))))) ≡ z = unfold joined in sizes-is in
-      let fM = flat-is 61 (z .m) (st .tM) (s .M-ok) in
-      let fV = flat-is 49 (z .m) (st .tV) (s .V-ok) in
-      let fC = flat-is 61 (z .c) (st .tC) (s .C-ok) in
-      let hd : List ℕ = st .header in
-      let sS : List ℕ = flat (st .tS) in
-      let sC : List ℕ = flat (st .tC) ++ sS in
-      let sV : List ℕ = flat (st .tV) ++ sC in
-      let sM : List ℕ = flat (st .tM) ++ sV in
-      let p1 : List ℕ = hd ++ flat (st .tM) in
-      let p2 : List ℕ = p1 ++ flat (st .tV) in
-      let p3 : List ℕ = p2 ++ flat (st .tC) in
-      let l1 : length p1 ≡ 8 + 61 * z .m = length-append hd (flat (st .tM)) ∙ omega arith in
-      let l2 : length p2 ≡ 8 + 110 * z .m = length-append p1 (flat (st .tV)) ∙ omega arith in
-      let l3 : length p3 ≡ 8 + 110 * z .m + 61 * z .c = length-append p2 (flat (st .tC)) ∙ omega arith in
-      let e1 : hd ++ sM ≡ p1 ++ sV = sym (append-assoc hd (flat (st .tM)) sV) in
-      let e2 : hd ++ sM ≡ p2 ++ sC = e1 ∙ sym (append-assoc p1 (flat (st .tV)) sC) in
-      let e3 : hd ++ sM ≡ p3 ++ sS = e2 ∙ sym (append-assoc p2 (flat (st .tC)) sS) in
-      let a : take 8 (hd ++ sM) ≡ hd = take-at hd sM 8 h in
-      let b : rows 61 (z .m) (drop 8 (hd ++ sM)) ≡ st .tM = after hd sM 8 61 (z .m) (st .tM) sV h (s .M-ok) refl in
-      let c : rows 49 (z .m) (drop (8 + 61 * z .m) (hd ++ sM)) ≡ st .tV =
-      ap (λ (l : List ℕ). rows 49 (z .m) (drop (8 + 61 * z .m) l)) e1 ∙ after p1 sV (8 + 61 * z .m) 49 (z .m) (st .tV) sC l1 (s .V-ok) refl in
-      let d : rows 61 (z .c) (drop (8 + 110 * z .m) (hd ++ sM)) ≡ st .tC =
-      ap (λ (l : List ℕ). rows 61 (z .c) (drop (8 + 110 * z .m) l)) e2 ∙ after p2 sC (8 + 110 * z .m) 61 (z .c) (st .tC) sS l2 (s .C-ok) refl in
-      let e : rows 45 (z .s) (drop (8 + 110 * z .m + 61 * z .c) (hd ++ sM)) ≡ st .tS =
-      ap (λ (l : List ℕ). rows 45 (z .s) (drop (8 + 110 * z .m + 61 * z .c) l)) e3 ∙ after p3 sS (8 + 110 * z .m + 61 * z .c) 45 (z .s) (st .tS) [] l3 (s .S-ok) (sym (append-nil sS)) in
-      rw zs (λ i. record { header = a i; tM = b i; tV = c i; tC = d i; tS = e i })
+  cut-joined = cut-laid (joined st) st (subst (λ (y : Sizes). Laid (spanOf y) (joined st) st) (sym sizes-is) laid)
 
-  joined-length : length (joined st) ≡ lengthFor z
-  unfolding joined lengthFor
-  joined-length =
-      let h = header-length in
-      let fM = flat-is 61 (z .m) (st .tM) (s .M-ok) in
-      let fV = flat-is 49 (z .m) (st .tV) (s .V-ok) in
-      let fC = flat-is 61 (z .c) (st .tC) (s .C-ok) in
-      let fS = flat-is 45 (z .s) (st .tS) (s .S-ok) in
-      let a = length-append (flat (st .tC)) (flat (st .tS)) in
-      let b = length-append (flat (st .tV)) (flat (st .tC) ++ flat (st .tS)) in
-      let c = length-append (flat (st .tM)) (flat (st .tV) ++ (flat (st .tC) ++ flat (st .tS))) in
-      length-append (st .header) (flat (st .tM) ++ (flat (st .tV) ++ (flat (st .tC) ++ flat (st .tS)))) ∙ omega arith
+  whole : length (joined st) ≡ lengthFor z
+  unfolding lengthFor
+  whole = laid-length (spanOf z) (joined st) st laid
 
   version-is : getD (joined st) 0 0 ≡ 1
   unfolding joined headerOf
@@ -141,43 +101,44 @@ module _ (z : Sizes) (st : Store) (s : Shaped z st) where
   pub header-good : sizesBad z ≡ false → headerBad (joined st) ≡ false
   unfolding headerBad
   header-good good =
-      let l : 8 ≤ lengthFor z = unfold lengthFor in omega arith in
-      rw (sizes-is, joined-length, version-is, good, le-ltb (lengthFor z) 8 l, eq-eqb (lengthFor z) (lengthFor z) refl) refl
+      let l : headerLength ≤ lengthFor z = unfold lengthFor in grows (rowsOf z) headerLength plan in
+      rw (sizes-is, whole, version-is, good, le-ltb (lengthFor z) headerLength l, eq-eqb (lengthFor z) (lengthFor z) refl) refl
 
   pub marks-is : marksBad (cut (joined st)) ≡ false
   unfolding marksBad
-  marks-is = rw (cut-joined, marks-good 61 (z .m) (st .tM) (s .M-ok), marks-good 49 (z .m) (st .tV) (s .V-ok), marks-good 61 (z .c) (st .tC) (s .C-ok), marks-good 45 (z .s) (st .tS) (s .S-ok)) refl
+  marks-is = rw cut-joined (no-table (λ k. markBad (greatestMark k) (st .table k)) (λ k. marks-good k (rowsOf z k) (st .table k) (s .tables k)) plan)
+    where
+      no-table : (p : Which → Bool) → ((k : Which) → p k ≡ false) → (ks : List Which) → anyOf p ks ≡ false
+      no-table p h [] = refl
+      no-table p h (k ∷ ks) = rw (h k) (no-table p h ks)
 
 -- the fresh store
 unfoldable pub freshStore : Sizes → Store
-freshStore z = record {
-  header = headerOf z;
-  tM = replicate (z .m) (zeroRow 61);
-  tV = replicate (z .m) (zeroRow 49);
-  tC = replicate (z .c) (zeroRow 61);
-  tS = replicate (z .s) (zeroRow 45);
-}
+freshStore z = record { header = headerOf z; table = λ k. replicate (rowsOf z k) (zeroRow (widthOf k)) }
 
 pub fresh-shaped : (z : Sizes) → Shaped z (freshStore z)
 unfolding freshStore
-fresh-shaped z = record { head = refl; M-ok = zeros-ok 61 (z .m); V-ok = zeros-ok 49 (z .m); C-ok = zeros-ok 61 (z .c); S-ok = zeros-ok 45 (z .s) }
+fresh-shaped z = record { head = refl; tables = λ k. zeros-ok k (rowsOf z k) }
+
+zeros-joined : (z : Sizes) (a : ℕ) (ks : List Which) → joinedFrom ks (λ k. replicate (rowsOf z k) (zeroRow (widthOf k))) ≡ replicate (endFrom (rowsOf z) a ks - a) 0
+zeros-joined z a [] = let e : 0 ≡ a - a = omega arith in ap (λ (k : ℕ). replicate k 0) e
+zeros-joined z a (k ∷ ks) =
+    let n : ℕ = widthOf k * rowsOf z k in
+    let g = grows (rowsOf z) (a + n) ks in
+    let e : n + (endFrom (rowsOf z) (a + n) ks - (a + n)) ≡ endFrom (rowsOf z) (a + n) ks - a = omega arith in
+    ap₂ (λ (x y : List ℕ). x ++ y) (rows-zero (widthOf k) (rowsOf z k)) (zeros-joined z (a + n) ks)
+    ∙ replicate-append-replicate n (endFrom (rowsOf z) (a + n) ks - (a + n)) 0
+    ∙ ap (λ (k : ℕ). replicate k 0) e
 
 pub fresh-is : (z : Sizes) → fresh z ≡ joined (freshStore z)
 unfolding fresh joined freshStore lengthFor
-fresh-is z =
-    let e : 61 * z .m + (49 * z .m + (61 * z .c + 45 * z .s)) ≡ 8 + 110 * z .m + 61 * z .c + 45 * z .s - 8 = omega arith in
-    ap (λ (l : List ℕ). headerOf z ++ l)
-    (sym (rw (rows-zero 61 (z .m), rows-zero 49 (z .m), rows-zero 61 (z .c), rows-zero 45 (z .s))
-    (ap (λ (l : List ℕ). replicate (61 * z .m) 0 ++ (replicate (49 * z .m) 0 ++ l)) (lib.ListN.replicate-append-replicate (61 * z .c) (45 * z .s) 0)
-    ∙ ap (λ (l : List ℕ). replicate (61 * z .m) 0 ++ l) (lib.ListN.replicate-append-replicate (49 * z .m) (61 * z .c + 45 * z .s) 0)
-    ∙ lib.ListN.replicate-append-replicate (61 * z .m) (49 * z .m + (61 * z .c + 45 * z .s)) 0
-    ∙ ap (λ (k : ℕ). replicate k 0) e)))
+fresh-is z = ap (λ (l : List ℕ). headerOf z ++ l) (sym (zeros-joined z headerLength plan))
 
-pub placed-all-ok : (w n : ℕ) (t : Table) (new : List Row) (t′ : Table) → PlacedAll t new t′ → All (RowOK w) new → TableOK w n t → TableOK w n t′
-placed-all-ok w n t [] t′ p a ok = rw (placed-none t t′ p) at ok
-placed-all-ok w n t (row ∷ rest) t′ p a ok =
+pub placed-all-ok : (k : Which) (n : ℕ) (t : Table) (new : List Row) (t′ : Table) → PlacedAll t new t′ → All (RowOK k) new → TableOK k n t → TableOK k n t′
+placed-all-ok k n t [] t′ p a ok = rw (placed-none t t′ p) at ok
+placed-all-ok k n t (row ∷ rest) t′ p a ok =
     let q = placed-next t row rest t′ p in
-    placed-all-ok w n (q .between) rest t′ (q .more) (a .1) (placed-ok w n t row (q .between) (q .one) (a .0) ok)
+    placed-all-ok k n (q .between) rest t′ (q .more) (a .1) (placed-ok k n t row (q .between) (q .one) (a .0) ok)
 
 -- making a store over a slice of its length gives the fresh store that the claim begins with
 pub make-fresh : (z : Sizes) (slice : List ℕ) → sizesBad z ≡ false → length slice ≡ lengthFor z → make z slice ≡ record { answer = done []; store = fresh z; output = [] }

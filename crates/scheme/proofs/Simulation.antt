@@ -10,7 +10,7 @@ use Rattle.table.specs.Table.{Table, lookup, zeroRow}
 use Rattle.table.proofs.Counting.{Same-refl}
 use Rattle.table.proofs.Rows.{used-zero}
 use Rattle.scheme.specs.Keys.{KS}
-use Rattle.scheme.specs.Store.{Store, joined, fresh}
+use Rattle.scheme.specs.Store.{Store, tableM, tableV, tableC, tableS, widthOf, joined, fresh}
 use Rattle.scheme.specs.Compaction.{logOf}
 use Rattle.scheme.specs.Ledger.{Pair, Ledger, samePair, entryOf, listed, empty}
 use Rattle.scheme.specs.Premise.{Kind}
@@ -35,12 +35,12 @@ module _ (x : Setting) where
     pub st : Store
     pub bytes : store ≡ joined st
     pub shaped : Shaped z st
-    pub counters : Counters x (st .tC) (logIn (st .tS)) (l .A) i (madeIn l)
-    pub entries : Entries x (st .tM) (st .tV) (listed (l .entries)) (listIn l) (madeIn l)
+    pub counters : Counters x (st .table tableC) (logIn (st .table tableS)) (l .A) i (madeIn l)
+    pub entries : Entries x (st .table tableM) (st .table tableV) (listed (l .entries)) (listIn l) (madeIn l)
     pub small : (pr : Pair) → OK x pr → madeIn l pr ≤ 64 * i
-    pub W-is : l .W ≡ length (logIn (st .tS))
-    pub T-length : length (l .T) ≡ length (distinct (logIn (st .tS)))
-    pub T-member : (pr : Pair) → OK x pr → anyOf (samePair pr) (l .T) ≡ anyOf (λ y. same y (clOf x pr)) (logIn (st .tS))
+    pub W-is : l .W ≡ length (logIn (st .table tableS))
+    pub T-length : length (l .T) ≡ length (distinct (logIn (st .table tableS)))
+    pub T-member : (pr : Pair) → OK x pr → anyOf (samePair pr) (l .T) ≡ anyOf (λ y. same y (clOf x pr)) (logIn (st .table tableS))
 
   pub counters-later : (t : Table) (L : List (List ℕ)) (A i : ℕ) (made : Pair → ℕ) → i ≤ length calls → Counters x t L A i made → Counters x t L A (suc i) made
   counters-later t L A i made hi C = record {
@@ -66,7 +66,7 @@ module _ (x : Setting) where
     st = s .st;
     bytes = s .bytes;
     shaped = s .shaped;
-    counters = counters-later (s .st .tC) (logIn (s .st .tS)) (l .A) i (madeIn l) hi (s .counters);
+    counters = counters-later (s .st .table tableC) (logIn (s .st .table tableS)) (l .A) i (madeIn l) hi (s .counters);
     entries = s .entries;
     small = λ pr ok. let w = s .small pr ok in omega arith;
     W-is = s .W-is;
@@ -80,15 +80,15 @@ module _ (x : Setting) where
   unfolding lookup
   no-lookup tag n w = rw (used-zero w n) refl
 
-  fresh-pair : (pr : Pair) → PairCounter x (replicate (z .c) (zeroRow 61)) [] 0 0 pr 0
+  fresh-pair : (pr : Pair) → PairCounter x (replicate (z .c) (zeroRow (widthOf tableC))) [] 0 0 pr 0
   fresh-pair pr = record {
     B = 0;
     start = 0;
     base = 0;
     anchors-held = λ b l u. absurd (omega arith);
-    anchors-none = λ b l u. no-lookup (ctag x pr Kind.anchor b) (z .c) 61;
+    anchors-none = λ b l u. no-lookup (ctag x pr Kind.anchor b) (z .c) (widthOf tableC);
     counters-held = λ a l u. absurd (omega arith);
-    counters-none = λ a l u. no-lookup (ctag x pr Kind.counter a) (z .c) 61;
+    counters-none = λ a l u. no-lookup (ctag x pr Kind.counter a) (z .c) (widthOf tableC);
     no-anchor = λ e. (refl, refl);
     last-anchor = λ l. absurd (omega arith);
     no-counter = λ e. refl;
@@ -101,9 +101,9 @@ module _ (x : Setting) where
     anchors-total = omega arith;
   }
 
-  fresh-log : logIn (replicate (z .s) (zeroRow 45)) ≡ []
+  fresh-log : logIn (replicate (z .s) (zeroRow (widthOf tableS))) ≡ []
   unfolding logOf
-  fresh-log = rw (used-zero 45 (z .s)) refl
+  fresh-log = rw (used-zero (widthOf tableS) (z .s)) refl
 
   pub begin : Sim 0 (fresh z) empty
   unfolding empty freshStore
@@ -116,13 +116,13 @@ module _ (x : Setting) where
       log = [];
       log-OK = tt;
       log-same = Same-refl [];
-      total = ap length (used-zero 61 (z .c));
+      total = ap length (used-zero (widthOf tableC) (z .c));
     });
     entries = record {
       G = [];
       good = tt;
-      rowsM = rw (used-zero 61 (z .m)) (Same-refl []);
-      rowsV = rw (used-zero 49 (z .m)) (Same-refl []);
+      rowsM = rw (used-zero (widthOf tableM) (z .m)) (Same-refl []);
+      rowsV = rw (used-zero (widthOf tableV) (z .m)) (Same-refl []);
       once = λ pr a ok. omega arith;
       below = λ pr a ok l. refl;
       listing = Same-refl [];

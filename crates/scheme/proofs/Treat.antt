@@ -15,7 +15,7 @@ use Rattle.table.specs.Table.{Row, Table, used, body, isFree, hasTag, lookup, h
 use Rattle.table.proofs.Counting.{same-true, ne-same, same-sym, count-select, count-split, count-ext, count-none, all-select, select-map, Same-select, same-length}
 use Rattle.table.proofs.Distinct.{without}
 use Rattle.table.proofs.Rows.{placed-same, free-at-none, Held, place-held, free-one-length, free-one-other, held-other}
-use Rattle.scheme.specs.Store.{countedRow, anchorRow}
+use Rattle.scheme.specs.Store.{tableC, widthOf, countedRow, anchorRow}
 use Rattle.scheme.specs.Compaction.{heldPlaces, Anchored, freedCounters, nextAnchor}
 use Rattle.scheme.specs.Ledger.{Pair}
 use Rattle.scheme.specs.Premise.{Kind, counter, anchor}
@@ -27,9 +27,9 @@ module _ (x : Setting) (pr : Pair) (ok : OK x pr) (t : Table) where
 
   -- the rows held as counters start + 1 to start + k, freed from a table that still holds them
   pub record Freed (start k : ℕ) (cur : Table) : Type 0 where
-    pub fewer : length (used cur) ≡ k + length (used (freeAt 61 (heldPlaces suite (clOf x pr) t start k) cur))
+    pub fewer : length (used cur) ≡ k + length (used (freeAt (widthOf tableC) (heldPlaces suite (clOf x pr) t start k) cur))
     pub others : (tag : List ℕ) → ((a : ℕ) → start < a → a ≤ start + k → ctag x pr counter a ≡ tag → ⊥)
-        → lookup tag (freeAt 61 (heldPlaces suite (clOf x pr) t start k) cur) ≡ lookup tag cur
+        → lookup tag (freeAt (widthOf tableC) (heldPlaces suite (clOf x pr) t start k) cur) ≡ lookup tag cur
 
   pub freed : (start k : ℕ) (cur : Table) → start + k ≤ length calls + 1
       → ((a : ℕ) → start < a → a ≤ start + k → Held (ctag x pr counter a) cur (placeOf (ctag x pr counter a) t))
@@ -37,18 +37,18 @@ module _ (x : Setting) (pr : Pair) (ok : OK x pr) (t : Table) where
   freed start zero cur hk held = record { fewer = omega arith; others = λ tag ne. refl }
   freed start (suc k) cur hk held =
       let now : Held (ctag x pr counter (suc start)) cur (placeOf (ctag x pr counter (suc start)) t) = held (suc start) (omega arith) (omega arith) in
-      let rest = freed (suc start) k (set cur (placeOf (ctag x pr counter (suc start)) t) (zeroRow 61)) (omega arith)
+      let rest = freed (suc start) k (set cur (placeOf (ctag x pr counter (suc start)) t) (zeroRow (widthOf tableC))) (omega arith)
       (λ a l u.
       let h : Held (ctag x pr counter a) cur (placeOf (ctag x pr counter a) t) = held a (omega arith) (omega arith) in
-      held-other (ctag x pr counter a) 61 cur (placeOf (ctag x pr counter (suc start)) t) (placeOf (ctag x pr counter a) t) (apart a l u h now) h) in
+      held-other (ctag x pr counter a) (widthOf tableC) cur (placeOf (ctag x pr counter (suc start)) t) (placeOf (ctag x pr counter a) t) (apart a l u h now) h) in
       record {
         fewer =
-            let e = free-one-length (ctag x pr counter (suc start)) 61 cur (placeOf (ctag x pr counter (suc start)) t) now in
+            let e = free-one-length (ctag x pr counter (suc start)) (widthOf tableC) cur (placeOf (ctag x pr counter (suc start)) t) now in
             let f = rest .fewer in
             omega arith;
         others = λ tag ne.
             rest .others tag (λ a l u. ne a (omega arith) (omega arith))
-            ∙ free-one-other tag 61 cur (placeOf (ctag x pr counter (suc start)) t) (not-tag tag now (ne (suc start) (omega arith) (omega arith)));
+            ∙ free-one-other tag (widthOf tableC) cur (placeOf (ctag x pr counter (suc start)) t) (not-tag tag now (ne (suc start) (omega arith) (omega arith)));
       }
     where
       apart : (a : ℕ) → suc start < a → a ≤ suc start + k → Held (ctag x pr counter a) cur (placeOf (ctag x pr counter a) t)
@@ -103,7 +103,7 @@ module _ (x : Setting) where
     P = C .pairs pr ok
 
     abbrev t₁ : Table
-    t₁ = freeAt 61 (heldPlaces suite (clOf x pr) t (P .start) (runOf x L pr)) t
+    t₁ = freeAt (widthOf tableC) (heldPlaces suite (clOf x pr) t (P .start) (runOf x L pr)) t
 
     abbrev row : Row
     row = countedRow suite (clOf x pr) (ctag x pr anchor (P .B + 1)) nonce (P .start + runOf x L pr) (made pr)
@@ -138,7 +138,7 @@ module _ (x : Setting) where
         let m = P .position-made in
         let ml = P .made-limit in
         let at : lookup (ctag x pr anchor (P .B + 1)) t₁ ≡ none =
-        free-at-none (ctag x pr anchor (P .B + 1)) 61 (heldPlaces suite (clOf x pr) t (P .start) (runOf x L pr)) t (P .anchors-none (P .B + 1) (omega arith) high) in
+        free-at-none (ctag x pr anchor (P .B + 1)) (widthOf tableC) (heldPlaces suite (clOf x pr) t (P .start) (runOf x L pr)) t (P .anchors-none (P .B + 1) (omega arith) high) in
         let found : lookup (ctag x pr anchor (P .B + 1)) t′ ≡ some (body row) = placed-own x t₁ pr anchor (P .B + 1) row t′ ok placed busy row-tag low high at in
         let other = placed-number x t₁ pr anchor (P .B + 1) row t′ ok placed busy row-tag low high in
         record {
@@ -148,11 +148,11 @@ module _ (x : Setting) where
           anchors-held = λ b l u. held b l u (eqb b (P .B + 1)) refl found other;
           anchors-none = λ b l u.
               other anchor b (omega arith) u (λ k w. omega arith)
-              ∙ free-at-none (ctag x pr anchor b) 61 (heldPlaces suite (clOf x pr) t (P .start) (runOf x L pr)) t (P .anchors-none b (omega arith) u);
+              ∙ free-at-none (ctag x pr anchor b) (widthOf tableC) (heldPlaces suite (clOf x pr) t (P .start) (runOf x L pr)) t (P .anchors-none b (omega arith) u);
           counters-held = λ a l u. absurd (omega arith);
           counters-none = λ a l u.
               other counter a (omega arith) u (λ k. absurd (counter≢anchor k))
-              ∙ free-at-none (ctag x pr counter a) 61 (heldPlaces suite (clOf x pr) t (P .start) (runOf x L pr)) t (P .counters-none a (omega arith) u);
+              ∙ free-at-none (ctag x pr counter a) (widthOf tableC) (heldPlaces suite (clOf x pr) t (P .start) (runOf x L pr)) t (P .counters-none a (omega arith) u);
           no-anchor = λ e. absurd (omega arith);
           last-anchor = λ l. rw found (numbers-found suite (clOf x pr) (ctag x pr anchor (P .B + 1)) nonce (P .start + runOf x L pr) (made pr) (tag-length suite (clOf x pr) anchor (P .B + 1)) hn (omega arith) ml);
           no-counter = λ e. refl;

@@ -44,6 +44,10 @@ pub both-none : (o q : Option Answer) → orElse o q ≡ none → (o ≡ none) �
 both-none none q e = (refl, e)
 both-none (some r) q e = absurd (let w : _≡_ {A = ℕ} 0 1 = cc in omega arith)
 
+-- where nothing refuses, nothing after a part of the list does
+pub after-none : (a b : List Test) → verdict (a ++ b) ≡ none → verdict b ≡ none
+after-none a b e = both-none (verdict a) (verdict b) (sym (verdict-append a b) ∙ e) .1
+
 pub length-passed : (n : ℕ) (l : List ℕ) → lengthNot n l ≡ false → length l ≡ n
 length-passed n l e = eqb-true (length l) n (not-false (eqb (length l) n) e)
 

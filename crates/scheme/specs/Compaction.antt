@@ -9,7 +9,8 @@ use Rattle.table.specs.Lists.{same, distinct}
 use Rattle.table.specs.Table.{Row, Table, used, placeOf, freeAt, freeWhere, Placed}
 use Rattle.answer.specs.Answer.{Answer, done, refused}
 use Rattle.scheme.specs.Suite.{Suite}
-use Rattle.scheme.specs.Store.{Store, sizesOf, cut, joined, headerBad, marksBad, counterTag, anchorRow, clIn}
+use Rattle.scheme.specs.Keys.{compactionTokenLength}
+use Rattle.scheme.specs.Store.{Store, tableC, tableS, widthOf, sizesOf, cut, joined, putIn, stateTests, counterTag, anchorRow, clIn}
 use Rattle.scheme.specs.Reading.{damage, counter, reading}
 use Rattle.scheme.specs.Refusals.{compactionInputTests, tokenTests}
 use Rattle.answer.specs.Verdict.{_⇒_, verdict}
@@ -22,7 +23,7 @@ module _ (suite : Suite) where
 
   -- one CL with k > 0: those rows are freed, anchor B + 1 is written with position and count [01:OP11]
   unfoldable pub freedCounters : List ℕ → Table → ℕ → ℕ → Table
-  freedCounters cl t start k = freeAt 61 (heldPlaces cl t start k) t
+  freedCounters cl t start k = freeAt (widthOf tableC) (heldPlaces cl t start k) t
 
   unfoldable pub nextAnchor : List ℕ → List ℕ → ℕ → ℕ → ℕ → ℕ → Row
   nextAnchor cl nonce B start k n = anchorRow suite cl (B + 1) nonce (start + k) n
@@ -36,7 +37,7 @@ module _ (suite : Suite) where
 
   -- all S rows of a CL are freed [01:OP12]
   unfoldable pub freeLog : List ℕ → List ℕ → Table → Table
-  freeLog ks cl t = freeWhere 45 (λ b. same (clIn suite ks b) cl) t
+  freeLog ks cl t = freeWhere (widthOf tableS) (λ b. same (clIn suite ks b) cl) t
 
 -- CL after CL, from tables C and S with the nonces left and the numbers so far, to the answer and the tables after it:
 -- damage stops it and carries the numbers so far [01:RS13]; with k = 0 nothing is written and no nonce is used [01:OP11]
@@ -57,26 +58,24 @@ pub data Treats (suite : Suite) (c : ℕ) (ks : List ℕ) : List (List ℕ) → 
 
 -- distinct CL of S in order of first row [01:OP10]
 unfoldable pub logged : Suite → List ℕ → List ℕ → List (List ℕ)
-logged suite before token = distinct (logOf suite token (cut before .tS))
+logged suite before token = distinct (logOf suite token (cut before .table tableS))
 
 -- the store with its tables C and S after the treatment
 unfoldable pub compactedStore : List ℕ → Table → Table → Store
-compactedStore before tC tS = record { header = cut before .header; tM = cut before .tM; tV = cut before .tV; tC = tC; tS = tS }
+compactedStore before tC tS = putIn tableS tS (putIn tableC tC (cut before))
 
 module _ (suite : Suite) (before nonces token : List ℕ) where
-  -- 4, 6, 10, 11, 19 [01:RI5 RI7 RS2 RS3 RS5]
+  -- 4 and 6, then 10 and 11, then 19 [01:RI5 RI7 RS5]
   unfoldable pub compactVerdict : Option Answer
-  compactVerdict = verdict (compactionInputTests nonces ++ (tokenTests 32 token ++
-      ((headerBad before ⇒ 10)
-      ∷ (marksBad (cut before) ⇒ 11)
-      ∷ (ltb (length nonces / 12) (length (used (cut before .tS))) ⇒ 19)
-      ∷ [])))
+  compactVerdict = verdict (compactionInputTests nonces ++ (tokenTests compactionTokenLength token ++ (stateTests before ++
+      ((ltb (length nonces / 12) (length (used (cut before .table tableS))) ⇒ 19)
+      ∷ []))))
 
   -- answer: anchors written, counters freed [01:OP13]
   pub record Compacted (answer : Answer) (after : List ℕ) : Type 0 where
     pub tC′ : Table
     pub tS′ : Table
-    pub treats : Treats suite (sizesOf before .c) token (logged suite before token) (cut before .tC) (cut before .tS) nonces 0 0 answer tC′ tS′
+    pub treats : Treats suite (sizesOf before .c) token (logged suite before token) (cut before .table tableC) (cut before .table tableS) nonces 0 0 answer tC′ tS′
     pub written : after ≡ joined (compactedStore before tC′ tS′)
 
   -- a refusal changes no byte, except 13, which Treats tells [01:RS13]

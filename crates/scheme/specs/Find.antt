@@ -8,8 +8,8 @@ use Rattle.table.specs.Lists.{anyOf, flat, upTo}
 use Rattle.table.specs.Table.{Table, lookup}
 use Rattle.answer.specs.Answer.{Answer, done}
 use Rattle.scheme.specs.Suite.{Suite}
-use Rattle.scheme.specs.Keys.{share, findMT, findME, findCL}
-use Rattle.scheme.specs.Store.{sizesOf, cut, headerBad, marksBad, entryTag, idIn}
+use Rattle.scheme.specs.Keys.{findTokenLength, share, findMT, findME, findCL}
+use Rattle.scheme.specs.Store.{tableM, tableC, sizesOf, cut, stateTests, entryTag, idIn}
 use Rattle.scheme.specs.Reading.{Reading, damaged, countOf, reading}
 use Rattle.scheme.specs.Refusals.{Result, tokenTests}
 use Rattle.answer.specs.Verdict.{_⇒_, _⇒_carrying_, verdict, answerOr, unlessRefused}
@@ -27,26 +27,24 @@ module _ (suite : Suite) where
 
   -- the reading of share u under the find token's or the count token's F(KC, x)
   unfoldable pub shareReading : List ℕ → List ℕ → ℕ → Reading
-  shareReading before clx u = reading suite (sizesOf before .c) (share suite clx u) (cut before .tC)
+  shareReading before clx u = reading suite (sizesOf before .c) (share suite clx u) (cut before .table tableC)
 
 module _ (suite : Suite) (before token : List ℕ) where
   -- for u = 0 to p, addresses 1 to the count [01:OP6]
   unfoldable pub idsOfShare : ℕ → List (List ℕ)
   idsOfShare u =
-      idsTo suite (share suite (findMT token) u) (share suite (findME token) u) (cut before .tM) (countOf (shareReading suite before (findCL token) u))
+      idsTo suite (share suite (findMT token) u) (share suite (findME token) u) (cut before .table tableM) (countOf (shareReading suite before (findCL token) u))
 
   unfoldable pub idsFound : List (List ℕ)
   idsFound = flat (map idsOfShare (upTo (sizesOf before .p)))
 
 module _ (suite : Suite) (before token output : List ℕ) where
-  -- 6, 10, 11, 13 with every share read first, 18 [01:RI7 RS2 RS3 RS6 RS11]
+  -- 6, then 10 and 11, then 13 with every share read first, and 18 [01:RI7 RS6 RS11]
   unfoldable pub findVerdict : Option Answer
-  findVerdict = verdict (tokenTests 96 token ++
-      ((headerBad before ⇒ 10)
-      ∷ (marksBad (cut before) ⇒ 11)
-      ∷ (anyOf (λ u. damaged (shareReading suite before (findCL token) u)) (upTo (sizesOf before .p)) ⇒ 13)
+  findVerdict = verdict (tokenTests findTokenLength token ++ (stateTests before ++
+      ((anyOf (λ u. damaged (shareReading suite before (findCL token) u)) (upTo (sizesOf before .p)) ⇒ 13)
       ∷ (ltb (length output) (16 * length (idsFound suite before token)) ⇒ 18 carrying (length (idsFound suite before token) ∷ []))
-      ∷ []))
+      ∷ [])))
 
   -- ids go to the start of the output, later bytes stay; answer: how many [01:OP7 OP8]
   unfoldable pub find : Result

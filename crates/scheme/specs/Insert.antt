@@ -9,8 +9,8 @@ use lib.ListN.{take, drop}
 use Rattle.table.specs.Table.{Row, Table, freeRows, Placed, PlacedAll}
 use Rattle.answer.specs.Answer.{Answer, done}
 use Rattle.scheme.specs.Suite.{Suite}
-use Rattle.scheme.specs.Keys.{tokenP, tokenMT, tokenME, tokenCL, tokenLog}
-use Rattle.scheme.specs.Store.{Store, sizesOf, cut, joined, headerBad, marksBad, entryRow, reverseRow, counterRow, logRow}
+use Rattle.scheme.specs.Keys.{insertTokenLength, tokenP, tokenMT, tokenME, tokenCL, tokenLog}
+use Rattle.scheme.specs.Store.{Store, tableM, tableV, tableC, tableS, sizesOf, cut, joined, putIn, stateTests, entryRow, reverseRow, counterRow, logRow}
 use Rattle.scheme.specs.Reading.{Reading, limit, damaged, countOf, positionOf, reading}
 use Rattle.scheme.specs.Refusals.{idCount, idsIn, insertInputTests, tokenTests}
 use Rattle.answer.specs.Verdict.{Test, _⇒_, verdict, answerOr}
@@ -27,31 +27,30 @@ module _ (suite : Suite) where
 
 -- the reading of the token's CL, and the new count [01:OP3]
 unfoldable pub insertReading : Suite → List ℕ → List ℕ → Reading
-insertReading suite before token = reading suite (sizesOf before .c) (tokenCL token) (cut before .tC)
+insertReading suite before token = reading suite (sizesOf before .c) (tokenCL token) (cut before .table tableC)
 
 unfoldable pub newCount : Suite → List ℕ → List ℕ → List ℕ → ℕ
 newCount suite before ids token = countOf (insertReading suite before token) + idCount ids
 
 -- the store with its four tables after the writing
 unfoldable pub insertedStore : List ℕ → Table → Table → Table → Table → Store
-insertedStore before tM tV tC tS = record { header = cut before .header; tM = tM; tV = tV; tC = tC; tS = tS }
+insertedStore before tM tV tC tS = putIn tableS tS (putIn tableC tC (putIn tableV tV (putIn tableM tM (cut before))))
 
 module _ (suite : Suite) (before ids nonces token : List ℕ) where
-  -- 10 to 17 [01:RS2 RS3 RS4 RS6 RS7 RS8 RS9 RS10]
+  -- 12 to 17 [01:RS4 RS6 RS7 RS8 RS9 RS10]
   unfoldable pub insertStateTests : List Test
   insertStateTests =
-      (headerBad before ⇒ 10)
-      ∷ (marksBad (cut before) ⇒ 11)
-      ∷ (not (eqb (tokenP token) (sizesOf before .p)) ⇒ 12)
+      (not (eqb (tokenP token) (sizesOf before .p)) ⇒ 12)
       ∷ (damaged (insertReading suite before token) ⇒ 13)
       ∷ (ltb limit (newCount suite before ids token) ⇒ 14)
-      ∷ (ltb (freeRows (cut before .tM)) (idCount ids) || ltb (freeRows (cut before .tV)) (idCount ids) ⇒ 15)
-      ∷ (ltb (freeRows (cut before .tC)) 1 ⇒ 16)
-      ∷ (ltb (freeRows (cut before .tS)) 1 ⇒ 17)
+      ∷ (ltb (freeRows (cut before .table tableM)) (idCount ids) || ltb (freeRows (cut before .table tableV)) (idCount ids) ⇒ 15)
+      ∷ (ltb (freeRows (cut before .table tableC)) 1 ⇒ 16)
+      ∷ (ltb (freeRows (cut before .table tableS)) 1 ⇒ 17)
       ∷ []
 
+  -- 4 to 6, then 10 and 11, then these
   unfoldable pub insertVerdict : Option Answer
-  insertVerdict = verdict (insertInputTests ids nonces ++ (tokenTests 141 token ++ insertStateTests))
+  insertVerdict = verdict (insertInputTests ids nonces ++ (tokenTests insertTokenLength token ++ (stateTests before ++ insertStateTests)))
 
   -- the rows to be written: entries in M and V, the counter at the next position, the token's last 44 bytes in S [01:OP1 OP2]
   unfoldable pub newEntries : List Row
@@ -73,10 +72,10 @@ module _ (suite : Suite) (before ids nonces token : List ℕ) where
     pub tV′ : Table
     pub tC′ : Table
     pub tS′ : Table
-    pub entries : PlacedAll (cut before .tM) newEntries tM′
-    pub reverses : PlacedAll (cut before .tV) newReverses tV′
-    pub counter : Placed (cut before .tC) newCounter tC′
-    pub log : Placed (cut before .tS) newLog tS′
+    pub entries : PlacedAll (cut before .table tableM) newEntries tM′
+    pub reverses : PlacedAll (cut before .table tableV) newReverses tV′
+    pub counter : Placed (cut before .table tableC) newCounter tC′
+    pub log : Placed (cut before .table tableS) newLog tS′
     pub written : after ≡ joined (insertedStore before tM′ tV′ tC′ tS′)
 
   -- a refusal changes no byte [01:RS13]; otherwise the rows are written and the answer is the new count [01:OP3 OP14 OP15]

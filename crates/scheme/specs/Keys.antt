@@ -61,6 +61,19 @@ module _ (suite : Suite) where
   unfoldable pub compactionToken : List ℕ → List ℕ
   compactionToken K = KS K
 
+-- how many bytes a token has [01:KT7 KT8 KT9 KT10]
+abbrev pub insertTokenLength : ℕ
+insertTokenLength = 141
+
+abbrev pub findTokenLength : ℕ
+findTokenLength = 96
+
+abbrev pub countTokenLength : ℕ
+countTokenLength = 32
+
+abbrev pub compactionTokenLength : ℕ
+compactionTokenLength = 32
+
 -- the parts of an insert token; its last 44 bytes are an S row's [01:KT7 OP1]
 unfoldable pub tokenP : List ℕ → ℕ
 tokenP token = getD token 0 0

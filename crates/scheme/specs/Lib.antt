@@ -2,6 +2,7 @@ pub mod Suite
 pub mod Labels
 pub mod Keys
 pub mod Store
+pub mod Layout
 pub mod Reading
 pub mod Refusals
 pub mod Insert

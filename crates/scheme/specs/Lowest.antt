@@ -6,7 +6,7 @@ use Rattle.table.specs.Table.{Row, Table, isFree, indexOf}
 use Rattle.answer.specs.Answer.{Answer, done, refused}
 use Rattle.scheme.specs.Suite.{Suite}
 use Rattle.scheme.specs.Keys.{insertToken, compactionToken}
-use Rattle.scheme.specs.Store.{Store, sizesOf, cut, joined}
+use Rattle.scheme.specs.Store.{Store, tableM, tableV, tableC, tableS, sizesOf, cut, joined}
 use Rattle.scheme.specs.Reading
 use Rattle.scheme.specs.Reading.{Reading, damage, reading}
 use Rattle.scheme.specs.Refusals.{Result, insertTokenTests, keyTests}
@@ -29,10 +29,10 @@ module _ (suite : Suite) (before : List ℕ) where
   unfoldable pub insertedLowest : List ℕ → List ℕ → List ℕ → Store
   insertedLowest ids nonces token =
       insertedStore before
-      (placeAll (cut before .tM) (newEntries suite before ids nonces token))
-      (placeAll (cut before .tV) (newReverses suite before ids nonces token))
-      (place (cut before .tC) (newCounter suite before ids nonces token))
-      (place (cut before .tS) (newLog suite before ids nonces token))
+      (placeAll (cut before .table tableM) (newEntries suite before ids nonces token))
+      (placeAll (cut before .table tableV) (newReverses suite before ids nonces token))
+      (place (cut before .table tableC) (newCounter suite before ids nonces token))
+      (place (cut before .table tableS) (newLog suite before ids nonces token))
 
   unfoldable pub insertLowest : List ℕ → List ℕ → List ℕ → Result
   insertLowest ids nonces token = record {
@@ -66,7 +66,7 @@ treatLowest suite c ks (cl ∷ cls) tC tS nonces a w =
 module _ (suite : Suite) (before : List ℕ) where
   unfoldable pub treatedLowest : List ℕ → List ℕ → Treated
   treatedLowest nonces token =
-      treatLowest suite (sizesOf before .c) token (logged suite before token) (cut before .tC) (cut before .tS) nonces 0 0
+      treatLowest suite (sizesOf before .c) token (logged suite before token) (cut before .table tableC) (cut before .table tableS) nonces 0 0
 
   unfoldable pub compactLowest : List ℕ → List ℕ → Result
   compactLowest nonces token = record {

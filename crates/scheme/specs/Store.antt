@@ -1,16 +1,18 @@
--- Document 01, "Store": the header, the four tables as parts of one slice, their rows, and making a store.
+-- Document 01, "Store": the header, the plan of the tables and the tables as parts of one slice, their rows, and making a store.
 use Prim.Native.Nat.{ℕ, _+_, _*_, _-_, _/_, _%_}
-use mathlib.Core.Bool.{Bool, _||_, not}
+use mathlib.Core.Bool.{Bool, cond, _||_, not}
 use mathlib.Core.List.{List, [], _∷_, _++_}
 use lib.Dec.{ltb, eqb}
 use lib.ListN.{length, getD, take, drop, replicate}
-use Rattle.table.specs.Lists.{flat}
+use Rattle.table.specs.Lists.{anyOf, flat}
 use Rattle.table.specs.Table.{Row, Table, rows, markBad}
 use Rattle.answer.specs.Answer.{done}
 use Rattle.scheme.specs.Suite.{Suite, number8}
 use Rattle.scheme.specs.Refusals.{Result}
 use Rattle.answer.specs.Verdict.{Test, _⇒_, verdict, answerOr, unlessRefused}
 use Rattle.scheme.specs.Keys.{CT, CE}
+
+-- ---- the header
 
 -- p, m, c, s of a header [01:ST2]
 pub record Sizes : Type 0 where
@@ -19,16 +21,15 @@ pub record Sizes : Type 0 where
   pub c : ℕ
   pub s : ℕ
 
+abbrev pub headerLength : ℕ
+headerLength = 8
+
 -- p above 15, or m, c or s outside 1 to 4,096 [01:KT3 ST2]
 abbrev pub rowsBad : ℕ → Bool
 rowsBad n = ltb n 1 || ltb 4096 n
 
 unfoldable pub sizesBad : Sizes → Bool
 sizesBad z = ltb 15 (z .p) || (rowsBad (z .m) || (rowsBad (z .c) || rowsBad (z .s)))
-
--- the length of a store with these sizes [01:ST3]
-unfoldable pub lengthFor : Sizes → ℕ
-lengthFor z = 8 + 110 * z .m + 61 * z .c + 45 * z .s
 
 -- the header: version 1, p, then m, c, s, two bytes each, big-endian [01:ST2]
 unfoldable pub headerOf : Sizes → List ℕ
@@ -42,39 +43,116 @@ sizesOf b = record {
   s = 256 * getD b 6 0 + getD b 7 0;
 }
 
+-- ---- the plan of the tables
+
+-- a table of the store [01:SC1 SC4]
+pub data Which : Type 0 where
+  tableM : Which
+  tableV : Which
+  tableC : Which
+  tableS : Which
+
+-- the tables in the order in which they stand [01:ST3]
+abbrev pub plan : List Which
+plan = tableM ∷ tableV ∷ tableC ∷ tableS ∷ []
+
+-- how many bytes a row has [01:ST6 ST8 ST9 ST12]
+abbrev pub widthOf : Which → ℕ
+widthOf tableM = 61
+widthOf tableV = 49
+widthOf tableC = 61
+widthOf tableS = 45
+
+-- how many rows the table has in a store with these sizes [01:ST3]
+abbrev pub rowsOf : Sizes → Which → ℕ
+rowsOf z tableM = z .m
+rowsOf z tableV = z .m
+rowsOf z tableC = z .c
+rowsOf z tableS = z .s
+
+-- the greatest mark that a row may have [01:ST5 RS3]
+abbrev pub greatestMark : Which → ℕ
+greatestMark tableM = 1
+greatestMark tableV = 1
+greatestMark tableC = 1
+greatestMark tableS = 1
+
+-- a table's place in the order, by which two tables are told apart
+abbrev pub rankOf : Which → ℕ
+rankOf tableM = 0
+rankOf tableV = 1
+rankOf tableC = 2
+rankOf tableS = 3
+
+abbrev pub sameTable : Which → Which → Bool
+sameTable j k = eqb (rankOf j) (rankOf k)
+
+-- where table k starts and where the last table ends, if the tables of a list stand one after the other from a place on, with so
+-- many rows each
+abbrev pub startFrom : (Which → ℕ) → ℕ → List Which → Which → ℕ
+startFrom n a [] k = a
+startFrom n a (j ∷ js) k = cond (sameTable j k) a (startFrom n (a + widthOf j * n j) js k)
+
+abbrev pub endFrom : (Which → ℕ) → ℕ → List Which → ℕ
+endFrom n a [] = a
+endFrom n a (j ∷ js) = endFrom n (a + widthOf j * n j) js
+
+-- where a table starts in a store with these sizes [01:ST3]
+abbrev pub startOf : Sizes → Which → ℕ
+startOf z k = startFrom (rowsOf z) headerLength plan k
+
+-- the length of a store with these sizes; that it is 8 + 110·m + 61·c + 45·s is a law [01:ST3]
+unfoldable pub lengthFor : Sizes → ℕ
+lengthFor z = endFrom (rowsOf z) headerLength plan
+
+-- ---- the tables as parts of one slice
+
 -- a store's header and tables [01:SC1 SC4 ST3]
 pub record Store : Type 0 where
   pub header : List ℕ
-  pub tM : Table
-  pub tV : Table
-  pub tC : Table
-  pub tS : Table
+  pub table : Which → Table
 
 -- each table is the part of the one slice that holds it [01:ST1 ST3 ST4 FM6]
 unfoldable pub cut : List ℕ → Store
 cut b = record {
-  header = take 8 b;
-  tM = rows 61 (sizesOf b .m) (drop 8 b);
-  tV = rows 49 (sizesOf b .m) (drop (8 + 61 * sizesOf b .m) b);
-  tC = rows 61 (sizesOf b .c) (drop (8 + 110 * sizesOf b .m) b);
-  tS = rows 45 (sizesOf b .s) (drop (8 + 110 * sizesOf b .m + 61 * sizesOf b .c) b);
+  header = take headerLength b;
+  table = λ k. rows (widthOf k) (rowsOf (sizesOf b) k) (drop (startOf (sizesOf b) k) b);
 }
 
 -- the slice that holds them
+abbrev pub joinedFrom : List Which → (Which → Table) → List ℕ
+joinedFrom [] f = []
+joinedFrom (k ∷ ks) f = flat (f k) ++ joinedFrom ks f
+
 unfoldable pub joined : Store → List ℕ
-joined st = st .header ++ (flat (st .tM) ++ (flat (st .tV) ++ (flat (st .tC) ++ flat (st .tS))))
+joined st = st .header ++ joinedFrom plan (st .table)
+
+-- the store with another table in place of one
+abbrev pub instead : Which → Table → (Which → Table) → Which → Table
+instead k t f j = cond (sameTable j k) t (f j)
+
+abbrev pub putIn : Which → Table → Store → Store
+putIn k t st = record { header = st .header; table = instead k t (st .table) }
+
+-- ---- what every call tests first
 
 -- the condition of 10 [01:RS2]
 unfoldable pub headerBad : List ℕ → Bool
-headerBad b = ltb (length b) 8 || (not (eqb (getD b 0 0) 1) || (sizesBad (sizesOf b) || not (eqb (length b) (lengthFor (sizesOf b)))))
+headerBad b = ltb (length b) headerLength || (not (eqb (getD b 0 0) 1) || (sizesBad (sizesOf b) || not (eqb (length b) (lengthFor (sizesOf b)))))
 
--- the condition of 11: a mark other than 0 and 1 [01:RS3]
+-- the condition of 11: a table has a mark above its greatest [01:RS3]
 unfoldable pub marksBad : Store → Bool
-marksBad st = markBad (st .tM) || (markBad (st .tV) || (markBad (st .tC) || markBad (st .tS)))
+marksBad st = anyOf (λ k. markBad (greatestMark k) (st .table k)) plan
+
+-- 10, then 11: the tests of the state that every call begins with [01:RS1 RS2 RS3]
+unfoldable pub stateTests : List ℕ → List Test
+stateTests b = (headerBad b ⇒ 10) ∷ (marksBad (cut b) ⇒ 11) ∷ []
+
+-- ---- making a store
 
 -- making a store writes the header and zeroes the rest [01:ST16]
 unfoldable pub fresh : Sizes → List ℕ
-fresh z = headerOf z ++ replicate (lengthFor z - 8) 0
+fresh z = headerOf z ++ replicate (lengthFor z - headerLength) 0
 
 unfoldable pub makeTests : Sizes → List ℕ → List Test
 makeTests z slice = (sizesBad z ⇒ 7) ∷ (not (eqb (length slice) (lengthFor z)) ⇒ 8) ∷ []
@@ -86,6 +164,8 @@ make z slice = record {
   store = unlessRefused (verdict (makeTests z slice)) (fresh z) slice;
   output = [];
 }
+
+-- ---- the rows
 
 module _ (suite : Suite) where
   open Suite suite using (F, E)

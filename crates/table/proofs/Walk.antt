@@ -98,12 +98,12 @@ count-end p w n i x z t h e =
     sym (add-zero x) ∙ ap (λ (r : Table). x + count p r) (sym (drop-of-length-le (rows w n t) l)) ∙ e
 
 -- some mark is bad where one or more were counted
-pub bad-counted : (t : Table) (k : ℕ) → k ≡ count (λ r. ltb 1 (markOf r)) t → ltb 0 k ≡ markBad t
-bad-counted t k e = go (markBad t) refl
+pub bad-counted : (most : ℕ) (t : Table) (k : ℕ) → k ≡ count (λ r. ltb most (markOf r)) t → ltb 0 k ≡ markBad most t
+bad-counted most t k e = go (markBad most t) refl
   where
-    go : (b : Bool) → markBad t ≡ b → ltb 0 k ≡ b
-    go true m = lt-ltb 0 k (omega (arith, any-count (λ r. ltb 1 (markOf r)) t m))
-    go false m = le-ltb 0 k (omega (arith, any-none (λ r. ltb 1 (markOf r)) t m))
+    go : (b : Bool) → markBad most t ≡ b → ltb 0 k ≡ b
+    go true m = lt-ltb 0 k (omega (arith, any-count (λ r. ltb most (markOf r)) t m))
+    go false m = le-ltb 0 k (omega (arith, any-none (λ r. ltb most (markOf r)) t m))
 
 -- looking for the first row that passes
 module _ (q : Row → Bool) (w n i z : ℕ) (t : List ℕ) (e : i + indexOf q (drop i (rows w n t)) ≡ z) where

@@ -26,9 +26,9 @@ markOf r = getD r 0 0
 abbrev pub isFree : Row → Bool
 isFree r = eqb (markOf r) 0
 
--- a mark other than 0 and 1 stands [01:RS3]
-abbrev pub markBad : Table → Bool
-markBad t = anyOf (λ r. ltb 1 (markOf r)) t
+-- a mark above the greatest that the table allows stands [01:RS3]
+abbrev pub markBad : ℕ → Table → Bool
+markBad most t = anyOf (λ r. ltb most (markOf r)) t
 
 -- a row after its mark
 abbrev pub body : Row → List ℕ

@@ -10,7 +10,7 @@ ghost use Rattle.table.specs.Table.{rows, isFree, body, used, freeRows, 
 
 // What one pass over the marks tells.
 pub struct Marks {
-    // Whether a mark other than 0 and 1 stands.
+    // Whether a mark above the greatest stands.
     pub bad: bool,
     // How many rows are free.
     pub free: usize,
@@ -23,17 +23,18 @@ fn free_mark(x: u8) -> usize
     if x == 0 { 1 } else { 0 }
 }
 
-// 1 for a mark other than 0 and 1.
-fn other_mark(x: u8) -> usize
-    ensures { λ r. ⌜ (r ≡ bit (ltb 1 x)) × (r ≤ 1) ⌝ }
+// 1 for a mark above the greatest.
+fn other_mark(x: u8, most: u8) -> usize
+    ensures { λ r. ⌜ (r ≡ bit (ltb most x)) × (r ≤ 1) ⌝ }
 {
-    if 1 < x { 1 } else { 0 }
+    if most < x { 1 } else { 0 }
 }
 
-// The check of every mark, and the number of free rows, in one pass. [01:ST5 RS3]
-pub fn survey(t: &[u8], w: usize, n: usize) -> Marks
+// The check of every mark against the greatest allowed, and the number of free rows, in one pass.
+// [01:ST5 RS3]
+pub fn survey(t: &[u8], w: usize, n: usize, most: u8) -> Marks
     requires { ⌜ (1 ≤ w) × (length (now t) ≡ w * n) ⌝ }
-    ensures { λ r. ⌜ (r .bad ≡ markBad (rows w n (now (t .entry)))) × (r .free ≡ freeRows (rows w n (now (t .entry)))) ⌝ }
+    ensures { λ r. ⌜ (r .bad ≡ markBad most (rows w n (now (t .entry)))) × (r .free ≡ freeRows (rows w n (now (t .entry)))) ⌝ }
 {
     let mut other = 0;
     let mut free = 0;
@@ -41,7 +42,7 @@ pub fn survey(t: &[u8], w: usize, n: usize) -> Marks
     while i < n {
         let at = w * i;
         free += free_mark(t[at]);
-        other += other_mark(t[at]);
+        other += other_mark(t[at], most);
         i += 1;
     }
     Marks {
@@ -94,14 +95,6 @@ pub fn free_from(t: &[u8], w: usize, n: usize, from: usize) -> usize
         i += 1;
     }
     n
-}
-
-// The free row of lowest index; n where there is none.
-pub fn free_place(t: &[u8], w: usize, n: usize) -> usize
-    requires { ⌜ (1 ≤ w) × (length (now t) ≡ w * n) ⌝ }
-    ensures { λ r. ⌜ r ≡ indexOf isFree (rows w n (now (t .entry))) ⌝ }
-{
-    free_from(t, w, n, 0)
 }
 
 // Writes a row; every other row keeps its bytes. [01:ST15]

@@ -12,13 +12,13 @@ use Rattle.table.proofs.survey.Statement.{statement}
 use Rattle.table.proofs.survey.Tie as tie
 
 abbrev Inv-loop : tie.InvT-loop
-Inv-loop t w n other₀ free₀ i₀ other free i =
+Inv-loop t w n most other₀ free₀ i₀ other free i =
     (i ≤ n) × (other ≤ i) × (free ≤ i)
-    × (other + count (λ r. ltb 1 (markOf r)) (drop i (rows w n t)) ≡ count (λ r. ltb 1 (markOf r)) (rows w n t))
+    × (other + count (λ r. ltb most (markOf r)) (drop i (rows w n t)) ≡ count (λ r. ltb most (markOf r)) (rows w n t))
     × (free + count (λ r. eqb (markOf r) 0) (drop i (rows w n t)) ≡ count (λ r. eqb (markOf r) 0) (rows w n t))
 
 abbrev μ-loop : tie.MeasureT-loop
-μ-loop t w n other₀ free₀ i₀ other free i = n - i
+μ-loop t w n most other₀ free₀ i₀ other free i = n - i
 
 -- a row ends within the table
 inside : (c : tie.In-loop Inv-loop μ-loop) → c .before .before .before .args .w * c .before .loop .i + c .before .before .before .args .w ≤ length (c .before .before .before .args .t .now)
@@ -59,7 +59,7 @@ loop-again c =
     let l = c .before .before .before .before .before .loop in
     let s = c .before .before .before .before .before .before .before in
     let h = c .before .before .before .before .loop-test .taken in
-    let bad = count-turn (λ x. ltb 1 x) (s .args .w) (s .args .n) (l .i) (s .args .t .now) (s .pre .0) h in
+    let bad = count-turn (λ x. ltb (s .args .most) x) (s .args .w) (s .args .n) (l .i) (s .args .t .now) (s .pre .0) h in
     let free = count-turn (λ x. eqb x 0) (s .args .w) (s .args .n) (l .i) (s .args .t .now) (s .pre .0) h in
     (omega arith, omega arith, omega arith, omega arith, omega arith)
 
@@ -67,8 +67,8 @@ returns : tie.Need-returns Inv-loop μ-loop
 returns c =
     let l = c .before .loop in
     let a = c .before .before .before .args in (
-      bad-counted (rows (a .w) (a .n) (a .t .now)) (l .other)
-          (count-end (λ r. ltb 1 (markOf r)) (a .w) (a .n) (l .i) (l .other) _ (a .t .now) (c .loop-test .left) (l .inv .3)),
+      bad-counted (a .most) (rows (a .w) (a .n) (a .t .now)) (l .other)
+          (count-end (λ r. ltb (a .most) (markOf r)) (a .w) (a .n) (l .i) (l .other) _ (a .t .now) (c .loop-test .left) (l .inv .3)),
       count-end (λ r. eqb (markOf r) 0) (a .w) (a .n) (l .i) (l .free) _ (a .t .now) (c .loop-test .left) (l .inv .4),
     )
 
