@@ -1,7 +1,7 @@
 -- Laws of the header and of the checks: what a header in range says of the slice, and what callers learn of a check.
 use Prim.Native.Nat.{ℕ, _+_, _*_, _-_, _≤_}
-use mathlib.Core.Path.{_≡_, refl, sym, ap, ap₂, subst, _∙_}
-use mathlib.Core.Bool.{Bool, true, false, cond, not, _||_}
+use mathlib.Core.Path.{_≡_, refl, sym, ap, ap₂, subst, _∙_, fun-ext}
+use mathlib.Core.Bool.{Bool, true, false, cond, not, _||_, or-false}
 use mathlib.Core.Option.{some}
 use mathlib.Core.List.{List, [], _∷_, _++_, append-nil}
 use native.Mathlib.Omega.{arith}
@@ -11,16 +11,22 @@ use lib.Seq.{drop-at, length-take-le}
 use borrow.Author.Tests.{ltb-false, eqb-true, not-false, le-ltb, eq-eqb, ne-eqb}
 use Rattle.octets.specs.Part.{back}
 use Rattle.octets.proofs.Parts.{back-next}
+use Rattle.table.specs.Table.{rows, markBad, freeRows}
 use Rattle.table.proofs.Counting.{neither}
+use Rattle.table.proofs.Walk.{rows-take}
 use Rattle.answer.specs.Answer.{done, refused, refusal}
 use Rattle.answer.specs.declared.Refusal.{Refusal}
 use Rattle.answer.specs.declared.Refusal.the-variants.{Header, Mark}
-use Rattle.answer.specs.Verdict.{Test, _⇒_, verdict}
-use Rattle.scheme.specs.Store.{Sizes, rowsBad, sizesBad, lengthFor, headerOf, sizesOf, cut, headerBad, marksBad, fresh, makeTests, make}
+use Rattle.answer.specs.Verdict.{Test, verdict}
+use Rattle.scheme.specs.Store.{Sizes, Which, widthOf, rowsOf, greatestMark, startOf, headerLength, rowsBad, sizesBad, lengthFor, headerOf, sizesOf, cut, headerBad, marksBad, stateTests, fresh, makeTests, make}
+use Rattle.scheme.specs.Layout.{Span, spanOf, Laid}
+use Rattle.scheme.proofs.Plan.{laid-cut}
 use Rattle.store.specs.declared.Shape.{Shape}
 use Rattle.store.specs.declared.Surveyed.{Surveyed}
+use Rattle.store.specs.declared.Surveys.{Surveys}
 use Rattle.store.specs.declared.Checked.the-variants.{Fit, Refused}
-use Rattle.store.specs.Check.{Surveys, shapeOf, checkedOf}
+use Rattle.store.specs.Check.{surveyOf, surveysOf, tableBy, shapeBy, checkedOf, partIn, spanIn, sizesIn}
+pub use Rattle.store.specs.Check.{tableM, tableV, tableC, tableS}
 
 -- ---- sizes in range
 
@@ -52,22 +58,25 @@ in-range z e =
       s-most = ltb-false 4096 (z .s) (s .1);
     }
 
+-- the length does not depend on p
+pub length-shares : (z : Sizes) → lengthFor (record { p = 0; m = z .m; c = z .c; s = z .s }) ≡ lengthFor z
+unfolding lengthFor
+length-shares z = refl
+
 -- a slice that 10 does not refuse
 pub record GoodHeader (b : List ℕ) : Type 0 where
-  pub long : 8 ≤ length b
-  pub version : getD b 0 0 ≡ 1
+  pub long : headerLength ≤ length b
   pub range : InRange (sizesOf b)
-  pub whole : length b ≡ 8 + 110 * sizesOf b .m + 61 * sizesOf b .c + 45 * sizesOf b .s
+  pub whole : length b ≡ lengthFor (sizesOf b)
 
 pub good-header : (b : List ℕ) → headerBad b ≡ false → GoodHeader b
-unfolding headerBad lengthFor
+unfolding headerBad
 good-header b e =
-    let p = neither (ltb (length b) 8) (not (eqb (getD b 0 0) 1) || (sizesBad (sizesOf b) || not (eqb (length b) (lengthFor (sizesOf b))))) e in
+    let p = neither (ltb (length b) headerLength) (not (eqb (getD b 0 0) 1) || (sizesBad (sizesOf b) || not (eqb (length b) (lengthFor (sizesOf b))))) e in
     let q = neither (not (eqb (getD b 0 0) 1)) (sizesBad (sizesOf b) || not (eqb (length b) (lengthFor (sizesOf b)))) (p .1) in
     let r = neither (sizesBad (sizesOf b)) (not (eqb (length b) (lengthFor (sizesOf b)))) (q .1) in
     record {
-      long = ltb-false (length b) 8 (p .0);
-      version = eqb-true (getD b 0 0) 1 (not-false (eqb (getD b 0 0) 1) (q .0));
+      long = ltb-false (length b) headerLength (p .0);
       range = in-range (sizesOf b) (r .0);
       whole = eqb-true (length b) (lengthFor (sizesOf b)) (not-false (eqb (length b) (lengthFor (sizesOf b))) (r .1));
     }
@@ -78,13 +87,13 @@ pub sizes-read : (b : List ℕ) (p m c s : ℕ) → p ≡ getD b 1 0 → m ≡ 2
 unfolding sizesOf
 sizes-read b p m c s ep em ec es = λ i. record { p = ep i; m = em i; c = ec i; s = es i }
 
-pub header-read : (b : List ℕ) (z : Sizes) (k : ℕ) (range r : Bool) → 8 ≤ length b → z ≡ sizesOf b → range ≡ sizesBad z → k ≡ 8 + 110 * z .m + 61 * z .c + 45 * z .s
+pub header-read : (b : List ℕ) (z : Sizes) (k : ℕ) (range r : Bool) → headerLength ≤ length b → z ≡ sizesOf b → range ≡ sizesBad z → k ≡ lengthFor (record { p = 0; m = z .m; c = z .c; s = z .s })
     → r ≡ (not (eqb (getD b 0 0) 1) || (range || not (eqb (length b) k))) → r ≡ headerBad b
-unfolding headerBad lengthFor
+unfolding headerBad
 header-read b z k range r l e f g h =
     h
-    ∙ ap₂ (λ (x : Bool) (y : ℕ). not (eqb (getD b 0 0) 1) || (x || not (eqb (length b) y))) (f ∙ ap sizesBad e) (g ∙ ap lengthFor e)
-    ∙ ap (λ (x : Bool). x || (not (eqb (getD b 0 0) 1) || (sizesBad (sizesOf b) || not (eqb (length b) (lengthFor (sizesOf b)))))) (sym (le-ltb (length b) 8 l))
+    ∙ ap₂ (λ (x : Bool) (y : ℕ). not (eqb (getD b 0 0) 1) || (x || not (eqb (length b) y))) (f ∙ ap sizesBad e) (g ∙ length-shares z ∙ ap lengthFor e)
+    ∙ ap (λ (x : Bool). x || (not (eqb (getD b 0 0) 1) || (sizesBad (sizesOf b) || not (eqb (length b) (lengthFor (sizesOf b)))))) (sym (le-ltb (length b) headerLength l))
 
 -- ---- making
 
@@ -101,87 +110,133 @@ module _ (z : Sizes) (b : List ℕ) where
   unfolding make makeTests
   make-done e f a g = let n = eq-eqb (length b) (lengthFor z) f in (rw (e, n), rw (e, n) g)
 
-  -- the header over the first 8 bytes, then zeros over the rest
+  -- the header over the first bytes, then zeros over the rest
   pub made : (h zs : List ℕ) (n : ℕ) → n ≡ length b → n ≡ lengthFor z → h ≡ headerOf z
-      → zs ≡ replicate (length (take (n - 8) (drop 8 (back b 0 8 h)))) 0 → back (back b 0 8 h) 8 n zs ≡ fresh z
+      → zs ≡ replicate (length (take (n - headerLength) (drop headerLength (back b 0 headerLength h)))) 0 → back (back b 0 headerLength h) headerLength n zs ≡ fresh z
   unfolding fresh headerOf
   made h zs n l e f g =
-      let lh : length h ≡ 8 = ap length f in
-      let d : drop 8 (h ++ drop 8 b) ≡ drop 8 b = drop-at h (drop 8 b) 8 lh in
-      let short : length (drop 8 b) ≤ n - 8 = omega (arith, length-drop 8 b) in
-      let k : length (take (n - 8) (drop 8 b)) ≡ n - 8 = length-take-le (n - 8) (drop 8 b) (omega (arith, length-drop 8 b)) in
-      back-next h (drop 8 b) zs 8 n lh ∙ ap (λ (r : List ℕ). (h ++ zs) ++ r) (drop-of-length-le (drop 8 b) short) ∙ append-nil (h ++ zs)
+      let lh : length h ≡ headerLength = ap length f in
+      let d : drop headerLength (h ++ drop headerLength b) ≡ drop headerLength b = drop-at h (drop headerLength b) headerLength lh in
+      let short : length (drop headerLength b) ≤ n - headerLength = omega (arith, length-drop headerLength b) in
+      let k : length (take (n - headerLength) (drop headerLength b)) ≡ n - headerLength = length-take-le (n - headerLength) (drop headerLength b) (omega (arith, length-drop headerLength b)) in
+      back-next h (drop headerLength b) zs headerLength n lh ∙ ap (λ (r : List ℕ). (h ++ zs) ++ r) (drop-of-length-le (drop headerLength b) short) ∙ append-nil (h ++ zs)
       ∙ ap₂ (λ (x y : List ℕ). x ++ y) f
-      (g ∙ ap (λ (j : ℕ). replicate j 0) (ap (λ (r : List ℕ). length (take (n - 8) r)) d ∙ k ∙ ap (λ (j : ℕ). j - 8) e))
+      (g ∙ ap (λ (j : ℕ). replicate j 0) (ap (λ (r : List ℕ). length (take (n - headerLength) r)) d ∙ k ∙ ap (λ (j : ℕ). j - headerLength) e))
 
 -- ---- the checks
 
-pub any-same : {a b c d a′ b′ c′ d′ : Bool} → a ≡ a′ → b ≡ b′ → c ≡ c′ → d ≡ d′ → (a || (b || (c || d))) ≡ (a′ || (b′ || (c′ || d′)))
-any-same p q r s = λ i. p i || (q i || (r i || s i))
+-- a table's part, from where the one before it ended
+pub survey-at : (b : List ℕ) (x : Surveyed) (a a′ w n most : ℕ) → x ≡ surveyOf b a w n most → a ≡ a′ → x ≡ surveyOf b a′ w n most
+survey-at b x a a′ w n most e f = e ∙ ap (λ (y : ℕ). surveyOf b y w n most) f
+
+pub survey-end : (b : List ℕ) (x : Surveyed) (a w n most : ℕ) → x ≡ surveyOf b a w n most → x .part .end ≡ a + w * n
+unfolding surveyOf
+survey-end b x a w n most e = ap (λ (y : Surveyed). y .part .end) e
+
+-- one pass over the lent part
+pub surveyed : (b : List ℕ) (start w n most free : ℕ) (bad : Bool) → bad ≡ markBad most (rows w n (take (start + w * n - start) (drop start b))) → free ≡ freeRows (rows w n (take (start + w * n - start) (drop start b)))
+    → record { bad = bad; part = record { start = start; end = start + w * n; rows = n; free = free } } ≡ surveyOf b start w n most
+unfolding surveyOf
+surveyed b start w n most free bad e f =
+    let r = rows-take w n (start + w * n - start) (drop start b) (omega arith) in
+    let x = e ∙ ap (markBad most) r in
+    let y = f ∙ ap freeRows r in
+    λ i. record { bad = x i; part = record { start = start; end = start + w * n; rows = n; free = y i } }
+
+-- the tables one after the other
+pub all-surveyed : (b : List ℕ) (z : Sizes) (xM xV xC xS : Surveyed) (bad : Bool) → bad ≡ (xM .bad || (xV .bad || (xC .bad || xS .bad)))
+    → xM ≡ surveyOf b (startOf z tableM) (widthOf tableM) (rowsOf z tableM) (greatestMark tableM)
+    → xV ≡ surveyOf b (startOf z tableV) (widthOf tableV) (rowsOf z tableV) (greatestMark tableV)
+    → xC ≡ surveyOf b (startOf z tableC) (widthOf tableC) (rowsOf z tableC) (greatestMark tableC)
+    → xS ≡ surveyOf b (startOf z tableS) (widthOf tableS) (rowsOf z tableS) (greatestMark tableS)
+    → record { bad = bad; shape = record { p = z .p; m = xM .part; v = xV .part; c = xC .part; s = xS .part } } ≡ surveysOf b z
+unfolding surveyOf surveysOf
+all-surveyed b z xM xV xC xS bad e eM eV eC eS =
+    let w : bad ≡ (xM .bad || (xV .bad || (xC .bad || (xS .bad || false)))) = e ∙ ap (λ (x : Bool). xM .bad || (xV .bad || (xC .bad || x))) (sym (or-false (xS .bad))) in
+    (λ i. record { bad = w i; shape = record { p = z .p; m = xM .part; v = xV .part; c = xC .part; s = xS .part } })
+    ∙ (λ i. record { bad = eM i .bad || (eV i .bad || (eC i .bad || (eS i .bad || false))); shape = record { p = z .p; m = eM i .part; v = eV i .part; c = eC i .part; s = eS i .part } })
 
 module _ (b : List ℕ) where
   pub checked-header : headerBad b ≡ true → Refused Header ≡ checkedOf b
   unfolding checkedOf
   checked-header e = rw e
 
-  module _ (z : Sizes) (v : Surveyed) (e : headerBad b ≡ false) (q : z ≡ sizesOf b) (w : Surveys b (z .m) (z .c) (z .s) v) where
-    found : Surveys b (sizesOf b .m) (sizesOf b .c) (sizesOf b .s) v
-    found = subst (λ (z : Sizes). Surveys b (z .m) (z .c) (z .s) v) q w
-
+  module _ (z : Sizes) (v : Surveys) (e : headerBad b ≡ false) (q : z ≡ sizesOf b) (w : v ≡ surveysOf b z) where
     marks : v .bad ≡ marksBad (cut b)
-    unfolding marksBad cut
-    marks = found .bad
+    unfolding marksBad cut surveysOf
+    marks = ap (λ (x : Surveys). x .bad) (w ∙ ap (surveysOf b) q)
 
     pub checked-mark : v .bad ≡ true → Refused Mark ≡ checkedOf b
     unfolding checkedOf
     checked-mark f = rw (e, sym marks ∙ f)
 
-    pub checked-fit : v .bad ≡ false
-        → Fit (record { p = z .p; m = z .m; c = z .c; s = z .s; free = v .free }) ≡ checkedOf b
-    unfolding checkedOf cut
+    pub checked-fit : v .bad ≡ false → Fit (v .shape) ≡ checkedOf b
+    unfolding checkedOf surveysOf
     checked-fit f =
-        let g = found in
-        rw (e, sym marks ∙ f)
-        (λ i. Fit (record { p = q i .p; m = q i .m; c = q i .c; s = q i .s; free = g .free i }))
+        let s : v .shape ≡ shapeBy b (sizesOf b) = ap (λ (x : Surveys). x .shape) (w ∙ ap (surveysOf b) q) in
+        rw (e, sym marks ∙ f) (ap Fit s)
 
 -- ---- what a caller learns
 
 pub record FitStore (b : List ℕ) (z : Shape) : Type 0 where
   pub header : headerBad b ≡ false
   pub marks : marksBad (cut b) ≡ false
-  pub shape : z ≡ shapeOf b
+  pub shape : z ≡ shapeBy b (sizesOf b)
 
--- the slice passed: 10 and 11 do not refuse, and its sizes and free rows are these
-pub fit : (b : List ℕ) (z : Shape) → checkedOf b ≡ Fit z → FitStore b z
+-- the slice passed: 10 and 11 do not refuse, and its tables are these
+fit : (b : List ℕ) (z : Shape) → checkedOf b ≡ Fit z → FitStore b z
 unfolding checkedOf
 fit b z e = go (headerBad b) (marksBad (cut b)) refl refl e
   where
-    go : (h k : Bool) → headerBad b ≡ h → marksBad (cut b) ≡ k → cond h (Refused Header) (cond k (Refused Mark) (Fit (shapeOf b))) ≡ Fit z → FitStore b z
+    go : (h k : Bool) → headerBad b ≡ h → marksBad (cut b) ≡ k → cond h (Refused Header) (cond k (Refused Mark) (Fit (shapeBy b (sizesOf b)))) ≡ Fit z → FitStore b z
     go true k eh ek e = absurd (let z : _≡_ {A = ℕ} 0 1 = cc in omega arith)
     go false true eh ek e = absurd (let z : _≡_ {A = ℕ} 0 1 = cc in omega arith)
-    go false false eh ek e = let q : z ≡ shapeOf b = cc in record { header = eh; marks = ek; shape = q }
+    go false false eh ek e = let q : z ≡ shapeBy b (sizesOf b) = cc in record { header = eh; marks = ek; shape = q }
 
--- the slice was refused: any list of tests that starts with 10 and 11 refuses it so
-pub unfit : (b : List ℕ) (r : Refusal) (ts : List Test) → checkedOf b ≡ Refused r → verdict ((headerBad b ⇒ 10) ∷ (marksBad (cut b) ⇒ 11) ∷ ts) ≡ some (refusal r)
-unfolding checkedOf
+-- the slice was refused: any list of tests that starts with those of the state refuses it so
+pub unfit : (b : List ℕ) (r : Refusal) (ts : List Test) → checkedOf b ≡ Refused r → verdict (stateTests b ++ ts) ≡ some (refusal r)
+unfolding checkedOf stateTests
 unfit b r ts e = go (headerBad b) (marksBad (cut b)) e
   where
-    go : (h k : Bool) → cond h (Refused Header) (cond k (Refused Mark) (Fit (shapeOf b))) ≡ Refused r → cond h (some (refused 10 [])) (cond k (some (refused 11 [])) (verdict ts)) ≡ some (refusal r)
+    go : (h k : Bool) → cond h (Refused Header) (cond k (Refused Mark) (Fit (shapeBy b (sizesOf b)))) ≡ Refused r → cond h (some (refused 10 [])) (cond k (some (refused 11 [])) (verdict ts)) ≡ some (refusal r)
     go true k e = let q : Header ≡ r = cc in ap (λ (x : Refusal). some (refusal x)) q
     go false true e = let q : Mark ≡ r = cc in ap (λ (x : Refusal). some (refusal x)) q
     go false false e = absurd (let z : _≡_ {A = ℕ} 0 1 = cc in omega arith)
 
--- a slice that passed is not refused by 10 or 11
-pub fit-verdict : (b : List ℕ) (z : Shape) (ts : List Test) → checkedOf b ≡ Fit z → verdict ((headerBad b ⇒ 10) ∷ (marksBad (cut b) ⇒ 11) ∷ ts) ≡ verdict ts
+-- a slice that passed is not refused by the tests of the state
+pub fit-verdict : (b : List ℕ) (z : Shape) (ts : List Test) → checkedOf b ≡ Fit z → verdict (stateTests b ++ ts) ≡ verdict ts
+unfolding stateTests
 fit-verdict b z ts e = let f = fit b z e in rw (f .header, f .marks) refl
 
--- the range of its sizes, and its length
-pub record FitLength (b : List ℕ) (z : Shape) : Type 0 where
-  pub range : InRange (record { p = z .p; m = z .m; c = z .c; s = z .s })
-  pub whole : length b ≡ 8 + 110 * z .m + 61 * z .c + 45 * z .s
+-- of a slice that passed
+module _ (b : List ℕ) (z : Shape) (e : checkedOf b ≡ Fit z) where
+  -- its sizes, each in range
+  pub fit-sizes : sizesOf b ≡ sizesIn z
+  fit-sizes = sym (ap sizesIn (fit b z e .shape))
 
-pub fit-length : (b : List ℕ) (z : Shape) → checkedOf b ≡ Fit z → FitLength b z
-fit-length b z e =
-    let f = fit b z e in
-    let g = good-header b (f .header) in
-    subst (FitLength b) (sym (f .shape)) (record { range = g .range; whole = g .whole })
+  pub fit-range : InRange (sizesIn z)
+  fit-range = subst InRange fit-sizes (good-header b (fit b z e .header) .range)
+
+  -- its tables stand where their parts say
+  pub laid-fit : Laid (spanIn z) b (cut b)
+  laid-fit =
+      let g = good-header b (fit b z e .header) in
+      subst (λ (z : Shape). Laid (spanIn z) b (cut b)) (sym (fit b z e .shape))
+      (subst (λ (at : Which → Span). Laid at b (cut b)) (sym (fun-ext spans)) (laid-cut b (g .whole)))
+    where
+      spans : (k : Which) → spanIn (shapeBy b (sizesOf b)) k ≡ spanOf (sizesOf b) k
+      spans tableM = refl
+      spans tableV = refl
+      spans tableC = refl
+      spans tableS = refl
+
+  -- how many rows of a table are free
+  pub free-rows : (k : Which) → freeRows (cut b .table k) ≡ partIn z k .free
+  unfolding cut
+  free-rows k = found k ∙ sym (ap (λ (z : Shape). partIn z k .free) (fit b z e .shape))
+    where
+      found : (k : Which) → freeRows (tableBy b (sizesOf b) k) ≡ partIn (shapeBy b (sizesOf b)) k .free
+      found tableM = refl
+      found tableV = refl
+      found tableC = refl
+      found tableS = refl

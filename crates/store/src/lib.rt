@@ -1,37 +1,61 @@
 // The store, one lent slice: making it, the checks 10 and 11 of every operation, and where its tables
-// stand (document 01, "Store"). A table is handed on as `&mut store[a..e]`: M from 8, V from 8 + 61 m,
-// C from 8 + 110 m, S from 8 + 110 m + 61 c; specs/Layout.antt says so, with laws in proofs/Tables.antt.
+// stand (document 01, "Store"). What the checks find is handed on by value: an operation lends a table as
+// `&mut store[start..end]` by the bounds of its `Part`, and works out none itself.
 ghost use mathlib.Core.Path.{_≡_};
 ghost use mathlib.Core.Bool.{false, _||_};
 ghost use Prim.Native.Nat.{_+_, _*_, _<_, _≤_};
 ghost use lib.ListN.{length, getD};
 ghost use Rattle.answer.specs.Answer.{completion};
-ghost use Rattle.scheme.specs.Store.{rowsBad, sizesBad, headerOf, headerBad, make as makeOf};
-ghost use Rattle.store.specs.Check.{Surveys, checkedOf};
+ghost use Rattle.scheme.specs.Store.{headerLength, rowsBad, sizesBad, lengthFor, headerOf, headerBad, make as makeOf};
+ghost use Rattle.store.specs.Check.{surveyOf, surveysOf, checkedOf};
 use answer::Completion;
 use answer::Refusal;
 
-// How many rows of M, V, C and S are free.
-pub struct Free {
-    pub m: usize,
-    pub v: usize,
-    pub c: usize,
-    pub s: usize,
+// The length of the header. [01:ST2]
+pub const HEADER: usize = 8;
+
+// The width of a row of M. [01:ST6]
+pub const M_WIDTH: usize = 61;
+
+// The width of a row of V. [01:ST8]
+pub const V_WIDTH: usize = 49;
+
+// The width of a row of C. [01:ST9]
+pub const C_WIDTH: usize = 61;
+
+// The width of a row of S. [01:ST12]
+pub const S_WIDTH: usize = 45;
+
+// The most rows that a table can have. [01:ST2]
+pub const MOST_ROWS: usize = 4096;
+
+// Where a table stands in the slice, how many rows it has, and how many of them are free. [01:ST4 FM6]
+pub struct Part {
+    pub start: usize,
+    pub end: usize,
+    pub rows: usize,
+    pub free: usize,
 }
 
-// p, m, c, s of a store, and its free rows.
+// p of a store, and its tables in the order in which they stand.
 pub struct Shape {
     pub p: u64,
-    pub m: usize,
-    pub c: usize,
-    pub s: usize,
-    pub free: Free,
+    pub m: Part,
+    pub v: Part,
+    pub c: Part,
+    pub s: Part,
 }
 
-// Whether a mark other than 0 and 1 stands in a table, and the free rows.
+// A table, and whether a mark above the greatest stands in it.
 struct Surveyed {
     bad: bool,
-    free: Free,
+    part: Part,
+}
+
+// All tables, and whether a mark above the greatest stands in one.
+struct Surveys {
+    bad: bool,
+    shape: Shape,
 }
 
 // A store that passed the checks, or the refusal.
@@ -60,7 +84,7 @@ fn any(a: bool, b: bool, c: bool, d: bool) -> bool
 fn bad_rows(n: u64) -> bool
     ensures { λ r. ⌜ r ≡ rowsBad n ⌝ }
 {
-    if n < 1 { true } else { 4096 < n }
+    if n < 1 { true } else { (MOST_ROWS as u64) < n }
 }
 
 // Whether p, m, c or s is out of range. [01:KT3 ST2]
@@ -71,15 +95,15 @@ fn bad_sizes(p: u64, m: u64, c: u64, s: u64) -> bool
 }
 
 // The length of a store with these sizes. [01:ST3]
-fn length_for(m: u64, c: u64, s: u64) -> u64
+fn length_for(m: usize, c: usize, s: usize) -> usize
     requires { ⌜ (m ≤ 65535) × ((c ≤ 65535) × (s ≤ 65535)) ⌝ }
-    ensures { λ r. ⌜ r ≡ 8 + 110 * m + 61 * c + 45 * s ⌝ }
+    ensures { λ r. ⌜ r ≡ lengthFor (record { p = 0; m = m; c = c; s = s }) ⌝ }
 {
-    8 + 110 * m + 61 * c + 45 * s
+    HEADER + M_WIDTH * m + V_WIDTH * m + C_WIDTH * c + S_WIDTH * s
 }
 
 // The header: version 1, p, then m, c, s, two bytes each, big-endian. [01:ST2]
-fn header(p: u64, m: u64, c: u64, s: u64) -> [u8; 8]
+fn header(p: u64, m: u64, c: u64, s: u64) -> [u8; HEADER]
     requires { ⌜ sizesBad (record { p = p; m = m; c = c; s = s }) ≡ false ⌝ }
     ensures { λ r. ⌜ r ≡ headerOf (record { p = p; m = m; c = c; s = s }) ⌝ }
 {
@@ -104,18 +128,18 @@ pub fn make(p: u64, m: u64, c: u64, s: u64, slice: &mut [u8]) -> Completion
         return Completion::Refused(Refusal::SizeRange);
     }
     let n = slice.len();
-    if n as u64 != length_for(m, c, s) {
+    if n != length_for(m as usize, c as usize, s as usize) {
         return Completion::Refused(Refusal::SliceLength);
     }
     let h = header(p, m, c, s);
-    octets::copy(&mut slice[0..8], &h);
-    octets::clear(&mut slice[8..n]);
+    octets::copy(&mut slice[0..HEADER], &h);
+    octets::clear(&mut slice[HEADER..n]);
     Completion::Done
 }
 
 // The number of two bytes, big-endian, at a place of the header.
 fn number(store: &[u8], at: usize) -> u64
-    requires { ⌜ (at < 8) × (at + 1 < length (now store)) ⌝ }
+    requires { ⌜ (at < headerLength) × (at + 1 < length (now store)) ⌝ }
     ensures { λ r. ⌜ (r ≡ 256 * getD (now (store .entry)) at 0 + getD (now (store .entry)) (at + 1) 0) × (r ≤ 65535) ⌝ }
 {
     256 * octets::wide(store[at]) + octets::wide(store[at + 1])
@@ -126,7 +150,7 @@ fn bad_header(store: &[u8]) -> bool
     ensures { λ r. ⌜ r ≡ headerBad (now (store .entry)) ⌝ }
 {
     let n = store.len();
-    if n < 8 {
+    if n < HEADER {
         return true;
     }
     let m = number(store, 2);
@@ -136,32 +160,53 @@ fn bad_header(store: &[u8]) -> bool
         false,
         store[0] != 1,
         bad_sizes(octets::wide(store[1]), m, c, s),
-        n as u64 != length_for(m, c, s),
+        n != length_for(m as usize, c as usize, s as usize),
     )
 }
 
-// One pass over the marks of each table.
-fn survey(store: &[u8], m: usize, c: usize, s: usize) -> Surveyed
-    requires { ⌜ (m ≤ 4096) × ((c ≤ 4096) × (length (now store) ≡ 8 + 110 * m + 61 * c + 45 * s)) ⌝ }
-    ensures { λ r. ⌜ Surveys (now (store .entry)) m c s r ⌝ }
+// One pass over the marks of the table of n rows of w bytes that starts at a place.
+fn survey(store: &[u8], start: usize, w: usize, n: usize, most: u8) -> Surveyed
+    requires { ⌜ (1 ≤ w) × (start + w * n ≤ length (now store)) ⌝ }
+    ensures { λ r. ⌜ r ≡ surveyOf (now (store .entry)) start w n most ⌝ }
 {
-    // Where V, C and S start, and the end.
-    let v = 8 + 61 * m;
-    let a = 8 + 110 * m;
-    let b = 8 + 110 * m + 61 * c;
-    let e = store.len();
-    let in_m = table::survey(&store[8..v], 61, m);
-    let in_v = table::survey(&store[v..a], 49, m);
-    let in_c = table::survey(&store[a..b], 61, c);
-    let in_s = table::survey(&store[b..e], 45, s);
-    let bad = any(in_m.bad, in_v.bad, in_c.bad, in_s.bad);
-    let free = Free {
-        m: in_m.free,
-        v: in_v.free,
-        c: in_c.free,
-        s: in_s.free,
+    let end = start + w * n;
+    let marks = table::survey(&store[start..end], w, n, most);
+    let part = Part {
+        start,
+        end,
+        rows: n,
+        free: marks.free,
     };
-    Surveyed { bad, free }
+    Surveyed {
+        bad: marks.bad,
+        part,
+    }
+}
+
+// One pass over each table, one after the other, with the greatest mark that it allows. [01:ST3 ST5]
+fn survey_all(store: &[u8], p: u64, m: usize, c: usize, s: usize) -> Surveys
+    requires { ⌜ length (now store) ≡ lengthFor (record { p = p; m = m; c = c; s = s }) ⌝ }
+    ensures { λ r. ⌜ r ≡ surveysOf (now (store .entry)) (record { p = p; m = m; c = c; s = s }) ⌝ }
+{
+    let in_m = survey(store, HEADER, M_WIDTH, m, 1);
+    let in_v = survey(store, in_m.part.end, V_WIDTH, m, 1);
+    let in_c = survey(store, in_v.part.end, C_WIDTH, c, 1);
+    let in_s = survey(store, in_c.part.end, S_WIDTH, s, 1);
+    let part_m = in_m.part;
+    let part_v = in_v.part;
+    let part_c = in_c.part;
+    let part_s = in_s.part;
+    let shape = Shape {
+        p,
+        m: part_m,
+        v: part_v,
+        c: part_c,
+        s: part_s,
+    };
+    Surveys {
+        bad: any(in_m.bad, in_v.bad, in_c.bad, in_s.bad),
+        shape,
+    }
 }
 
 // The checks 10 and 11 of every operation, with what it needs to know of the store. [01:RS2 RS3]
@@ -175,10 +220,10 @@ pub fn sizes(store: &[u8]) -> Checked
     let m = number(store, 2) as usize;
     let c = number(store, 4) as usize;
     let s = number(store, 6) as usize;
-    let v = survey(store, m, c, s);
-    if v.bad {
+    let all = survey_all(store, p, m, c, s);
+    if all.bad {
         return Checked::Refused(Refusal::Mark);
     }
-    let free = v.free;
-    Checked::Fit(Shape { p, m, c, s, free })
+    let shape = all.shape;
+    Checked::Fit(shape)
 }

@@ -1,7 +1,8 @@
 -- By the length, then by what the header says.
+use native.Mathlib.Omega.{arith}
 use lib.ListN.{length}
 use borrow.Author.Tests.{lt-ltb}
-use Rattle.scheme.specs.Store.{headerBad}
+use Rattle.scheme.specs.Store.{headerLength, headerBad}
 use Rattle.store.proofs.Laws.{sizes-read, header-read}
 use borrow.Author.Needs.{needs}
 use Rattle.store.proofs.bad_header.Statement.{statement}
@@ -9,13 +10,14 @@ use Rattle.store.proofs.bad_header.Tie as tie
 
 returns : tie.Need-returns
 unfolding headerBad
-returns c = let n = length (c .before .before .args .store .now) in simp (lt-ltb n 8 (c .if1 .taken))
+returns c = let n = length (c .before .before .args .store .now) in simp (lt-ltb n headerLength (c .if1 .taken))
 
 returns-2 : tie.Need-returns-2
 returns-2 c =
-    let b = c .before .before .before .before .before .before .before .before .before .before .before .args .store .now in
-    header-read b _ (c .before .length-for .result) (c .before .before .bad-sizes .result) (c .any .result) (c .before .before .before .before .before .before .before .before .before .if1 .left)
-    (sizes-read b (c .before .before .before .wide .result) (c .before .before .before .before .before .before .before .before .number .result) (c .before .before .before .before .before .before .before .number2 .result) (c .before .before .before .before .before .before .number3 .result) (c .before .before .before .wide .ensures .0) (c .before .before .before .before .before .before .before .before .number .ensures .0) (c .before .before .before .before .before .before .before .number2 .ensures .0) (c .before .before .before .before .before .before .number3 .ensures .0))
+    let d = c .before .before .before .before .before .before in
+    let b = d .before .before .before .before .before .args .store .now in
+    header-read b _ (c .before .length-for .result) (c .before .before .bad-sizes .result) (c .any .result) (d .before .before .before .if1 .left)
+    (sizes-read b (c .before .before .before .wide .result) (d .before .before .number .result) (d .before .number2 .result) (d .number3 .result) (c .before .before .before .wide .ensures .0) (d .before .before .number .ensures .0) (d .before .number2 .ensures .0) (d .number3 .ensures .0))
     (c .before .before .bad-sizes .ensures) (c .before .length-for .ensures) (c .any .ensures)
 
 pub bad-header-spec : {M : Type 1} → statement M

@@ -1,7 +1,7 @@
 -- 10, then 11, then what was found.
 use mathlib.Core.Path.{_≡_, sym, ap, _∙_}
 use native.Mathlib.Omega.{arith}
-use Rattle.scheme.specs.Store.{Sizes, sizesOf}
+use Rattle.scheme.specs.Store.{sizesOf, lengthFor}
 use Rattle.store.proofs.Laws.{GoodHeader, good-header, sizes-read, checked-header, checked-mark, checked-fit}
 use borrow.Author.Needs.{needs}
 use Rattle.store.proofs.sizes.Statement.{statement}
@@ -18,20 +18,26 @@ read c = sizes-read (c .before .before .before .before .before .before .before .
 returns : tie.Need-returns
 returns c = checked-header (c .before .before .before .args .store .now) (sym (c .before .bad-header .ensures) ∙ c .if1 .taken)
 
-survey-requires : tie.Need-survey-requires
-survey-requires c κs =
-    let g = good (c .before .before .before .before .before) in
-    omega (arith, g .whole, g .range, ap (λ (z : Sizes). z .m) (read c), ap (λ (z : Sizes). z .c) (read c), ap (λ (z : Sizes). z .s) (read c))
+survey-all-requires : tie.Need-survey-all-requires
+survey-all-requires c κs =
+    let b = c .before .before .before .before .before .before .before .before .args .store .now in
+    good (c .before .before .before .before .before) .whole ∙ ap lengthFor (sym (read c))
 
 returns-2 : tie.Need-returns-2
-returns-2 c = checked-mark (c .before .before .before .before .before .before .before .before .before .before .args .store .now) _ (c .before .survey .result) (sym (c .before .before .before .before .before .before .before .before .bad-header .ensures) ∙ c .before .before .before .before .before .before .before .if1 .left) (read (c .before .before)) (c .before .survey .ensures) (c .if2 .taken)
+returns-2 c =
+    let d = c .before .before in
+    checked-mark (d .before .before .before .before .before .before .before .before .args .store .now) _ (c .before .survey-all .result)
+    (sym (d .before .before .before .before .before .before .bad-header .ensures) ∙ d .before .before .before .before .before .if1 .left) (read d) (c .before .survey-all .ensures) (c .if2 .taken)
 
 returns-3 : tie.Need-returns-3
-returns-3 c = checked-fit (c .before .before .before .before .before .before .before .before .before .before .before .args .store .now) _ (c .before .before .survey .result) (sym (c .before .before .before .before .before .before .before .before .before .bad-header .ensures) ∙ c .before .before .before .before .before .before .before .before .if1 .left) (read (c .before .before .before)) (c .before .before .survey .ensures) (c .before .if2 .left)
+returns-3 c =
+    let d = c .before .before .before in
+    checked-fit (d .before .before .before .before .before .before .before .before .args .store .now) _ (c .before .before .survey-all .result)
+    (sym (d .before .before .before .before .before .before .bad-header .ensures) ∙ d .before .before .before .before .before .if1 .left) (read d) (c .before .before .survey-all .ensures) (c .before .if2 .left)
 
 pub sizes-spec : {M : Type 1} → statement M
 sizes-spec =
     tie.close
     (tie.spec (λ c κs. search needs) returns (λ c. omega (arith, good (c .before) .long)) (λ c κs. search needs)
     (λ c κs. omega (arith, good (c .before .before) .long)) (λ c κs. omega (arith, good (c .before .before .before) .long))
-    (λ c κs. omega (arith, good (c .before .before .before .before) .long)) survey-requires returns-2 returns-3)
+    (λ c κs. omega (arith, good (c .before .before .before .before) .long)) survey-all-requires returns-2 returns-3)
