@@ -96,14 +96,6 @@ pub fn free_from(t: &[u8], w: usize, n: usize, from: usize) -> usize
     n
 }
 
-// The free row of lowest index; n where there is none.
-pub fn free_place(t: &[u8], w: usize, n: usize) -> usize
-    requires { ⌜ (1 ≤ w) × (length (now t) ≡ w * n) ⌝ }
-    ensures { λ r. ⌜ r ≡ indexOf isFree (rows w n (now (t .entry))) ⌝ }
-{
-    free_from(t, w, n, 0)
-}
-
 // Writes a row; every other row keeps its bytes. [01:ST15]
 pub fn put_row(t: &mut [u8], w: usize, n: usize, i: usize, row: &[u8])
     requires { ⌜ (i < n) × ((length (now row) ≡ w) × (length (now t) ≡ w * n)) ⌝ }
