@@ -10,6 +10,10 @@ ghost use Rattle.compact.specs.Outcome.{compactionAnswer};
 use answer::Completion;
 use answer::Counted;
 use compact::Compaction;
+use format::COMPACTION_TOKEN;
+use format::COUNT_TOKEN;
+use format::FIND_TOKEN;
+use format::INSERT_TOKEN;
 
 // Inserts ids under a field in share u. [01:OP1]
 pub fn insert(
@@ -25,7 +29,7 @@ pub fn insert(
 ) -> Counted
     ensures { λ r. ⌜ Step program (Call.insert (now (key .entry)) (fieldOf (now (name .entry)) (now (value .entry))) p u (now (nonce .entry)) (now (ids .entry)) (now (nonces .entry))) (now (store .entry)) (record { answer = counted r; output = [] }) (now (store .exit)) ⌝ }
 {
-    let mut token = [0u8; 141];
+    let mut token = [0u8; INSERT_TOKEN];
     match client::insert_token(key, name, value, p, u, nonce, &mut token) {
         Completion::Refused(r) => Counted::Refused(r),
         Completion::Done => insert::insert(store, ids, nonces, &token),
@@ -43,7 +47,7 @@ pub fn erase(store: &mut [u8], id: &[u8]) -> Counted
 pub fn find(store: &[u8], key: &[u8], name: &[u8], value: &[u8], output: &mut [u8]) -> Counted
     ensures { λ r. ⌜ Step program (Call.find (now (key .entry)) (fieldOf (now (name .entry)) (now (value .entry))) (now (output .entry))) (now (store .entry)) (record { answer = counted r; output = now (output .exit) }) (now (store .entry)) ⌝ }
 {
-    let mut token = [0u8; 96];
+    let mut token = [0u8; FIND_TOKEN];
     match client::find_token(key, name, value, &mut token) {
         Completion::Refused(r) => Counted::Refused(r),
         Completion::Done => find::find(store, &token, output),
@@ -54,7 +58,7 @@ pub fn find(store: &[u8], key: &[u8], name: &[u8], value: &[u8], output: &mut [u
 pub fn count(store: &[u8], key: &[u8], name: &[u8], value: &[u8]) -> Counted
     ensures { λ r. ⌜ Step program (Call.count (now (key .entry)) (fieldOf (now (name .entry)) (now (value .entry)))) (now (store .entry)) (record { answer = counted r; output = [] }) (now (store .entry)) ⌝ }
 {
-    let mut token = [0u8; 32];
+    let mut token = [0u8; COUNT_TOKEN];
     match client::count_token(key, name, value, &mut token) {
         Completion::Refused(r) => Counted::Refused(r),
         Completion::Done => count::count(store, &token),
@@ -65,7 +69,7 @@ pub fn count(store: &[u8], key: &[u8], name: &[u8], value: &[u8]) -> Counted
 pub fn compact(store: &mut [u8], key: &[u8], nonces: &[u8]) -> Compaction
     ensures { λ r. ⌜ Step program (Call.compact (now (key .entry)) (now (nonces .entry))) (now (store .entry)) (record { answer = compactionAnswer r; output = [] }) (now (store .exit)) ⌝ }
 {
-    let mut token = [0u8; 32];
+    let mut token = [0u8; COMPACTION_TOKEN];
     match client::compaction_token(key, &mut token) {
         Completion::Refused(r) => Compaction::Refused(r),
         Completion::Done => compact::compact(store, nonces, &token),

@@ -1,22 +1,14 @@
 // The keys of document 01, "Keys and tokens", as F gives them.
 ghost use mathlib.Core.Path.{_≡_};
-ghost use Prim.Native.Nat.{_≤_};
+ghost use mathlib.Core.List.{List};
+ghost use Prim.Native.Nat.{ℕ, _≤_};
 ghost use lib.ListN.{length};
-ghost use Rattle.sha256.specs.Compression.{words};
-ghost use Rattle.hmac.specs.Hmac.{F, Tag};
+ghost use Rattle.hmac.specs.Hmac.{F};
 ghost use Rattle.scheme.specs.Suite.{number8};
 ghost use Rattle.scheme.specs.Keys.{KC, KM, KS};
 ghost use Rattle.suite.specs.Program.{program};
+ghost use Rattle.format.specs.Tags.{Prepared};
 use hmac::Keyed;
-
-// F of a number under a prepared key.
-pub fn numbered(k: Keyed, n: u64) -> [u8; 32]
-    ensures { λ r. ⌜ r ≡ Tag (words (k .inner)) (words (k .outer)) (number8 n) ⌝ }
-{
-    let mut b = [0u8; 8];
-    octets::put(&mut b, n);
-    hmac::tagged(k, &b)
-}
 
 // F of a message, and of a number, under a key that serves once.
 pub fn once(key: &[u8; 32], m: &[u8]) -> [u8; 32]
@@ -29,7 +21,7 @@ pub fn once(key: &[u8; 32], m: &[u8]) -> [u8; 32]
 pub fn number_once(key: &[u8; 32], n: u64) -> [u8; 32]
     ensures { λ r. ⌜ r ≡ F (now (key .entry)) (number8 n) ⌝ }
 {
-    numbered(hmac::prepare(key), n)
+    format::numbered(hmac::prepare(key), n)
 }
 
 // F(F(KM, 1), x), F(F(KM, 2), x) and F(KC, x), for a label x: a find token's parts. [01:KT2 KT8]
@@ -39,35 +31,34 @@ pub struct FieldKeys {
     pub cl: [u8; 32],
 }
 
-// F(KC, x): the count token.
-pub fn count_key(key: &[u8], x: &[u8]) -> [u8; 32]
-    requires { ⌜ (length (now key) ≤ 65536) × (length (now x) ≤ 65536) ⌝ }
-    ensures { λ r. ⌜ r ≡ F (KC program (now (key .entry))) (now (x .entry)) ⌝ }
+// F(KC, x), with the prepared master key: the count token. [01:KT9]
+pub fn count_key(k: Keyed, x: &[u8]) -> [u8; 32]
+    requires { ⌜ length (now x) ≤ 65536 ⌝ }
+    ensures { λ r. ⌜ ((key : List ℕ) → Prepared k key → r ≡ F (KC program key) (now (x .entry))) ⌝ }
 {
-    let kc = numbered(hmac::prepare(key), 2);
+    let kc = format::numbered(k, 2);
     once(&kc, x)
 }
 
-pub fn field_keys(key: &[u8], x: &[u8]) -> FieldKeys
-    requires { ⌜ (length (now key) ≤ 65536) × (length (now x) ≤ 65536) ⌝ }
-    ensures { λ r. ⌜ (r .mt ≡ F (F (KM program (now (key .entry))) (number8 1)) (now (x .entry))) × ((r .me ≡ F (F (KM program (now (key .entry))) (number8 2)) (now (x .entry))) × (r .cl ≡ F (KC program (now (key .entry))) (now (x .entry)))) ⌝ }
+// The parts of a find token, with the prepared master key.
+pub fn field_keys(k: Keyed, x: &[u8]) -> FieldKeys
+    requires { ⌜ length (now x) ≤ 65536 ⌝ }
+    ensures { λ r. ⌜ ((key : List ℕ) → Prepared k key → (r .mt ≡ F (F (KM program key) (number8 1)) (now (x .entry))) × ((r .me ≡ F (F (KM program key) (number8 2)) (now (x .entry))) × (r .cl ≡ F (KC program key) (now (x .entry))))) ⌝ }
 {
-    let k = hmac::prepare(key);
-    let km = numbered(k, 1);
-    let kc = numbered(k, 2);
+    let km = format::numbered(k, 1);
+    let kc = format::numbered(k, 2);
     let m = hmac::prepare(&km);
-    let m1 = numbered(m, 1);
-    let m2 = numbered(m, 2);
+    let m1 = format::numbered(m, 1);
+    let m2 = format::numbered(m, 2);
     let mt = once(&m1, x);
     let me = once(&m2, x);
     let cl = once(&kc, x);
     FieldKeys { mt, me, cl }
 }
 
-// KS: the compaction token.
-pub fn log_key(key: &[u8]) -> [u8; 32]
-    requires { ⌜ length (now key) ≤ 65536 ⌝ }
-    ensures { λ r. ⌜ r ≡ KS program (now (key .entry)) ⌝ }
+// KS, with the prepared master key: the compaction token. [01:KT10]
+pub fn log_key(k: Keyed) -> [u8; 32]
+    ensures { λ r. ⌜ ((key : List ℕ) → Prepared k key → r ≡ KS program key) ⌝ }
 {
-    numbered(hmac::prepare(key), 3)
+    format::numbered(k, 3)
 }

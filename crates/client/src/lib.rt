@@ -1,8 +1,8 @@
 // The client, which holds the master key (document 01, "Labels", "Keys and tokens"): label bytes and
 // the four token makings. Each writes to a lent array of the token's size; a refusal leaves it.
 ghost use mathlib.Core.Path.{_≡_};
-ghost use mathlib.Core.List.{_++_};
-ghost use Prim.Native.Nat.{_≤_, _+_};
+ghost use mathlib.Core.List.{List, _++_};
+ghost use Prim.Native.Nat.{ℕ, _≤_, _+_};
 ghost use mathlib.Core.Bool.{_||_};
 ghost use lib.Dec.{ltb};
 ghost use lib.ListN.{length};
@@ -11,6 +11,7 @@ ghost use Rattle.scheme.specs.Labels.{Field, fieldLengthsBad};
 ghost use Rattle.scheme.specs.Keys.{insertToken, findToken, countToken, compactionToken};
 ghost use Rattle.scheme.specs.Refusals.{insertTokenTests, fieldTokenTests, keyTests};
 ghost use Rattle.suite.specs.Program.{program};
+ghost use Rattle.format.specs.Tags.{Prepared};
 ghost use Rattle.client.specs.Making.{makingAnswer, makingToken, fieldOf};
 ghost use Rattle.client.specs.Parts.{Parts, Token};
 
@@ -19,6 +20,13 @@ mod label;
 
 use answer::Completion;
 use answer::Refusal;
+use format::COMPACTION_TOKEN;
+use format::COUNT_TOKEN;
+use format::FIND_TOKEN;
+use format::INSERT_TOKEN;
+use format::KEY;
+use format::NONCE;
+use hmac::Keyed;
 use keys::FieldKeys;
 
 // Whether the length of a name or of a value is outside its range. [01:LB1]
@@ -46,14 +54,14 @@ fn three(to: &mut [u8], a: &[u8], b: &[u8], c: &[u8])
     octets::copy_at(to, m, c);
 }
 
-// A find token's parts for a valid key and field. [01:KT2 KT8]
-fn parts(key: &[u8], name: &[u8], value: &[u8]) -> FieldKeys
-    requires { ⌜ (length (now key) ≡ 32) × ((length (now name) ≤ 255) × (length (now value) ≤ 1024)) ⌝ }
-    ensures { λ r. ⌜ Parts (now (key .entry)) (fieldOf (now (name .entry)) (now (value .entry))) r ⌝ }
+// A find token's parts for a valid field, with the prepared master key. [01:KT2 KT8]
+fn parts(k: Keyed, name: &[u8], value: &[u8]) -> FieldKeys
+    requires { ⌜ (length (now name) ≤ 255) × (length (now value) ≤ 1024) ⌝ }
+    ensures { λ r. ⌜ ((key : List ℕ) → Prepared k key → Parts key (fieldOf (now (name .entry)) (now (value .entry))) r) ⌝ }
 {
     let mut x = [0u8; 1281];
     let n = label::label(name, value, &mut x);
-    keys::field_keys(key, &x[..n])
+    keys::field_keys(k, &x[..n])
 }
 
 // Writes a find token for a valid key and field.
@@ -61,7 +69,7 @@ fn write_find(key: &[u8], name: &[u8], value: &[u8], to: &mut [u8])
     requires { ⌜ ((length (now key) ≡ 32) × ((length (now name) ≤ 255) × (length (now value) ≤ 1024))) × (length (now to) ≡ 96) ⌝ }
     ensures { λ _. ⌜ now (to .exit) ≡ findToken program (now (key .entry)) (fieldOf (now (name .entry)) (now (value .entry))) ⌝ }
 {
-    let k = parts(key, name, value);
+    let k = parts(hmac::prepare(key), name, value);
     let mt = k.mt;
     let me = k.me;
     let cl = k.cl;
@@ -69,11 +77,11 @@ fn write_find(key: &[u8], name: &[u8], value: &[u8], to: &mut [u8])
 }
 
 // The find token: refused by 1 and 2. [01:KT8 RI2 RI3]
-pub fn find_token(key: &[u8], name: &[u8], value: &[u8], token: &mut [u8; 96]) -> Completion
+pub fn find_token(key: &[u8], name: &[u8], value: &[u8], token: &mut [u8; FIND_TOKEN]) -> Completion
     ensures { λ r. ⌜ completion r ≡ makingAnswer (fieldTokenTests (now (key .entry)) (fieldOf (now (name .entry)) (now (value .entry)))) ⌝ }
     ensures { λ _. ⌜ now (token .exit) ≡ makingToken (fieldTokenTests (now (key .entry)) (fieldOf (now (name .entry)) (now (value .entry)))) (findToken program (now (key .entry)) (fieldOf (now (name .entry)) (now (value .entry)))) (now (token .entry)) ⌝ }
 {
-    if key.len() != 32 {
+    if key.len() != KEY {
         return Completion::Refused(Refusal::KeyLength);
     }
     if outside(name, value) {
@@ -84,21 +92,26 @@ pub fn find_token(key: &[u8], name: &[u8], value: &[u8], token: &mut [u8; 96]) -
 }
 
 // The count token's bytes for a valid key and field.
-fn count_part(key: &[u8], name: &[u8], value: &[u8]) -> [u8; 32]
+fn count_part(key: &[u8], name: &[u8], value: &[u8]) -> [u8; COUNT_TOKEN]
     requires { ⌜ (length (now key) ≡ 32) × ((length (now name) ≤ 255) × (length (now value) ≤ 1024)) ⌝ }
     ensures { λ r. ⌜ r ≡ countToken program (now (key .entry)) (fieldOf (now (name .entry)) (now (value .entry))) ⌝ }
 {
     let mut x = [0u8; 1281];
     let n = label::label(name, value, &mut x);
-    keys::count_key(key, &x[..n])
+    keys::count_key(hmac::prepare(key), &x[..n])
 }
 
 // The count token: refused by 1 and 2. [01:KT9 RI2 RI3]
-pub fn count_token(key: &[u8], name: &[u8], value: &[u8], token: &mut [u8; 32]) -> Completion
+pub fn count_token(
+    key: &[u8],
+    name: &[u8],
+    value: &[u8],
+    token: &mut [u8; COUNT_TOKEN],
+) -> Completion
     ensures { λ r. ⌜ completion r ≡ makingAnswer (fieldTokenTests (now (key .entry)) (fieldOf (now (name .entry)) (now (value .entry)))) ⌝ }
     ensures { λ _. ⌜ now (token .exit) ≡ makingToken (fieldTokenTests (now (key .entry)) (fieldOf (now (name .entry)) (now (value .entry)))) (countToken program (now (key .entry)) (fieldOf (now (name .entry)) (now (value .entry)))) (now (token .entry)) ⌝ }
 {
-    if key.len() != 32 {
+    if key.len() != KEY {
         return Completion::Refused(Refusal::KeyLength);
     }
     if outside(name, value) {
@@ -109,14 +122,14 @@ pub fn count_token(key: &[u8], name: &[u8], value: &[u8], token: &mut [u8; 32]) 
 }
 
 // The compaction token: refused by 1. [01:KT10 RI2]
-pub fn compaction_token(key: &[u8], token: &mut [u8; 32]) -> Completion
+pub fn compaction_token(key: &[u8], token: &mut [u8; COMPACTION_TOKEN]) -> Completion
     ensures { λ r. ⌜ completion r ≡ makingAnswer (keyTests (now (key .entry))) ⌝ }
     ensures { λ _. ⌜ now (token .exit) ≡ makingToken (keyTests (now (key .entry))) (compactionToken program (now (key .entry))) (now (token .entry)) ⌝ }
 {
-    if key.len() != 32 {
+    if key.len() != KEY {
         return Completion::Refused(Refusal::KeyLength);
     }
-    *token = keys::log_key(key);
+    *token = keys::log_key(hmac::prepare(key));
     Completion::Done
 }
 
@@ -136,7 +149,7 @@ fn write_insert(k: FieldKeys, ks: &[u8; 32], p: u8, u: u64, nonce: &[u8], to: &m
     let mut log = clu;
     chacha20::apply_short(ks, nonce, &mut log);
     three(&mut to[0..65], &head, &mtu, &meu);
-    three(&mut to[65..141], &clu, nonce, &log);
+    three(&mut to[65..INSERT_TOKEN], &clu, nonce, &log);
 }
 
 // Whether p is above 15 or u above p. [01:KT3 RI4]
@@ -157,12 +170,12 @@ pub fn insert_token(
     p: u64,
     u: u64,
     nonce: &[u8],
-    token: &mut [u8; 141],
+    token: &mut [u8; INSERT_TOKEN],
 ) -> Completion
     ensures { λ r. ⌜ completion r ≡ makingAnswer (insertTokenTests (now (key .entry)) (fieldOf (now (name .entry)) (now (value .entry))) p u (now (nonce .entry))) ⌝ }
     ensures { λ _. ⌜ now (token .exit) ≡ makingToken (insertTokenTests (now (key .entry)) (fieldOf (now (name .entry)) (now (value .entry))) p u (now (nonce .entry))) (insertToken program (now (key .entry)) (fieldOf (now (name .entry)) (now (value .entry))) p u (now (nonce .entry))) (now (token .entry)) ⌝ }
 {
-    if key.len() != 32 {
+    if key.len() != KEY {
         return Completion::Refused(Refusal::KeyLength);
     }
     if outside(name, value) {
@@ -171,11 +184,12 @@ pub fn insert_token(
     if shares_outside(p, u) {
         return Completion::Refused(Refusal::ShareRange);
     }
-    if nonce.len() != 12 {
+    if nonce.len() != NONCE {
         return Completion::Refused(Refusal::NonceLength);
     }
-    let k = parts(key, name, value);
-    let ks = keys::log_key(key);
-    write_insert(k, &ks, p as u8, u, nonce, token);
+    let k = hmac::prepare(key);
+    let field = parts(k, name, value);
+    let ks = keys::log_key(k);
+    write_insert(field, &ks, p as u8, u, nonce, token);
     Completion::Done
 }

@@ -1,18 +1,15 @@
--- Laws of the log: going through two lists of rows in place, what decrypting gives, and that freeing by the log is freeing by CL.
-use Prim.Native.Nat.{ℕ, zero, suc, _+_, _-_, _*_, _≤_, _<_}
+-- Laws of the log: going through two lists of rows in place, and freeing by the log is freeing by CL.
+use Prim.Native.Nat.{ℕ, zero, suc, _+_, _≤_, _<_}
 use mathlib.Core.Path.{_≡_, refl, sym, ap, ap₂, _∙_}
 use mathlib.Core.Bool.{Bool, true, false, cond, not, _&&_, true≢false}
 use mathlib.Core.List.{List, [], _∷_}
 use native.Mathlib.Nat.{not-suc-le-zero, le-of-suc-le-suc}
 use native.Mathlib.Numerals.{add-one}
 use native.Mathlib.Omega.{arith}
-use lib.Dec.{lit≤}
-use lib.ListN.{length, getD, take, drop, set}
-use Rattle.chacha20.specs.Cipher.{E}
+use lib.ListN.{length, getD, set}
 use Rattle.table.specs.Lists.{same}
 use Rattle.table.specs.Table.{Row, Table, rows, isFree, body, zeroRow, freeWhere}
 use Rattle.table.proofs.Rows.{zero-free}
-use Rattle.table.proofs.Walk.{body-field, body-tail}
 use Rattle.scheme.specs.Store.{clIn}
 use Rattle.scheme.specs.Compaction.{freeLog}
 use Rattle.suite.specs.Program.{program}
@@ -80,15 +77,6 @@ module _ (f : List ℕ → List ℕ → List ℕ) where
     zipping-all h = z .so-far ∙ to-all i xs ys h
 
 -- ---- the log of a table
-
--- nonce and ciphertext of the row of S at an index [01:ST12]
-pub cl-opened : (ks t : List ℕ) (s i : ℕ) → i < s
-    → E ks (take (45 * i + 13 - (45 * i + 1)) (drop (45 * i + 1) t)) (take (45 * i + 45 - (45 * i + 13)) (drop (45 * i + 13) t)) ≡ clIn program ks (body (getD (rows 45 s t) i []))
-unfolding clIn program
-cl-opened ks t s i h =
-    ap₂ (λ (n x : List ℕ). E ks n x)
-    (ap (λ (k : ℕ). take k (drop (45 * i + 1) t)) (let e : 45 * i + 13 - (45 * i + 1) ≡ 12 = omega arith in e) ∙ sym (body-field 45 s i 0 12 t h (lit≤ tt)))
-    (ap (λ (k : ℕ). take k (drop (45 * i + 13) t)) (let e : 45 * i + 45 - (45 * i + 13) ≡ 32 = omega arith in e) ∙ sym (body-tail 45 s i 12 t h))
 
 -- the log holds the CL of every used row
 abbrev pub Opened : List ℕ → Table → List (List ℕ) → Type 0

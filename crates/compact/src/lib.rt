@@ -1,30 +1,35 @@
 // Compaction: the server's call that turns the counters of every logged CL into one anchor (document
 // 01, "Operations"). The store's tables C and S alone are changed.
 ghost use mathlib.Core.Path.{_≡_};
-ghost use mathlib.Core.Bool.{not};
 ghost use mathlib.Core.List.{[]};
 ghost use Prim.Native.Nat.{_+_, _*_, _/_, _≤_, _<_};
 ghost use lib.ListN.{length, getD, take};
 ghost use Rattle.table.specs.Lists.{All};
-ghost use Rattle.table.specs.Table.{rows, isFree, body, used, freeAt};
-ghost use Rattle.scheme.specs.Store.{Store, cut, clIn};
+ghost use Rattle.table.specs.Table.{rows, used, freeAt};
+ghost use Rattle.scheme.specs.Store.{Store, cut};
 ghost use Rattle.scheme.specs.Reading.{limit};
 ghost use Rattle.scheme.specs.Compaction.{Anchored, Compacted, Compact};
 ghost use Rattle.suite.specs.Program.{program};
 ghost use Rattle.store.specs.Check.{checkedOf};
 ghost use Rattle.store.specs.Layout.{Laid};
-ghost use Rattle.counter.specs.Tags.{KeysOf};
+ghost use Rattle.format.specs.Tags.{KeysOf};
 ghost use Rattle.counter.specs.Outcome.{placesNoted};
 ghost use Rattle.compact.specs.Log.{opened, logs, freeLogged};
 ghost use Rattle.compact.specs.Outcome.{compactionAnswer};
 ghost use Rattle.compact.specs.Treatment.{Noted, Treatment, Stepped, stops, countersIn, tallyAfter};
 use answer::Refusal;
-use counter::AnchorNumber;
 use counter::Counter;
-use counter::Keys;
-use counter::Position;
 use counter::Reading;
-use counter::row;
+use format::AnchorNumber;
+use format::C_WIDTH;
+use format::COMPACTION_TOKEN;
+use format::HEADER;
+use format::Keys;
+use format::MV_WIDTH;
+use format::NONCE;
+use format::Position;
+use format::S_WIDTH;
+use format::row;
 use store::Checked;
 use store::Shape;
 
@@ -50,28 +55,6 @@ pub enum Treated {
     Anchored(u64),
 }
 
-// Whether the row of S at an index is used.
-fn is_used(t: &[u8], s: usize, i: usize) -> bool
-    requires { ⌜ (i < s) × (length (now t) ≡ 45 * s) ⌝ }
-    ensures { λ r. ⌜ r ≡ not (isFree (getD (rows 45 s (now (t .entry))) i [])) ⌝ }
-{
-    let at = 45 * i;
-    t[at] != 0
-}
-
-// Decrypts the CL in the row of S at an index. [01:ST12]
-fn open_row(t: &[u8], s: usize, i: usize, ks: &[u8], cl: &mut [u8])
-    requires { ⌜ (i < s) × ((length (now t) ≡ 45 * s) × ((length (now ks) ≡ 32) × (length (now cl) ≡ 32))) ⌝ }
-    ensures { λ _. ⌜ now (cl .exit) ≡ clIn program (now (ks .entry)) (body (getD (rows 45 s (now (t .entry))) i [])) ⌝ }
-{
-    let at = 45 * i;
-    let nonce = at + 1;
-    let text = at + 13;
-    let e = at + 45;
-    octets::copy(cl, &t[text..e]);
-    chacha20::apply_short(ks, &t[nonce..text], cl);
-}
-
 // Decrypts every used row of S, once, into a log of 32 bytes per row.
 fn open_log(t: &[u8], s: usize, ks: &[u8], log: &mut [u8])
     requires { ⌜ (length (now t) ≡ 45 * s) × ((length (now ks) ≡ 32) × (length (now log) ≡ 32 * s)) ⌝ }
@@ -79,10 +62,10 @@ fn open_log(t: &[u8], s: usize, ks: &[u8], log: &mut [u8])
 {
     let mut i = 0;
     while i < s {
-        if is_used(t, s, i) {
+        if row::is_used(t, s, i) {
             let at = 32 * i;
             let e = at + 32;
-            open_row(t, s, i, ks, &mut log[at..e]);
+            row::open_row(t, s, i, ks, &mut log[at..e]);
         }
         i += 1;
     }
@@ -95,7 +78,7 @@ fn is_logged(t: &[u8], s: usize, log: &[u8], i: usize, cl: &[u8; 32]) -> bool
 {
     let at = 32 * i;
     let e = at + 32;
-    if is_used(t, s, i) {
+    if row::is_used(t, s, i) {
         octets::same(&log[at..e], cl)
     } else {
         false
@@ -110,7 +93,7 @@ fn free_log(t: &mut [u8], s: usize, log: &[u8], cl: &[u8; 32])
     let mut i = 0;
     while i < s {
         if is_logged(t, s, log, i, cl) {
-            table::clear_row(t, 45, s, i);
+            table::clear_row(t, S_WIDTH, s, i);
         }
         i += 1;
     }
@@ -135,7 +118,7 @@ fn free_places(t: &mut [u8], c: usize, places: &[u16], k: usize)
 {
     let mut j = 0;
     while j < k {
-        table::clear_row(t, 61, c, places[j] as usize);
+        table::clear_row(t, C_WIDTH, c, places[j] as usize);
         j += 1;
     }
 }
@@ -176,7 +159,7 @@ fn anchor(
     free_places(t, c, places, z.k as usize);
     let next = next_anchor(z);
     let row = row::anchor_row(keys, cl, next.number, nonce, next.position, next.count);
-    table::put_row(t, 61, c, places[0] as usize, &row);
+    table::put_row(t, C_WIDTH, c, places[0] as usize, &row);
 }
 
 // Treats one CL: with k > 0 its counters are freed and an anchor is written under the nonce, with k = 0
@@ -187,7 +170,7 @@ pub fn treat(t: &mut [u8], c: usize, cl: &[u8; 32], nonce: &[u8], places: &mut [
     ensures { λ r. ⌜ Treatment c (now (cl .entry)) (now (nonce .entry)) (rows 61 c (now (t .entry))) (rows 61 c (now (t .exit))) r ⌝ }
     ensures { λ _. ⌜ now (places .exit) ≡ placesNoted c (now (cl .entry)) (rows 61 c (now (t .entry))) (now (places .entry)) ⌝ }
 {
-    let keys = counter::keys_of(cl);
+    let keys = format::keys_of(cl);
     let Reading::Counter(z) = counter::read_by(t, c, cl, keys, places) else {
         return Treated::Damage;
     };
@@ -238,9 +221,9 @@ fn step(
     requires { ⌜ ((length (now store) ≡ 8 + 110 * m + 61 * c + 45 * s) × (c ≤ 4096)) × ((i < s) × ((length (now log) ≡ 32 * s) × (length (now nonce) ≡ 12))) ⌝ }
     ensures { λ r. ⌜ ((st : Store) → Laid m c s (now (store .entry)) st → Stepped m c s (getD (rows 32 s (now (log .entry))) i []) (now (nonce .entry)) (rows 32 s (now (log .entry))) st r (now (store .exit))) ⌝ }
 {
-    let a = 8 + 110 * m;
-    let b = a + 61 * c;
-    let e = b + 45 * s;
+    let a = HEADER + MV_WIDTH * m;
+    let b = a + C_WIDTH * c;
+    let e = b + S_WIDTH * s;
     let cl = cl_at(log, s, i);
     let mut places = [0u16; 4096];
     let r = treat(&mut store[a..b], c, &cl, nonce, &mut places);
@@ -260,8 +243,8 @@ fn treat_all(store: &mut [u8], z: Shape, nonces: &[u8], token: &[u8], log: &mut 
     ensures { λ _. ⌜ rows 32 (z .s) (now (log .exit)) ≡ opened (now (token .entry)) (cut (now (store .entry)) .tS) (rows 32 (z .s) (now (log .entry))) ⌝ }
 {
     let s = z.s;
-    let b = 8 + 110 * z.m + 61 * z.c;
-    let e = b + 45 * s;
+    let b = HEADER + MV_WIDTH * z.m + C_WIDTH * z.c;
+    let e = b + S_WIDTH * s;
     open_log(&store[b..e], s, token, log);
     let mut t = Tally {
         anchors: 0,
@@ -269,9 +252,9 @@ fn treat_all(store: &mut [u8], z: Shape, nonces: &[u8], token: &[u8], log: &mut 
     };
     let mut i = 0;
     while i < s {
-        if is_used(&store[b..e], s, i) {
-            let from = 12 * t.anchors as usize;
-            let to = from + 12;
+        if row::is_used(&store[b..e], s, i) {
+            let from = NONCE * t.anchors as usize;
+            let to = from + NONCE;
             let r = step(store, z.m, z.c, s, log, i, &nonces[from..to]);
             if stopped(r) {
                 return Compaction::Damage(t);
@@ -298,17 +281,17 @@ fn treat_logged(store: &mut [u8], z: Shape, nonces: &[u8], token: &[u8]) -> Comp
 pub fn compact(store: &mut [u8], nonces: &[u8], token: &[u8]) -> Compaction
     ensures { λ r. ⌜ Compact program (now (store .entry)) (now (nonces .entry)) (now (token .entry)) (compactionAnswer r) (now (store .exit)) ⌝ }
 {
-    if nonces.len() % 12 != 0 {
+    if nonces.len() % NONCE != 0 {
         return Compaction::Refused(Refusal::NonceLength);
     }
-    if token.len() != 32 {
+    if token.len() != COMPACTION_TOKEN {
         return Compaction::Refused(Refusal::TokenLength);
     }
     let checked = store::sizes(store);
     match checked {
         Checked::Refused(r) => Compaction::Refused(r),
         Checked::Fit(z) => {
-            if nonces.len() / 12 < z.s - z.free.s {
+            if nonces.len() / NONCE < z.s - z.free.s {
                 return Compaction::Refused(Refusal::NonceCount);
             }
             treat_logged(store, z, nonces, token)

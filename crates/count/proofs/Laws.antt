@@ -23,7 +23,7 @@ use Rattle.store.specs.declared.Checked.the-variants.{Fit, Refused}
 use Rattle.store.specs.Check.{checkedOf}
 use Rattle.store.proofs.Laws.{fit, unfit, fit-verdict}
 use Rattle.store.proofs.Tables.{tableC, laid-fit, laid-rows}
-use Rattle.counter.specs.Tags.{Prepared}
+use Rattle.format.specs.Tags.{Prepared}
 use Rattle.counter.specs.Outcome.{shareRead}
 use Rattle.counter.proofs.Shares.{share-read}
 use Rattle.count.specs.Sum.{sumAnswer}

@@ -11,6 +11,10 @@ ghost use Rattle.count.specs.Sum.{sumAnswer};
 use answer::Counted;
 use answer::Refusal;
 use counter::Reading;
+use format::C_WIDTH;
+use format::COUNT_TOKEN;
+use format::HEADER;
+use format::MV_WIDTH;
 use hmac::Keyed;
 use store::Checked;
 
@@ -37,15 +41,15 @@ fn sum_of_counts(t: &[u8], c: usize, clx: Keyed, p: u64) -> Counted
 pub fn count(store: &[u8], token: &[u8]) -> Counted
     ensures { λ r. ⌜ counted r ≡ countOf program (now (store .entry)) (now (token .entry)) .answer ⌝ }
 {
-    if token.len() != 32 {
+    if token.len() != COUNT_TOKEN {
         return Counted::Refused(Refusal::TokenLength);
     }
     let checked = store::sizes(store);
     match checked {
         Checked::Refused(r) => Counted::Refused(r),
         Checked::Fit(z) => {
-            let a = 8 + 110 * z.m;
-            let e = 8 + 110 * z.m + 61 * z.c;
+            let a = HEADER + MV_WIDTH * z.m;
+            let e = HEADER + MV_WIDTH * z.m + C_WIDTH * z.c;
             let clx = hmac::prepare(token);
             sum_of_counts(&store[a..e], z.c, clx, z.p)
         }

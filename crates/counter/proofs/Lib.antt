@@ -1,5 +1,3 @@
-pub mod Tags
 pub mod Walks
 pub mod Readings
 pub mod Shares
-pub mod Sealing

@@ -1,5 +1,5 @@
 -- What the walks and the two decrypted rows tell is the scheme's reading.
-use Prim.Native.Nat.{ℕ, zero, suc, _+_, _-_, _*_, _≤_, _<_}
+use Prim.Native.Nat.{ℕ, zero, suc, _+_, _≤_}
 use mathlib.Core.Path.{_≡_, refl, sym, ap, ap₂, _∙_}
 use mathlib.Core.Bool.{Bool, true, false, cond, not, _||_, true≢false}
 use mathlib.Core.Option.{some}
@@ -7,43 +7,36 @@ use mathlib.Core.List.{List, [], _∷_, _++_}
 use native.Mathlib.Nat.{zero-add}
 use native.Mathlib.Omega.{arith}
 use borrow.Author.Tests.{lt-ltb, le-ltb, ne-eqb, ltb-false}
-use lib.Dec.{ltb, eqb, lit≤}
+use lib.Dec.{ltb, eqb}
 use lib.ListN.{length, getD, take, drop, length-drop}
-use lib.Seq.{take-all, drop-drop}
+use lib.Seq.{take-all}
 use Rattle.octets.specs.Number.{number}
-use Rattle.table.specs.Table.{Table, rows, body, lookup, placeOf}
+use Rattle.hmac.specs.declared.Keyed.{Keyed}
+use Rattle.table.specs.Table.{Table, body, lookup, placeOf}
 use Rattle.table.proofs.Counting.{neither}
 use Rattle.table.proofs.Rows.{place-held}
-use Rattle.table.proofs.Walk.{row-part, row-length, field-at, place-found}
+use Rattle.table.proofs.Walk.{place-found}
 use Rattle.scheme.specs.Suite.{valueOf}
-use Rattle.scheme.specs.Keys.{CE}
+use Rattle.scheme.specs.Keys.{CT, CE}
 use Rattle.scheme.specs.Store.{counterTag, anchorTag, plainIn}
 use Rattle.scheme.specs.Reading.{limit, walk, Numbers, Reading, numbersAt, anchorsHeld, anchorNumbers, startOf, countersHeld, counterNumbers, isDamage, reading}
 use Rattle.scheme.specs.Reading.Reading.{counter, damage}
 use Rattle.scheme.specs.Compaction.{heldPlaces}
 use Rattle.suite.specs.Program.{program}
-use Rattle.counter.specs.declared.Keys.{Keys}
-use Rattle.counter.specs.Tags.{KeysOf}
+use Rattle.format.specs.declared.Keys.{Keys}
+use Rattle.format.specs.Tags.{Prepared, KeysOf}
+use Rattle.format.specs.Rows.{textIn}
+use Rattle.format.proofs.Tags.{counter-tag-is, anchor-tag-is}
 use Rattle.counter.specs.Walks.{counterTags, anchorTags, heldIn, lastPlace, placesOf, noted}
-use Rattle.counter.specs.Outcome.{textIn, numbersIn, numbersOr, anchorBad, counterBad, placesNoted}
-use Rattle.counter.proofs.Tags.{counter-tags, anchor-tags}
+use Rattle.counter.specs.Outcome.{numbersIn, numbersOr, anchorBad, counterBad, placesNoted}
 use Rattle.counter.proofs.Walks.{walk-held, walk-le}
 
--- ---- one row
+-- the tags of all numbers
+counter-tags : (k : Keyed) (cl : List ℕ) → Prepared k (CT program cl) → counterTags k ≡ counterTag program cl
+counter-tags k cl p = λ j a. counter-tag-is k cl (record { 0 = a }) p j
 
-module _ (c i : ℕ) (t : List ℕ) (h : i < c) where
-  -- nonce and ciphertext of the row at a place
-  pub nonce-at : take (61 * i + 45 - (61 * i + 33)) (drop (61 * i + 33) t) ≡ take 12 (drop 32 (body (getD (rows 61 c t) i [])))
-  nonce-at =
-      ap (λ (k : ℕ). take k (drop (61 * i + 33) t)) (let e : 61 * i + 45 - (61 * i + 33) ≡ 12 = omega arith in e)
-      ∙ sym (field-at 61 c i 33 12 t h (lit≤ tt)) ∙ ap (take 12) (sym (drop-drop 32 1 (getD (rows 61 c t) i [])))
-
-  pub text-at : length t ≡ 61 * c → take (61 * i + 61 - (61 * i + 45)) (drop (61 * i + 45) t) ≡ drop 44 (body (getD (rows 61 c t) i []))
-  text-at e =
-      let row = getD (rows 61 c t) i [] in
-      let l : length row ≡ 61 = sym (ap length (row-part 61 c i t h)) ∙ row-length 61 c i t h e in
-      ap (λ (k : ℕ). take k (drop (61 * i + 45) t)) (let e : 61 * i + 61 - (61 * i + 45) ≡ 16 = omega arith in e)
-      ∙ sym (field-at 61 c i 45 16 t h (lit≤ tt)) ∙ take-all 16 (drop 45 row) (omega (arith, length-drop 45 row)) ∙ sym (drop-drop 44 1 row)
+anchor-tags : (k : Keyed) (cl : List ℕ) → Prepared k (CT program cl) → anchorTags k ≡ anchorTag program cl
+anchor-tags k cl p = λ j b. anchor-tag-is k cl (record { 0 = b }) p j
 
 -- the two numbers of the plaintext
 pub numbers-are : (ce b plain : List ℕ) (a n : ℕ) → length plain ≡ 16 → plain ≡ textIn ce b

@@ -15,9 +15,9 @@ use Rattle.scheme.specs.Reading.{limit, Reading, damaged, countOf, reading}
 use Rattle.scheme.specs.Reading.Reading.{counter, damage}
 use Rattle.scheme.specs.Find.{shareReading}
 use Rattle.suite.specs.Program.{program}
-use Rattle.counter.specs.Tags.{Prepared}
+use Rattle.format.specs.Tags.{Prepared}
 use Rattle.counter.specs.Outcome.{shareRead}
-use Rattle.counter.proofs.Tags.{share-is}
+use Rattle.format.proofs.Tags.{share-is}
 
 -- the readings of the first u shares: none is damage, and the sum of their counts
 pub record Summed (f : ℕ → Reading) (u n : ℕ) : Type 0 where

@@ -1,3 +1,2 @@
-pub mod Tags
 pub mod Walks
 pub mod Outcome

@@ -4,7 +4,6 @@ use mathlib.Core.Bool.{Bool, cond, not, _||_}
 use mathlib.Core.List.{List, []}
 use lib.Dec.{ltb, eqb}
 use lib.ListN.{length, getD, take, drop}
-use Rattle.chacha20.specs.Cipher.{E}
 use Rattle.table.specs.Table.{Table, body}
 use Rattle.scheme.specs.Suite.{valueOf}
 use Rattle.scheme.specs.Store.{counterTag}
@@ -13,14 +12,11 @@ use Rattle.scheme.specs.Reading.Reading.{counter, damage}
 use Rattle.suite.specs.Program.{program}
 use Rattle.counter.specs.Walks.{noted}
 use Rattle.hmac.specs.declared.Keyed.{Keyed}
-use Rattle.counter.specs.Tags.{shareBy}
+use Rattle.format.specs.Tags.{numberedBy}
+use Rattle.format.specs.Rows.{textIn}
 use Rattle.counter.specs.declared.Numbers.{Numbers}
 use Rattle.counter.specs.declared.Reading.{Reading}
 use Rattle.counter.specs.declared.Reading.the-variants.{Counter, Damage}
-
--- the text in a row of M or C without its mark, under a key [01:ST6 ST9]
-unfoldable pub textIn : List ℕ → List ℕ → List ℕ
-textIn key b = E key (take 12 (drop 32 b)) (drop 44 b)
 
 -- the numbers in a row of C without its mark, under CE [01:ST9]
 unfoldable pub numbersIn : List ℕ → List ℕ → SchemeNumbers
@@ -43,7 +39,7 @@ counterBad x = not (eqb (x .a) 0) || ltb limit (x .n)
 
 -- the reading of a share, from the prepared F(KC, x) [01:KT6 RC5]
 unfoldable pub shareRead : Keyed → ℕ → Table → ℕ → SchemeReading
-shareRead clx c t u = reading program c (shareBy clx u) t
+shareRead clx c t u = reading program c (numberedBy clx u) t
 
 -- B, Start, k and the count, or damage [01:RC5 FM14]
 abbrev pub readingOf : Reading → SchemeReading

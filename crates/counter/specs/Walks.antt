@@ -6,7 +6,7 @@ use mathlib.Core.List.{List, [], _∷_, _++_}
 use lib.ListN.{length, drop}
 use Rattle.table.specs.Table.{Table, holds, placeOf}
 use Rattle.hmac.specs.declared.Keyed.{Keyed}
-use Rattle.counter.specs.Tags.{counterTagBy, anchorTagBy}
+use Rattle.format.specs.Tags.{counterTagBy, anchorTagBy}
 
 -- the tags by number
 abbrev pub counterTags : Keyed → ℕ → List ℕ

@@ -1,113 +1,20 @@
-// What is counted: the three kinds of number, the tags under a prepared key, and the reading of a
-// counter out of table C (document 01, "Store" and "Reading a counter").
+// The reading of a counter out of table C (document 01, "Reading a counter").
 ghost use mathlib.Core.Path.{_≡_};
-ghost use mathlib.Core.List.{_∷_, []};
+ghost use mathlib.Core.List.{[]};
 ghost use Prim.Native.Nat.{_*_, _≤_, _<_};
 ghost use lib.ListN.{length, getD};
 ghost use Rattle.table.specs.Table.{rows, body};
-ghost use Rattle.scheme.specs.Suite.{number8};
 ghost use Rattle.scheme.specs.Reading.{limit, walk, reading};
 ghost use Rattle.suite.specs.Program.{program};
-ghost use Rattle.counter.specs.Tags.{entryTagBy, counterTagBy, anchorTagBy, shareBy, KeysOf};
+ghost use Rattle.format.specs.Tags.{KeysOf};
 ghost use Rattle.counter.specs.Walks.{counterTags, anchorTags, heldIn, lastPlace, noted};
-ghost use Rattle.counter.specs.Outcome.{textIn, numbersIn, numbersOr, numbersOf, anchorBad, counterBad, readingOf, placesNoted, shareRead};
-
-pub mod row;
-
+ghost use Rattle.counter.specs.Outcome.{numbersIn, numbersOr, numbersOf, anchorBad, counterBad, readingOf, placesNoted, shareRead};
+use format::AnchorNumber;
+use format::C_WIDTH;
+use format::Keys;
+use format::Position;
+use format::row;
 use hmac::Keyed;
-
-// Entry address: the number in the tag of an M row. [01:ST17 FM10]
-pub struct Address(pub u64);
-
-// Counter position: the number in the tag of a counter row, and Start in an anchor. [01:ST17 FM10]
-pub struct Position(pub u64);
-
-// Anchor number: the number in the tag of an anchor row, up to B. [01:ST17 FM10]
-pub struct AnchorNumber(pub u64);
-
-// A number as a message. [01:KF6]
-fn number(n: u64) -> [u8; 8]
-    ensures { λ r. ⌜ r ≡ number8 n ⌝ }
-{
-    let mut m = [0u8; 8];
-    octets::put(&mut m, n);
-    m
-}
-
-// A byte, then a number of 8 bytes.
-fn message(byte: u8, n: u64) -> [u8; 9]
-    ensures { λ r. ⌜ r ≡ byte ∷ number8 n ⌝ }
-{
-    let mut m = [byte; 9];
-    octets::put(&mut m[1..9], n);
-    m
-}
-
-// The tag of the M row at an address, with the prepared MT. [01:ST6]
-pub fn entry_tag(mt: Keyed, a: Address) -> [u8; 32]
-    ensures { λ r. ⌜ r ≡ entryTagBy mt a ⌝ }
-{
-    let m = number(a.0);
-    hmac::tagged(mt, &m)
-}
-
-// The tag of the counter row at a position, with the prepared CT. [01:ST10]
-pub fn counter_tag(ct: Keyed, a: Position) -> [u8; 32]
-    ensures { λ r. ⌜ r ≡ counterTagBy ct a ⌝ }
-{
-    let m = message(1, a.0);
-    hmac::tagged(ct, &m)
-}
-
-// The tag of the anchor row of a number, with the prepared CT. [01:ST11]
-pub fn anchor_tag(ct: Keyed, b: AnchorNumber) -> [u8; 32]
-    ensures { λ r. ⌜ r ≡ anchorTagBy ct b ⌝ }
-{
-    let m = message(2, b.0);
-    hmac::tagged(ct, &m)
-}
-
-// A key of share u from the prepared part of a find token or from the prepared count token. [01:KT5 KT6]
-pub fn share_of(key: Keyed, u: u64) -> [u8; 32]
-    ensures { λ r. ⌜ r ≡ shareBy key u ⌝ }
-{
-    let m = number(u);
-    hmac::tagged(key, &m)
-}
-
-// The text of the row of M or C at a place, under a key. [01:ST6 ST9]
-pub fn text_at(t: &[u8], n: usize, i: usize, key: &[u8; 32]) -> [u8; 16]
-    requires { ⌜ (i < n) × (length (now t) ≡ 61 * n) ⌝ }
-    ensures { λ r. ⌜ r ≡ textIn (now (key .entry)) (body (getD (rows 61 n (now (t .entry))) i [])) ⌝ }
-{
-    let at = 61 * i;
-    let nonce = at + 33;
-    let text = at + 45;
-    let e = at + 61;
-    let mut plain = [0u8; 16];
-    octets::copy(&mut plain, &t[text..e]);
-    chacha20::apply_short(key, &t[nonce..text], &mut plain);
-    plain
-}
-
-// The keys of one CL: CT prepared, and CE. [01:KT6]
-pub struct Keys {
-    pub ct: Keyed,
-    pub ce: [u8; 32],
-}
-
-// CT = F(CL, 1), prepared, and CE = F(CL, 2); CL itself is prepared once.
-pub fn keys_of(cl: &[u8; 32]) -> Keys
-    ensures { λ r. ⌜ KeysOf r (now (cl .entry)) ⌝ }
-{
-    let k = hmac::prepare(cl);
-    let one = number(1);
-    let two = number(2);
-    let t = hmac::tagged(k, &one);
-    let ct = hmac::prepare(&t);
-    let ce = hmac::tagged(k, &two);
-    Keys { ct, ce }
-}
 
 // The two numbers in a row of C. [01:ST10 ST11]
 pub struct Numbers {
@@ -120,7 +27,7 @@ fn numbers_at(t: &[u8], c: usize, i: usize, ce: &[u8; 32]) -> Numbers
     requires { ⌜ (i < c) × (length (now t) ≡ 61 * c) ⌝ }
     ensures { λ r. ⌜ numbersOf r ≡ numbersIn (now (ce .entry)) (body (getD (rows 61 c (now (t .entry))) i [])) ⌝ }
 {
-    let plain = text_at(t, c, i, ce);
+    let plain = row::text_at(t, c, i, ce);
     Numbers {
         a: octets::get(&plain[0..8]),
         n: octets::get(&plain[8..16]),
@@ -154,8 +61,8 @@ fn anchors_held(t: &[u8], c: usize, ct: Keyed) -> Anchors
     let mut at = c;
     let mut left = c;
     while 0 < left {
-        let tag = anchor_tag(ct, AnchorNumber(b + 1));
-        let i = table::place(t, 61, c, &tag);
+        let tag = format::anchor_tag(ct, AnchorNumber(b + 1));
+        let i = table::place(t, C_WIDTH, c, &tag);
         if c <= i {
             return Anchors {
                 b: AnchorNumber(b),
@@ -189,8 +96,8 @@ fn counters_held(t: &[u8], c: usize, ct: Keyed, start: Position, places: &mut [u
     let mut at = c;
     let mut rest = c;
     while 0 < rest {
-        let tag = counter_tag(ct, Position(start.0 + k + 1));
-        let i = table::place(t, 61, c, &tag);
+        let tag = format::counter_tag(ct, Position(start.0 + k + 1));
+        let i = table::place(t, C_WIDTH, c, &tag);
         if c <= i {
             return Counters { k, at };
         }
@@ -278,7 +185,7 @@ pub fn read(t: &[u8], c: usize, cl: &[u8; 32]) -> Reading
     requires { ⌜ (length (now t) ≡ 61 * c) × (c ≤ 4096) ⌝ }
     ensures { λ r. ⌜ readingOf r ≡ reading program c (now (cl .entry)) (rows 61 c (now (t .entry))) ⌝ }
 {
-    read_keyed(t, c, cl, keys_of(cl))
+    read_keyed(t, c, cl, format::keys_of(cl))
 }
 
 // Reads the counter of share u, whose CL comes from the prepared F(KC, x).
@@ -286,6 +193,6 @@ pub fn read_share(t: &[u8], c: usize, clx: Keyed, u: u64) -> Reading
     requires { ⌜ (length (now t) ≡ 61 * c) × (c ≤ 4096) ⌝ }
     ensures { λ r. ⌜ readingOf r ≡ shareRead clx c (rows 61 c (now (t .entry))) u ⌝ }
 {
-    let cl = share_of(clx, u);
+    let cl = format::numbered(clx, u);
     read(t, c, &cl)
 }

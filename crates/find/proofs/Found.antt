@@ -20,9 +20,9 @@ use Rattle.table.proofs.Below.{below, up-to-below, grows, flat-append, flat-nex
 use Rattle.scheme.specs.Store.{idIn, entryTag}
 use Rattle.scheme.specs.Find.{idOf}
 use Rattle.suite.specs.Program.{program}
-use Rattle.counter.specs.Outcome.{textIn}
-use Rattle.counter.specs.Tags.{shareBy, Prepared}
-use Rattle.counter.proofs.Tags.{entry-tag-is}
+use Rattle.format.specs.Rows.{textIn}
+use Rattle.format.specs.Tags.{numberedBy, Prepared}
+use Rattle.format.proofs.Tags.{entry-tag-is}
 use Rattle.hmac.specs.declared.Keyed.{Keyed}
 use Rattle.find.specs.declared.EntryKeys.{EntryKeys}
 use Rattle.find.specs.Ids.{entryTags, foundAt, idAt, foundTo, idsBy, foundOf, idsOf, foundIn, idsIn}
@@ -152,15 +152,15 @@ pub entry-tags : (k : Keyed) (key : List ℕ) → Prepared k key → entryTags k
 entry-tags k key p = λ j a. entry-tag-is k key (record { 0 = a }) p j
 
 module _ (keys : EntryKeys) (t : Table) where
-  module _ (u n : ℕ) (mt : Keyed) (key : List ℕ) (p : Prepared mt key) (e : key ≡ shareBy (keys .mt) u) where
-    tags : entryTags mt ≡ entryTag program (shareBy (keys .mt) u)
+  module _ (u n : ℕ) (mt : Keyed) (key : List ℕ) (p : Prepared mt key) (e : key ≡ numberedBy (keys .mt) u) where
+    tags : entryTags mt ≡ entryTag program (numberedBy (keys .mt) u)
     tags = entry-tags mt key p ∙ ap (entryTag program) e
 
     pub share-found : foundTo (entryTags mt) t n ≡ foundOf keys t u n
     unfolding foundOf
     share-found = ap (λ (g : ℕ → List ℕ). foundTo g t n) tags
 
-    pub share-ids : (me : List ℕ) → me ≡ shareBy (keys .me) u → idsBy (entryTags mt) me t n ≡ idsOf keys t u n
+    pub share-ids : (me : List ℕ) → me ≡ numberedBy (keys .me) u → idsBy (entryTags mt) me t n ≡ idsOf keys t u n
     unfolding idsOf
     share-ids me f = ap₂ (λ (g : ℕ → List ℕ) (x : List ℕ). idsBy g x t n) tags f
 
@@ -196,13 +196,13 @@ module _ (keys : EntryKeys) (t : Table) where
     ids-below-wide w zero = tt
     ids-below-wide w (suc n) =
         rw (flat-next (λ u. idsOf keys t u (getD of u 0)) n)
-        (all-append (λ id. length id ≡ 16) (idsBelow n) (idsOf keys t n (getD of n 0)) (ids-below-wide w n) (ids-wide (entryTag program (shareBy (keys .mt) n)) (shareBy (keys .me) n) t w (getD of n 0)))
+        (all-append (λ id. length id ≡ 16) (idsBelow n) (idsOf keys t n (getD of n 0)) (ids-below-wide w n) (ids-wide (entryTag program (numberedBy (keys .mt) n)) (numberedBy (keys .me) n) t w (getD of n 0)))
 
     -- no more are found than counted
     found-few : (l : List ℕ) → sum (map (λ u. foundOf keys t u (getD of u 0)) l) ≤ sum (map (λ u. getD of u 0) l)
     unfolding foundOf
     found-few l =
-        sum-le (λ u. foundOf keys t u (getD of u 0)) (λ u. getD of u 0) (λ u. found-most (entryTag program (shareBy (keys .mt) u)) t (getD of u 0)) l
+        sum-le (λ u. foundOf keys t u (getD of u 0)) (λ u. getD of u 0) (λ u. found-most (entryTag program (numberedBy (keys .mt) u)) t (getD of u 0)) l
 
     pub found-fits : (u p : ℕ) → u ≤ p → foundBelow (u + 1) ≤ sum (map (λ u. getD of u 0) (upTo p))
     found-fits u p h =
@@ -215,7 +215,7 @@ module _ (keys : EntryKeys) (t : Table) where
     ids-found p =
         flat-length-sum (λ u. idsOf keys t u (getD of u 0)) (upTo p)
         ∙ ap (λ (f : ℕ → ℕ). sum (map f (upTo p)))
-        (λ j u. ids-length (entryTag program (shareBy (keys .mt) u)) (shareBy (keys .me) u) t (getD of u 0) j)
+        (λ j u. ids-length (entryTag program (numberedBy (keys .mt) u)) (numberedBy (keys .me) u) t (getD of u 0) j)
 
     pub ids-few : (p : ℕ) → length (idsIn keys t of p) ≤ sum (map (λ u. getD of u 0) (upTo p))
     ids-few p = omega (arith, found-fits p p (omega arith), found-all p, ids-found p)

@@ -30,9 +30,9 @@ use Rattle.store.specs.declared.Checked.the-variants.{Fit, Refused}
 use Rattle.store.specs.Check.{checkedOf}
 use Rattle.store.proofs.Laws.{fit, unfit, fit-verdict, fit-length}
 use Rattle.store.proofs.Tables.{tableM, tableC, laid-fit, laid-rows}
-use Rattle.counter.specs.Tags.{Prepared}
+use Rattle.format.specs.Tags.{Prepared}
 use Rattle.counter.specs.Outcome.{shareRead}
-use Rattle.counter.proofs.Tags.{share-is}
+use Rattle.format.proofs.Tags.{share-is}
 use Rattle.counter.proofs.Shares.{share-read}
 use Rattle.find.specs.declared.Counts.{Counts}
 use Rattle.find.specs.declared.EntryKeys.{EntryKeys}

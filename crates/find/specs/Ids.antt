@@ -9,7 +9,7 @@ use Rattle.hmac.specs.declared.Keyed.{Keyed}
 use Rattle.scheme.specs.Store.{entryTag}
 use Rattle.scheme.specs.Find.{idOf}
 use Rattle.suite.specs.Program.{program}
-use Rattle.counter.specs.Tags.{entryTagBy, shareBy}
+use Rattle.format.specs.Tags.{entryTagBy, numberedBy}
 use Rattle.find.specs.declared.EntryKeys.{EntryKeys}
 
 -- the tags by address
@@ -34,10 +34,10 @@ idsBy tag me t (suc n) = idsBy tag me t n ++ idAt tag me t (suc n)
 
 -- at addresses 1 to n of share u
 unfoldable pub foundOf : EntryKeys → Table → ℕ → ℕ → ℕ
-foundOf keys t u n = foundTo (entryTag program (shareBy (keys .mt) u)) t n
+foundOf keys t u n = foundTo (entryTag program (numberedBy (keys .mt) u)) t n
 
 unfoldable pub idsOf : EntryKeys → Table → ℕ → ℕ → List (List ℕ)
-idsOf keys t u n = idsBy (entryTag program (shareBy (keys .mt) u)) (shareBy (keys .me) u) t n
+idsOf keys t u n = idsBy (entryTag program (numberedBy (keys .mt) u)) (numberedBy (keys .me) u) t n
 
 -- of shares 0 to p, by their counts
 unfoldable pub foundIn : EntryKeys → Table → List ℕ → ℕ → ℕ

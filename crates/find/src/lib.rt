@@ -17,8 +17,15 @@ ghost use Rattle.find.specs.Counts.{countsOf};
 ghost use Rattle.find.specs.Ids.{entryTags, foundAt, idAt, foundTo, idsBy, foundOf, idsOf, foundIn, idsIn};
 use answer::Counted;
 use answer::Refusal;
-use counter::Address;
 use counter::Reading;
+use format::Address;
+use format::C_WIDTH;
+use format::FIND_TOKEN;
+use format::HEADER;
+use format::ID;
+use format::M_WIDTH;
+use format::MV_WIDTH;
+use format::row;
 use hmac::Keyed;
 use store::Checked;
 use store::Shape;
@@ -71,8 +78,8 @@ fn place(t: &[u8], m: usize, mt: Keyed, a: Address) -> usize
     requires { ⌜ length (now t) ≡ 61 * m ⌝ }
     ensures { λ r. ⌜ r ≡ placeOf (entryTags mt (a .0)) (rows 61 m (now (t .entry))) ⌝ }
 {
-    let tag = counter::entry_tag(mt, a);
-    table::place(t, 61, m, &tag)
+    let tag = format::entry_tag(mt, a);
+    table::place(t, M_WIDTH, m, &tag)
 }
 
 // 1 where the entry at an address is held; else 0.
@@ -115,8 +122,8 @@ fn write_entry(
 {
     let i = place(t, m, mt, a);
     if i < m {
-        let id = counter::text_at(t, m, i, me);
-        octets::copy_at(output, 16 * k, &id);
+        let id = row::text_at(t, m, i, me);
+        octets::copy_at(output, ID * k, &id);
         return k + 1;
     }
     k
@@ -151,7 +158,7 @@ fn found_of(t: &[u8], m: usize, keys: EntryKeys, u: u64, n: u64) -> u64
     requires { ⌜ length (now t) ≡ 61 * m ⌝ }
     ensures { λ r. ⌜ r ≡ foundOf keys (rows 61 m (now (t .entry))) u n ⌝ }
 {
-    let key = counter::share_of(keys.mt, u);
+    let key = format::numbered(keys.mt, u);
     let mt = hmac::prepare(&key);
     found_in_share(t, m, mt, n)
 }
@@ -186,9 +193,9 @@ fn write_of(
     ensures { λ r. ⌜ r ≡ k + length (idsOf keys (rows 61 m (now (t .entry))) u n) ⌝ }
     ensures { λ _. ⌜ now (output .exit) ≡ written (now (output .entry)) (16 * k) (flat (idsOf keys (rows 61 m (now (t .entry))) u n)) ⌝ }
 {
-    let key = counter::share_of(keys.mt, u);
+    let key = format::numbered(keys.mt, u);
     let mt = hmac::prepare(&key);
-    let me = counter::share_of(keys.me, u);
+    let me = format::numbered(keys.me, u);
     write_share(t, m, mt, &me, n, output, k)
 }
 
@@ -216,10 +223,10 @@ fn find_in(store: &[u8], z: Shape, token: &[u8], output: &mut [u8]) -> Counted
     ensures { λ _. ⌜ now (output .exit) ≡ findOf program (now (store .entry)) (now (token .entry)) (now (output .entry)) .output ⌝ }
 {
     // Where M ends, and where C starts and ends.
-    let a = 8 + 61 * z.m;
-    let b = 8 + 110 * z.m;
-    let e = 8 + 110 * z.m + 61 * z.c;
-    let clx = hmac::prepare(&token[64..96]);
+    let a = HEADER + M_WIDTH * z.m;
+    let b = HEADER + MV_WIDTH * z.m;
+    let e = HEADER + MV_WIDTH * z.m + C_WIDTH * z.c;
+    let clx = hmac::prepare(&token[64..FIND_TOKEN]);
     let counts = read_all(&store[b..e], z.c, clx, z.p);
     if counts.damaged {
         return Counted::Refused(Refusal::Damage);
@@ -228,14 +235,14 @@ fn find_in(store: &[u8], z: Shape, token: &[u8], output: &mut [u8]) -> Counted
     let me = hmac::prepare(&token[32..64]);
     let keys = EntryKeys { mt, me };
     let of = counts.of;
-    let room = (output.len() / 16) as u64;
+    let room = (output.len() / ID) as u64;
     if room < counts.sum {
-        let found = found_in_all(&store[8..a], z.m, keys, of, z.p);
+        let found = found_in_all(&store[HEADER..a], z.m, keys, of, z.p);
         if room < found {
             return Counted::Refused(Refusal::OutputLength(found));
         }
     }
-    let n = write_all(&store[8..a], z.m, keys, of, z.p, output);
+    let n = write_all(&store[HEADER..a], z.m, keys, of, z.p, output);
     Counted::Number(n as u64)
 }
 
@@ -245,7 +252,7 @@ pub fn find(store: &[u8], token: &[u8], output: &mut [u8]) -> Counted
     ensures { λ r. ⌜ counted r ≡ findOf program (now (store .entry)) (now (token .entry)) (now (output .entry)) .answer ⌝ }
     ensures { λ _. ⌜ now (output .exit) ≡ findOf program (now (store .entry)) (now (token .entry)) (now (output .entry)) .output ⌝ }
 {
-    if token.len() != 96 {
+    if token.len() != FIND_TOKEN {
         return Counted::Refused(Refusal::TokenLength);
     }
     let checked = store::sizes(store);

@@ -1,37 +1,19 @@
--- The rows of M and V under a prepared MT are the scheme's; rows made one after the other.
+-- Rows of M and V made one after the other.
 use Prim.Native.Nat.{ℕ, zero, suc, _+_, _-_, _*_, _≤_, _<_}
 use mathlib.Core.Path.{_≡_, refl, sym, ap, ap₂, _∙_}
-use mathlib.Core.List.{List, [], _∷_, _++_}
+use mathlib.Core.List.{List, [], _∷_}
 use native.Mathlib.Nat.{not-suc-le-zero, le-of-suc-le-suc, add-sub-cancel-left}
 use native.Mathlib.Numerals.{add-one}
 use native.Mathlib.Omega.{arith}
 use lib.ListN.{length, getD, take, drop, set}
 use lib.Seq.{take-all, take-suc, take-suc-set, drop-drop}
 use Rattle.octets.proofs.Parts.{length-part}
-use Rattle.hmac.specs.declared.Keyed.{Keyed}
-use Rattle.chacha20.specs.Cipher.{E}
 use Rattle.table.specs.Table.{Row, Table, rows}
 use Rattle.table.proofs.Rows.{rows-length}
 use Rattle.table.proofs.Walk.{row-part}
 use Rattle.scheme.specs.Store.{entryRow, reverseRow}
 use Rattle.scheme.specs.Insert.{entryRows, reverseRows}
 use Rattle.suite.specs.Program.{program}
-use Rattle.counter.specs.declared.Address.{Address}
-use Rattle.counter.specs.Tags.{entryTagBy, Prepared}
-use Rattle.counter.proofs.Tags.{entry-tag-is}
-
--- ---- the scheme's rows
-
-module _ (k : Keyed) (mt : List ℕ) (a : Address) (p : Prepared k mt) (tag : List ℕ) (e : tag ≡ entryTagBy k a) where
-  pub entry-row-is : (me nonce id : List ℕ) (row : Row) → row ≡ 1 ∷ tag ++ (nonce ++ E me nonce id) → row ≡ entryRow program mt me (a .0) nonce id
-  unfolding entryRow program
-  entry-row-is me nonce id row f = f ∙ ap (λ (l : List ℕ). 1 ∷ l ++ (nonce ++ E me nonce id)) (e ∙ entry-tag-is k mt a p)
-
-  pub reverse-row-is : (id : List ℕ) (row : Row) → row ≡ 1 ∷ id ++ tag → row ≡ reverseRow program mt (a .0) id
-  unfolding reverseRow
-  reverse-row-is id row f = f ∙ ap (λ (l : List ℕ). 1 ∷ id ++ l) (e ∙ entry-tag-is k mt a p)
-
--- ---- rows made one after the other
 
 pub piece-long : (w i : ℕ) (l : List ℕ) → w * i + w ≤ length l → length (take (w * i + w - w * i) (drop (w * i) l)) ≡ w
 piece-long w i l h = length-part l (w * i) (w * i + w) h ∙ add-sub-cancel-left (w * i) w

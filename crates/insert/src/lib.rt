@@ -2,34 +2,42 @@
 // definition's order; then the new rows of M, V, C and S are made and placed.
 ghost use mathlib.Core.Path.{_≡_};
 ghost use mathlib.Core.Bool.{not, _||_};
-ghost use mathlib.Core.List.{_∷_, _++_};
+ghost use mathlib.Core.List.{_++_};
 ghost use Prim.Native.Nat.{_*_, _/_, _%_, _≤_};
 ghost use lib.Dec.{eqb, ltb};
 ghost use lib.ListN.{length, replicate};
 ghost use Rattle.table.specs.Table.{rows};
 ghost use Rattle.answer.specs.Answer.{counted};
 ghost use Rattle.answer.specs.Verdict.{verdict};
-ghost use Rattle.scheme.specs.Store.{entryRow, reverseRow, logRow};
+ghost use Rattle.scheme.specs.Store.{logRow};
 ghost use Rattle.scheme.specs.Reading.{limit};
 ghost use Rattle.scheme.specs.Refusals.{idCount, idsIn, insertInputTests, tokenTests};
 ghost use Rattle.scheme.specs.Keys.{tokenMT, tokenME, tokenCL, tokenLog};
 ghost use Rattle.scheme.specs.Insert.{entryRows, reverseRows, insertReading, Insert};
 ghost use Rattle.suite.specs.Program.{program};
 ghost use Rattle.store.specs.Check.{checkedOf};
-ghost use Rattle.counter.specs.Tags.{Prepared, KeysOf};
+ghost use Rattle.format.specs.Tags.{KeysOf};
 ghost use Rattle.counter.specs.Outcome.{readingOf};
 ghost use Rattle.insert.specs.Tests.{testedOf, roomTests, Accepted, Matching, Lengths, Room};
 ghost use Rattle.insert.specs.Writing.{Written};
 use answer::Counted;
 use answer::Refusal;
-use counter::Address;
 use counter::Counter;
 use counter::GREATEST;
-use counter::Keys;
-use counter::Position;
 use counter::Reading;
-use counter::row;
-use hmac::Keyed;
+use format::Address;
+use format::C_WIDTH;
+use format::HEADER;
+use format::ID;
+use format::INSERT_TOKEN;
+use format::Keys;
+use format::M_WIDTH;
+use format::MV_WIDTH;
+use format::NONCE;
+use format::Position;
+use format::S_WIDTH;
+use format::V_WIDTH;
+use format::row;
 use store::Checked;
 use store::Free;
 use store::Shape;
@@ -44,27 +52,27 @@ enum Tested {
 fn bad_ids(n: usize) -> bool
     ensures { λ r. ⌜ r ≡ (not (eqb (n % 16) 0) || (ltb (n / 16) 1 || ltb 64 (n / 16))) ⌝ }
 {
-    if n % 16 != 0 {
+    if n % ID != 0 {
         return true;
     }
-    if n / 16 < 1 {
+    if n / ID < 1 {
         return true;
     }
-    64 < n / 16
+    64 < n / ID
 }
 
 // 4, 5 and 6. [01:RI5 RI6 RI7]
 fn input(ids: &[u8], nonces: &[u8], token: &[u8]) -> Tested
     ensures { λ r. ⌜ testedOf r ≡ verdict (insertInputTests (now (ids .entry)) (now (nonces .entry)) ++ tokenTests 141 (now (token .entry))) ⌝ }
 {
-    let n = ids.len() / 16;
-    if nonces.len() != 12 * (n + 1) {
+    let n = ids.len() / ID;
+    if nonces.len() != NONCE * (n + 1) {
         return Tested::Refused(Refusal::NonceLength);
     }
     if bad_ids(ids.len()) {
         return Tested::Refused(Refusal::IdLength);
     }
-    if token.len() != 141 {
+    if token.len() != INSERT_TOKEN {
         return Tested::Refused(Refusal::TokenLength);
     }
     Tested::Passed
@@ -96,45 +104,6 @@ fn room(free: Free, count: u64, n: usize) -> Tested
     Tested::Passed
 }
 
-// A row of V: mark, id, and the M row's tag. [01:ST8]
-fn reverse_row(id: &[u8], tag: &[u8]) -> [u8; 49]
-    requires { ⌜ (length (now id) ≡ 16) × (length (now tag) ≡ 32) ⌝ }
-    ensures { λ r. ⌜ r ≡ 1 ∷ now (id .entry) ++ now (tag .entry) ⌝ }
-{
-    let mut row = [1u8; 49];
-    octets::copy_at(&mut row, 1, id);
-    octets::copy_at(&mut row, 17, tag);
-    row
-}
-
-// A row of S: mark, and the last 44 bytes of the token. [01:ST12 OP1]
-fn log_row(log: &[u8]) -> [u8; 45]
-    requires { ⌜ length (now log) ≡ 44 ⌝ }
-    ensures { λ r. ⌜ r ≡ logRow (now (log .entry)) ⌝ }
-{
-    let mut row = [1u8; 45];
-    octets::copy_at(&mut row, 1, log);
-    row
-}
-
-// The rows of M and of V for one id.
-struct IdRows {
-    entry: [u8; 61],
-    reverse: [u8; 49],
-}
-
-// Both rows for an id at an address, with the prepared MT; the tag is computed once. [01:ST6 ST8]
-fn rows_for(k: Keyed, mt: &[u8], me: &[u8], a: Address, nonce: &[u8], id: &[u8]) -> IdRows
-    requires { ⌜ Prepared k (now mt) × ((length (now me) ≡ 32) × ((length (now nonce) ≡ 12) × (length (now id) ≡ 16))) ⌝ }
-    ensures { λ r. ⌜ r .entry ≡ entryRow program (now (mt .entry)) (now (me .entry)) (a .0) (now (nonce .entry)) (now (id .entry)) ⌝ }
-    ensures { λ r. ⌜ r .reverse ≡ reverseRow program (now (mt .entry)) (a .0) (now (id .entry)) ⌝ }
-{
-    let tag = counter::entry_tag(k, a);
-    let entry = row::sealed_row(&tag, me, nonce, id);
-    let reverse = reverse_row(id, &tag);
-    IdRows { entry, reverse }
-}
-
 // Makes the rows of M and of V for n ids at addresses g + 1 onward, one nonce per id; MT is prepared
 // once. [01:OP1 OP2]
 fn new_rows(
@@ -155,11 +124,11 @@ fn new_rows(
     let k = hmac::prepare(mt);
     let mut i = 0;
     while i < n {
-        let a = 12 * i;
-        let e = a + 12;
-        let b = 16 * i;
-        let f = b + 16;
-        let r = rows_for(
+        let a = NONCE * i;
+        let e = a + NONCE;
+        let b = ID * i;
+        let f = b + ID;
+        let r = row::rows_for(
             k,
             mt,
             me,
@@ -169,8 +138,8 @@ fn new_rows(
         );
         let entry = r.entry;
         let reverse = r.reverse;
-        table::put_row(entries, 61, n, i, &entry);
-        table::put_row(reverses, 49, n, i, &reverse);
+        table::put_row(entries, M_WIDTH, n, i, &entry);
+        table::put_row(reverses, V_WIDTH, n, i, &reverse);
         i += 1;
     }
 }
@@ -192,28 +161,28 @@ fn place(
     let m = z.m;
     let c = z.c;
     let s = z.s;
-    let v = 8 + 61 * m;
-    let a = 8 + 110 * m;
-    let b = a + 61 * c;
-    let e = b + 45 * s;
-    table::put_rows(&mut store[8..v], 61, m, entries, n);
-    table::put_rows(&mut store[v..a], 49, m, reverses, n);
-    table::put_rows(&mut store[a..b], 61, c, counter, 1);
-    table::put_rows(&mut store[b..e], 45, s, log, 1);
+    let v = HEADER + M_WIDTH * m;
+    let a = HEADER + MV_WIDTH * m;
+    let b = a + C_WIDTH * c;
+    let e = b + S_WIDTH * s;
+    table::put_rows(&mut store[HEADER..v], M_WIDTH, m, entries, n);
+    table::put_rows(&mut store[v..a], V_WIDTH, m, reverses, n);
+    table::put_rows(&mut store[a..b], C_WIDTH, c, counter, 1);
+    table::put_rows(&mut store[b..e], S_WIDTH, s, log, 1);
 }
 
 // Room for 64 rows of M.
-fn blank_entries() -> [u8; 3904]
+fn blank_entries() -> [u8; 64 * M_WIDTH]
     ensures { λ r. ⌜ r ≡ replicate 3904 0 ⌝ }
 {
-    [0u8; 3904]
+    [0u8; 64 * M_WIDTH]
 }
 
 // Room for 64 rows of V.
-fn blank_reverses() -> [u8; 3136]
+fn blank_reverses() -> [u8; 64 * V_WIDTH]
     ensures { λ r. ⌜ r ≡ replicate 3136 0 ⌝ }
 {
-    [0u8; 3136]
+    [0u8; 64 * V_WIDTH]
 }
 
 // Makes the new rows of M, V and S, and places them with a counter row; g is the count read.
@@ -231,9 +200,9 @@ fn write(
     requires { ⌜ Lengths (now ids) (now nonces) (now token) × ((g ≤ limit) × (length (now counter) ≡ 61)) ⌝ }
     ensures { λ _. ⌜ Written (now (store .entry)) (entryRows program (tokenMT (now (token .entry))) (tokenME (now (token .entry))) g (idsIn (now (ids .entry))) (now (nonces .entry))) (reverseRows program (tokenMT (now (token .entry))) g (idsIn (now (ids .entry)))) (now (counter .entry)) (logRow (tokenLog (now (token .entry)))) (now (store .exit)) ⌝ }
 {
-    let n = ids.len() / 16;
-    let i = 61 * n;
-    let j = 49 * n;
+    let n = ids.len() / ID;
+    let i = M_WIDTH * n;
+    let j = V_WIDTH * n;
     let mut entries = blank_entries();
     let mut reverses = blank_reverses();
     new_rows(
@@ -246,7 +215,7 @@ fn write(
         &mut entries[..i],
         &mut reverses[..j],
     );
-    let log = log_row(&token[97..141]);
+    let log = row::log_row(&token[97..INSERT_TOKEN]);
     place(store, z, n, &entries[..i], &reverses[..j], counter, &log);
 }
 
@@ -265,13 +234,13 @@ fn insert_read(
     requires { ⌜ (readingOf (Reading.Counter x) ≡ insertReading program (now store) (now token)) × (KeysOf keys (now cl) × (now cl ≡ tokenCL (now token))) ⌝ }
     ensures { λ r. ⌜ Insert program (now (store .entry)) (now (ids .entry)) (now (nonces .entry)) (now (token .entry)) (counted r) (now (store .exit)) ⌝ }
 {
-    let n = ids.len() / 16;
+    let n = ids.len() / ID;
     let count = x.count + n as u64;
     let free = z.free;
     match room(free, count, n) {
         Tested::Refused(r) => Counted::Refused(r),
         Tested::Passed => {
-            let e = 12 * n;
+            let e = NONCE * n;
             let start = x.start;
             let row = row::counter_row(keys, cl, Position(start.0 + x.k + 1), &nonces[e..], count);
             write(store, z, x.count, ids, nonces, token, &row);
@@ -292,11 +261,11 @@ fn insert_checked(store: &mut [u8], z: Shape, ids: &[u8], nonces: &[u8], token: 
     }
     let m = z.m;
     let c = z.c;
-    let a = 8 + 110 * m;
-    let b = a + 61 * c;
+    let a = HEADER + MV_WIDTH * m;
+    let b = a + C_WIDTH * c;
     let mut cl = [0u8; 32];
     octets::copy(&mut cl, &token[65..97]);
-    let keys = counter::keys_of(&cl);
+    let keys = format::keys_of(&cl);
     let Reading::Counter(x) = counter::read_keyed(&store[a..b], c, &cl, keys) else {
         return Counted::Refused(Refusal::Damage);
     };

@@ -14,9 +14,9 @@ use Rattle.table.specs.Lists.{anyOf}
 use Rattle.hmac.specs.declared.Keyed.{Keyed}
 use Rattle.scheme.specs.Keys.{share, CT, findMT, findCL}
 use Rattle.suite.specs.Program.{program}
-use Rattle.counter.specs.declared.Keys.{Keys}
-use Rattle.counter.specs.Tags.{shareBy, Prepared, KeysOf}
-use Rattle.counter.proofs.Tags.{share-is}
+use Rattle.format.specs.declared.Keys.{Keys}
+use Rattle.format.specs.Tags.{numberedBy, Prepared, KeysOf}
+use Rattle.format.proofs.Tags.{share-is}
 use Rattle.scenario.specs.declared.premise.Kind.{Kind}
 use Rattle.scenario.specs.Premise.{tagOf, startsOf, occursIn, repeating}
 
@@ -58,11 +58,11 @@ zeros-length n l e = sym (ap length e ∙ length-replicate n 0)
 
 -- from the prepared parts of a find token to MT and CT of a share
 module _ (token : List ℕ) (u : ℕ) (h : length token ≡ 96) where
-  pub prepared-MT : (mtx mt : Keyed) (key : List ℕ) → Prepared mtx (take 32 token) → key ≡ shareBy mtx u → Prepared mt key → Prepared mt (share program (findMT token) u)
+  pub prepared-MT : (mtx mt : Keyed) (key : List ℕ) → Prepared mtx (take 32 token) → key ≡ numberedBy mtx u → Prepared mt key → Prepared mt (share program (findMT token) u)
   unfolding findMT
   prepared-MT mtx mt key p e q = subst (Prepared mt) (e ∙ share-is mtx (take 32 token) u p) q
 
-  pub prepared-CT : (clx : Keyed) (keys : Keys) (cl : List ℕ) → Prepared clx (take 32 (drop 64 token)) → cl ≡ shareBy clx u → KeysOf keys cl
+  pub prepared-CT : (clx : Keyed) (keys : Keys) (cl : List ℕ) → Prepared clx (take 32 (drop 64 token)) → cl ≡ numberedBy clx u → KeysOf keys cl
       → Prepared (keys .ct) (CT program (share program (findCL token) u))
   unfolding findCL
   prepared-CT clx keys cl p e q =

@@ -7,7 +7,7 @@ use lib.ListN.{take}
 use Rattle.octets.specs.Number.{number}
 use Rattle.table.specs.Lists.{anyOf}
 use Rattle.hmac.specs.declared.Keyed.{Keyed}
-use Rattle.counter.specs.Tags.{entryTagBy, counterTagBy, anchorTagBy}
+use Rattle.format.specs.Tags.{entryTagBy, counterTagBy, anchorTagBy}
 use Rattle.scenario.specs.declared.premise.Kind.{Kind}
 use Rattle.scenario.specs.declared.premise.Kind.the-variants.{Entry, Counter, Anchor}
 

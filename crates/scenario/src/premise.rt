@@ -2,9 +2,10 @@
 // to 64 times the calls, those of C at positions and anchor numbers 1 to the calls + 1, for every pair
 // of field and share that is read. Compared are their first 8 bytes. [01:LG13]
 use crate::write;
-use counter::Address;
-use counter::AnchorNumber;
-use counter::Position;
+use format::Address;
+use format::AnchorNumber;
+use format::FIND_TOKEN;
+use format::Position;
 use hmac::Keyed;
 ghost use mathlib.Core.Path.{_≡_};
 ghost use mathlib.Core.List.{_++_};
@@ -12,7 +13,7 @@ ghost use Prim.Native.Nat.{_+_, _*_, _≤_};
 ghost use lib.ListN.{length};
 ghost use Rattle.scheme.specs.Keys.{share, CT, findMT, findCL};
 ghost use Rattle.suite.specs.Program.{program};
-ghost use Rattle.counter.specs.Tags.{Prepared};
+ghost use Rattle.format.specs.Tags.{Prepared};
 ghost use Rattle.scenario.specs.Premise.{tagOf, startsOf, occursIn, repeating};
 
 pub enum Kind {
@@ -25,9 +26,9 @@ fn tag(kind: Kind, key: Keyed, n: u64) -> [u8; 32]
     ensures { λ r. ⌜ r ≡ tagOf kind key n ⌝ }
 {
     match kind {
-        Kind::Entry => counter::entry_tag(key, Address(n)),
-        Kind::Counter => counter::counter_tag(key, Position(n)),
-        Kind::Anchor => counter::anchor_tag(key, AnchorNumber(n)),
+        Kind::Entry => format::entry_tag(key, Address(n)),
+        Kind::Counter => format::counter_tag(key, Position(n)),
+        Kind::Anchor => format::anchor_tag(key, AnchorNumber(n)),
     }
 }
 
@@ -79,16 +80,16 @@ struct PairKeys {
 }
 
 // The keys of share u under a find token.
-fn keys(token: &[u8; 96], u: u64) -> PairKeys
+fn keys(token: &[u8; FIND_TOKEN], u: u64) -> PairKeys
     ensures { λ r. ⌜ Prepared (r .mt) (share program (findMT (now (token .entry))) u) ⌝ }
     ensures { λ r. ⌜ Prepared (r .ct) (CT program (share program (findCL (now (token .entry))) u)) ⌝ }
 {
     let all = &token[..];
     let mtx = hmac::prepare(&all[0..32]);
-    let clx = hmac::prepare(&all[64..96]);
-    let mt = counter::share_of(mtx, u);
-    let cl = counter::share_of(clx, u);
-    let of_cl = counter::keys_of(&cl);
+    let clx = hmac::prepare(&all[64..FIND_TOKEN]);
+    let mt = format::numbered(mtx, u);
+    let cl = format::numbered(clx, u);
+    let of_cl = format::keys_of(&cl);
     let ct = of_cl.ct;
     let mt = hmac::prepare(&mt);
     PairKeys { mt, ct }
@@ -119,7 +120,7 @@ fn read_pair(key: &[u8], half: usize, m: &mut [u64], c: &mut [u64])
     let mut value = [0u8; 1100];
     let b = records::read_bytes(&mut value);
     let u = records::read_number();
-    let mut token = [0u8; 96];
+    let mut token = [0u8; FIND_TOKEN];
     client::find_token(key, &name[..a], &value[..b], &mut token);
     pair(keys(&token, u), half, m, c);
 }

@@ -15,9 +15,9 @@ use borrow.Author.Tests.{lt-ltb, le-ltb, ltb-true, ltb-false}
 use Rattle.octets.specs.Part.{back}
 use Rattle.octets.proofs.Parts.{length-part}
 use Rattle.table.specs.Lists.{bit, count, first, isSome, flat}
-use Rattle.table.specs.Table.{Row, Table, rows, markOf, markBad, isFree, body, used, freeRows, hasTag, lookup, holds, indexOf, placeOf, zeroRow, freeWhere, Placed}
+use Rattle.table.specs.Table.{Row, Table, rows, markOf, markBad, isFree, body, used, freeRows, hasTag, lookup, holds, indexOf, placeOf, zeroRow, freeWhere}
 use Rattle.table.proofs.Counting.{any-count, any-none}
-use Rattle.table.proofs.Rows.{rows-length, index-holds, place-held}
+use Rattle.table.proofs.Rows.{rows-length, place-held}
 
 -- ---- the row at an index
 
@@ -124,7 +124,7 @@ module _ (q : Row → Bool) (w n i z : ℕ) (t : List ℕ) (e : i + indexOf q (d
 
 -- ---- what an index tells
 
--- where a row is free, one is found, and it can take a row
+-- where a row is free, one is found
 pub free-inside : (t : Table) → 1 ≤ freeRows t → indexOf isFree t < length t
 free-inside [] h = absurd (not-suc-le-zero h)
 free-inside (r ∷ rs) h = go (isFree r) h (free-inside rs)
@@ -132,11 +132,6 @@ free-inside (r ∷ rs) h = go (isFree r) h (free-inside rs)
     go : (b : Bool) → 1 ≤ bit b + freeRows rs → (1 ≤ freeRows rs → indexOf isFree rs < length rs) → cond b zero (suc (indexOf isFree rs)) < suc (length rs)
     go true h k = omega arith
     go false h k = let l = k (omega arith) in omega arith
-
-pub free-placed : (t : Table) (row : Row) → 1 ≤ freeRows t → Placed t row (set t (indexOf isFree t) row)
-free-placed t row h =
-    let k = free-inside t h in
-    record { at = indexOf isFree t; inside = k; free = index-holds isFree t k; put = refl }
 
 -- the row at a tag's place is what a lookup finds [01:ST13]
 pub place-found : (tag : List ℕ) (t : Table) → placeOf tag t < length t → lookup tag t ≡ some (body (getD t (placeOf tag t) []))

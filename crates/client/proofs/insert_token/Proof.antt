@@ -2,6 +2,7 @@
 use Rattle.client.proofs.Laws.{in-range, share-range, token-is}
 use Rattle.client.specs.Making.{fieldOf}
 use Rattle.scheme.specs.Refusals.{insertTokenTests}
+use Rattle.format.proofs.Tags.{prepared}
 use borrow.Author.Tests.{eq-eqb, ne-eqb}
 use native.Mathlib.Omega.{arith}
 use mathlib.Core.Path.{sym, _∙_}
@@ -45,29 +46,32 @@ returns-4 c =
 
 parts-requires : tie.Need-parts-requires
 parts-requires c κs =
-    let field = in-range _ _ (sym (c .before .before .before .before .outside .ensures) ∙ c .before .before .before .if2 .left) in (c .before .before .before .before .before .if1 .left, (field .0, field .1))
-
-log-key-requires : tie.Need-log-key-requires
-log-key-requires c κs = search needs
+    in-range _ _ (sym (c .before .before .before .before .before .outside .ensures) ∙ c .before .before .before .before .if2 .left)
 
 cast-write-insert : tie.Need-cast-write-insert
 cast-write-insert c =
-    omega (arith, share-range (c .before .before .before .before .before .before .before .before .before .before .before .before .before .args .p) (c .before .before .before .before .before .before .before .before .before .before .before .before .before .args .u) (sym (c .before .before .before .before .before .shares-outside .ensures) ∙ c .before .before .before .before .if3 .left))
-
-write-insert-requires : tie.Need-write-insert-requires
-write-insert-requires c κs = search needs
+    let d = c .before .before .before .before in
+    let a = d .before .before .before .before .before .before .before .before .before .before .args in
+    omega (arith, share-range (a .p) (a .u) (sym (d .before .before .shares-outside .ensures) ∙ d .before .if3 .left))
 
 returns-5 : tie.Need-returns-5
 unfolding insertTokenTests
 returns-5 c =
-    let key = eq-eqb _ _ (c .before .before .before .before .before .before .before .before .before .before .if1 .left) in
-    let field = sym (c .before .before .before .before .before .before .before .before .before .outside .ensures) ∙ c .before .before .before .before .before .before .before .before .if2 .left in
-    let shares = sym (c .before .before .before .before .before .before .before .shares-outside .ensures) ∙ c .before .before .before .before .before .before .if3 .left in
-    let nonce = eq-eqb _ _ (c .before .before .before .before .before .if4 .left) in (
+    let l = c .before .before .before in
+    let q = l .before in
+    let k = q .before in
+    let d = k .before in
+    let a = d .before .before .before .before .before .before .before .before .before .before .args in
+    let K = a .key .now in
+    let of = prepared (k .prepare .result) K (k .prepare .ensures) in
+    let key = eq-eqb _ _ (d .before .before .before .before .before .if1 .left) in
+    let field = sym (d .before .before .before .before .outside .ensures) ∙ d .before .before .before .if2 .left in
+    let shares = sym (d .before .before .shares-outside .ensures) ∙ d .before .if3 .left in
+    let nonce = eq-eqb _ _ (d .if4 .left) in (
       simp (key, field, shares, nonce),
       simp (key, field, shares, nonce)
           (c .write-insert .ensures
-          ∙ token-is (c .before .before .before .before .before .before .before .before .before .before .before .before .before .before .before .args .key .now) (fieldOf (c .before .before .before .before .before .before .before .before .before .before .before .before .before .before .before .args .name .now) (c .before .before .before .before .before .before .before .before .before .before .before .before .before .before .before .args .value .now)) (c .before .before .before .before .parts .result) (c .before .before .before .log-key .result) (c .before .before .before .before .before .before .before .before .before .before .before .before .before .before .before .args .p) (c .before .before .before .before .before .before .before .before .before .before .before .before .before .before .before .args .u) (c .before .before .before .before .before .before .before .before .before .before .before .before .before .before .before .args .nonce .now) (c .before .before .before .before .parts .ensures) (c .before .before .before .log-key .ensures)),
+          ∙ token-is K (fieldOf (a .name .now) (a .value .now)) (q .parts .result) (l .log-key .result) (a .p) (a .u) (a .nonce .now) (q .parts .ensures K of) (l .log-key .ensures K of)),
     )
 
 pub insert-token-spec : {M : Type 1} → statement M
@@ -80,8 +84,9 @@ insert-token-spec =
     shares-outside-requires
     returns-3
     returns-4
+    (λ c κs. search needs)
     parts-requires
-    log-key-requires
+    (λ c κs. search needs)
     cast-write-insert
-    write-insert-requires
+    (λ c κs. search needs)
     returns-5)

@@ -1,55 +1,54 @@
 -- The label's bytes under the keys.
-use Rattle.client.proofs.Laws.{label-short}
-use Rattle.client.specs.Making.{fieldOf}
-use Rattle.suite.specs.Program.{program}
-use Rattle.scheme.specs.Keys.{KM, KC, MTof, MEof, CLof}
-use Rattle.scheme.specs.Labels.{label}
-use Rattle.scheme.specs.Suite.{number8}
-use Rattle.hmac.specs.Hmac.{F}
-use Rattle.octets.proofs.Parts.{front-le, front-is}
-use lib.Seq.{length-take-le}
-use lib.ListN.{length, take}
-use native.Mathlib.Omega.{arith}
-use Prim.Native.Nat.{ℕ}
-use mathlib.Core.List.{List}
+use Prim.Native.Nat.{_≤_}
 use mathlib.Core.Path.{_≡_, sym, ap, _∙_}
+use native.Mathlib.Omega.{arith}
+use lib.ListN.{length, take}
+use lib.Seq.{length-take-le}
+use Rattle.octets.proofs.Parts.{front-le, front-is}
+use Rattle.hmac.specs.Hmac.{F}
+use Rattle.scheme.specs.Suite.{number8}
+use Rattle.scheme.specs.Labels.{label}
+use Rattle.scheme.specs.Keys.{KM, KC, MTof, MEof, CLof}
+use Rattle.suite.specs.Program.{program}
+use Rattle.client.specs.Making.{fieldOf}
+use Rattle.client.proofs.Laws.{label-short}
 use borrow.Author.Needs.{needs}
 use Rattle.client.proofs.parts.Statement.{statement}
 use Rattle.client.proofs.parts.Tie as tie
 
-slice-aggregate-label : tie.Need-slice-aggregate-label
-slice-aggregate-label c = search needs
+-- the first bytes are the label
+front : (l : tie.After-label) →
+    let a = l .before .before .before .before .args in
+    take (l .label .result) (l .label .last .1 .1 .0) ≡ label (fieldOf (a .name .now) (a .value .now))
+front l =
+    let a = l .before .before .before .before .args in
+    front-is (l .label .result) (label (fieldOf (a .name .now) (a .value .now))) _ (l .label .last .1 .1 .0) (l .label .ensures .0) (l .label .ensures .1)
 
-label-requires : tie.Need-label-requires
-label-requires c κs = search needs
+inside : (l : tie.After-label) → l .label .result ≤ length (l .label .last .1 .1 .0)
+inside l =
+    let a = l .before .before .before .before .args in
+    front-le (l .label .result) (label (fieldOf (a .name .now) (a .value .now))) _ (l .label .last .1 .1 .0) (l .label .ensures .0) (l .label .ensures .1)
 
-array-share-prefix-x : tie.Need-array-share-prefix-x
-array-share-prefix-x c = front-le (c .before .label .result) (label (fieldOf (c .before .before .before .before .before .before .args .name .now) (c .before .before .before .before .before .before .args .value .now))) _ (c .before .label .last .1 .1 .0) (c .before .label .ensures .0) (c .before .label .ensures .1)
-
-slice-aggregate-field-keys : tie.Need-slice-aggregate-field-keys
-slice-aggregate-field-keys c = sym (length-take-le (c .before .before .label .result) (c .before .before .label .last .1 .1 .0) (front-le (c .before .before .label .result) (label (fieldOf (c .before .before .before .before .before .before .before .args .name .now) (c .before .before .before .before .before .before .before .args .value .now))) _ (c .before .before .label .last .1 .1 .0) (c .before .before .label .ensures .0) (c .before .before .label .ensures .1)))
-
-field-keys-requires : tie.Need-field-keys-requires
-field-keys-requires c κs = (omega (arith, c .before .before .before .before .before .before .before .pre), omega (arith, ap length (front-is (c .before .before .label .result) (label (fieldOf (c .before .before .before .before .before .before .before .args .name .now) (c .before .before .before .before .before .before .before .args .value .now))) _ (c .before .before .label .last .1 .1 .0) (c .before .before .label .ensures .0) (c .before .before .label .ensures .1)), label-short (c .before .before .before .before .before .before .before .args .name .now) (c .before .before .before .before .before .before .before .args .value .now) (c .before .before .before .before .before .before .before .pre .1 .0) (c .before .before .before .before .before .before .before .pre .1 .1)))
+short : (l : tie.After-label) → length (take (l .label .result) (l .label .last .1 .1 .0)) ≤ 65536
+short l =
+    let s = l .before .before .before .before in
+    omega (arith, ap length (front l), label-short (s .args .name .now) (s .args .value .now) (s .pre .0) (s .pre .1))
 
 returns : tie.Need-returns
 unfolding MTof MEof CLof program
 returns c =
-    let x = front-is (c .before .before .before .label .result) (label (fieldOf (c .before .before .before .before .before .before .before .before .args .name .now) (c .before .before .before .before .before .before .before .before .args .value .now))) _ (c .before .before .before .label .last .1 .1 .0) (c .before .before .before .label .ensures .0) (c .before .before .before .label .ensures .1) in
-    let K = c .before .before .before .before .before .before .before .before .args .key .now in
+    let x = front (c .before .before .before) in
+    λ key p.
+    let e = c .field-keys .ensures key p in
     record {
-      mt = c .field-keys .ensures .0 ∙ ap (F (F (KM program K) (number8 1))) x;
-      me = c .field-keys .ensures .1 .0 ∙ ap (F (F (KM program K) (number8 2))) x;
-      cl = c .field-keys .ensures .1 .1 ∙ ap (F (KC program K)) x;
+      mt = e .0 ∙ ap (F (F (KM program key) (number8 1))) x;
+      me = e .1 .0 ∙ ap (F (F (KM program key) (number8 2))) x;
+      cl = e .1 .1 ∙ ap (F (KC program key)) x;
     }
 
 pub parts-spec : {M : Type 1} → statement M
 parts-spec =
     tie.close
-    (tie.spec
-    slice-aggregate-label
-    label-requires
-    array-share-prefix-x
-    slice-aggregate-field-keys
-    field-keys-requires
-    returns)
+    (tie.spec (λ c. search needs) (λ c κs. search needs) (λ c. inside (c .before))
+    (λ c. sym (length-take-le (c .before .before .label .result) (c .before .before .label .last .1 .1 .0) (inside (c .before .before))))
+    (λ c κs. short (c .before .before)) returns)

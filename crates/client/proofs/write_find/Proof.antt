@@ -1,47 +1,42 @@
 -- The three parts, joined.
-use Rattle.client.proofs.Laws.{length-parts}
-use Rattle.client.specs.Making.{fieldOf}
-use Rattle.scheme.specs.Keys.{findToken}
-use native.Mathlib.Omega.{arith}
 use Prim.Native.Nat.{ℕ}
-use mathlib.Core.List.{List, _++_}
 use mathlib.Core.Path.{ap₂, _∙_}
+use mathlib.Core.List.{List, _++_}
+use native.Mathlib.Omega.{arith}
+use Rattle.scheme.specs.Keys.{findToken}
+use Rattle.format.proofs.Tags.{prepared}
+use Rattle.client.specs.Making.{fieldOf}
+use Rattle.client.specs.Parts.{Parts}
+use Rattle.client.proofs.Laws.{length-parts}
 use borrow.Author.Needs.{needs}
 use Rattle.client.proofs.write_find.Statement.{statement}
 use Rattle.client.proofs.write_find.Tie as tie
 
-parts-requires : tie.Need-parts-requires
-parts-requires c κs = search needs
+abbrev start : tie.After-parts → tie.Start
+start q = q .before .before .before .before .before .before
 
-slice-aggregate-three : tie.Need-slice-aggregate-three
-slice-aggregate-three c = search needs
-
-slice-aggregate-three-2 : tie.Need-slice-aggregate-three-2
-slice-aggregate-three-2 c = search needs
-
-slice-aggregate-three-3 : tie.Need-slice-aggregate-three-3
-slice-aggregate-three-3 c = search needs
+made : (q : tie.After-parts) →
+    let a = start q .args in
+    Parts (a .key .now) (fieldOf (a .name .now) (a .value .now)) (q .parts .result)
+made q =
+    let k = q .before .prepare in
+    let key = start q .args .key .now in
+    q .parts .ensures key (prepared (k .result) key (k .ensures))
 
 three-requires : tie.Need-three-requires
-three-requires c κs = omega (arith, c .before .before .before .before .before .before .before .before .before .before .before .before .pre .1, length-parts (c .before .before .before .before .before .before .before .before .before .before .before .before .args .key .now) (fieldOf (c .before .before .before .before .before .before .before .before .before .before .before .before .args .name .now) (c .before .before .before .before .before .before .before .before .before .before .before .before .args .value .now)) (c .before .before .before .before .before .before .before .parts .result) (c .before .before .before .before .before .before .before .parts .ensures))
-
-same-length : tie.Need-same-length
-same-length c = search needs
+three-requires c κs =
+    let q = c .before .before .before .before .before .before .before in
+    let a = start q .args in
+    omega (arith, start q .pre .1, length-parts (a .key .now) (fieldOf (a .name .now) (a .value .now)) (q .parts .result) (made q))
 
 returns : tie.Need-returns
 unfolding findToken
 returns c =
-    let e = c .before .before .before .before .before .before .before .before .before .before .parts .ensures in
+    let e = made (c .before .before .before .before .before .before .before .before .before .before) in
     c .before .before .three .ensures ∙ ap₂ (λ (x y : List ℕ). x ++ y) (e .mt) (ap₂ (λ (x y : List ℕ). x ++ y) (e .me) (e .cl))
 
 pub write-find-spec : {M : Type 1} → statement M
 write-find-spec =
     tie.close
-    (tie.spec
-    parts-requires
-    slice-aggregate-three
-    slice-aggregate-three-2
-    slice-aggregate-three-3
-    three-requires
-    same-length
-    returns)
+    (tie.spec (λ c κs. search needs) (λ c κs. search needs) (λ c. search needs) (λ c. search needs) (λ c. search needs) three-requires
+    (λ c. search needs) returns)

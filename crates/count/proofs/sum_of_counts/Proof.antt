@@ -3,7 +3,7 @@ use Prim.Native.Nat.{ℕ, _+_, _-_, _≤_}
 use mathlib.Core.Path.{_≡_, sym, ap, subst, _∙_}
 use native.Mathlib.Omega.{arith}
 use Rattle.table.specs.Table.{rows}
-use Rattle.counter.specs.Tags.{shareBy}
+use Rattle.format.specs.Tags.{numberedBy}
 use Rattle.counter.specs.Outcome.{readingOf, shareRead}
 use Rattle.counter.proofs.Readings.{reading-bounds}
 use Rattle.counter.proofs.Shares.{Summed, summed-none, summed-more, summed-damage, summed-all}
@@ -44,7 +44,7 @@ more c =
     let z = g .0 .0 in
     let e = sym (ap readingOf (g .1)) ∙ r .read-share .ensures in
     summed-more (shareRead (a .clx) (a .c) t) (l .u) (l .sum) (z .b .0) (z .start .0) (z .k) (z .count) (l .inv .1) e
-    (reading-bounds (a .c) (shareBy (a .clx) (l .u)) t (z .b .0) (z .start .0) (z .k) (z .count) e .count-limit)
+    (reading-bounds (a .c) (numberedBy (a .clx) (l .u)) t (z .b .0) (z .start .0) (z .k) (z .count) e .count-limit)
 
 add-sum : tie.Need-add-sum Inv-loop μ-loop
 add-sum c = omega (arith, more c .small, c .before .before .before .before .before .loop-test .taken)

@@ -14,7 +14,7 @@ returns : tie.Need-returns
 unfolding shareRead
 returns c =
     let a = c .before .before .before .before .args in
-    c .read .ensures ∙ ap (λ (cl : List ℕ). reading program (a .c) cl (rows 61 (a .c) (a .t .now))) (c .before .before .share-of .ensures)
+    c .read .ensures ∙ ap (λ (cl : List ℕ). reading program (a .c) cl (rows 61 (a .c) (a .t .now))) (c .before .before .numbered .ensures)
 
 pub read-share-spec : {M : Type 1} → statement M
 read-share-spec = tie.close (tie.spec (λ c κs. search needs) (λ c κs. search needs) returns)

@@ -12,7 +12,7 @@ returns c =
     let k = p .before .before in
     let a = k .before .before .args in
     c .found-in-share .ensures
-    ∙ share-found (a .keys) (rows 61 (a .m) (a .t .now)) (a .u) (a .n) (p .prepare .result) (k .share-of .result) (record { inner = p .prepare .ensures .0; outer = p .prepare .ensures .1 }) (k .share-of .ensures)
+    ∙ share-found (a .keys) (rows 61 (a .m) (a .t .now)) (a .u) (a .n) (p .prepare .result) (k .numbered .result) (record { inner = p .prepare .ensures .0; outer = p .prepare .ensures .1 }) (k .numbered .ensures)
 
 pub found-of-spec : {M : Type 1} → statement M
 found-of-spec = tie.close (tie.spec (λ c κs. search needs) (λ c. search needs) (λ c κs. search needs) (λ c κs. search needs) returns)

@@ -7,7 +7,7 @@ use native.Mathlib.Omega.{arith}
 use lib.ListN.{set, replicate}
 use Rattle.table.specs.Table.{rows}
 use Rattle.scheme.specs.Reading.{countOf}
-use Rattle.counter.specs.Tags.{shareBy}
+use Rattle.format.specs.Tags.{numberedBy}
 use Rattle.counter.specs.Outcome.{readingOf, shareRead}
 use Rattle.counter.proofs.Readings.{reading-bounds}
 use Rattle.counter.proofs.Shares.{Summed, summed-none, summed-more, summed-damage, summed-all}
@@ -53,7 +53,7 @@ more c =
     let f = shareRead (a .clx) (a .c) t in
     let e = sym (ap readingOf (g .1)) ∙ r .read-share .ensures in (
       summed-more f (l .u) (l .sum) (z .b .0) (z .start .0) (z .k) (z .count) (l .inv .1) e
-          (reading-bounds (a .c) (shareBy (a .clx) (l .u)) t (z .b .0) (z .start .0) (z .k) (z .count) e .count-limit),
+          (reading-bounds (a .c) (numberedBy (a .clx) (l .u)) t (z .b .0) (z .start .0) (z .k) (z .count) e .count-limit),
       ap₂ (λ (x : List ℕ) (y : ℕ). set x (l .u) y) (l .inv .2) (ap countOf e) ∙ ap (λ (n : ℕ). filled (λ u. countOf (f u)) n (replicate 16 0)) (sym (add-one (l .u))),
     )
 

@@ -13,17 +13,17 @@ use borrow.Author.Needs.{needs}
 use Rattle.find.proofs.write_of.Statement.{statement}
 use Rattle.find.proofs.write_of.Tie as tie
 
-ids : (c : tie.After-share-of2) →
+ids : (c : tie.After-numbered2) →
     let p = c .before in
     let a = p .before .before .before .before .before .args in
     let t = rows 61 (a .m) (a .t .now) in
-    idsBy (entryTags (p .prepare .result)) (c .share-of2 .result) t (a .n) ≡ idsOf (a .keys) t (a .u) (a .n)
+    idsBy (entryTags (p .prepare .result)) (c .numbered2 .result) t (a .n) ≡ idsOf (a .keys) t (a .u) (a .n)
 ids c =
     let p = c .before in
     let k = p .before .before in
     let a = k .before .before .before .args in
-    share-ids (a .keys) (rows 61 (a .m) (a .t .now)) (a .u) (a .n) (p .prepare .result) (k .share-of .result) (record { inner = p .prepare .ensures .0; outer = p .prepare .ensures .1 }) (k .share-of .ensures)
-    (c .share-of2 .result) (c .share-of2 .ensures)
+    share-ids (a .keys) (rows 61 (a .m) (a .t .now)) (a .u) (a .n) (p .prepare .result) (k .numbered .result) (record { inner = p .prepare .ensures .0; outer = p .prepare .ensures .1 }) (k .numbered .ensures)
+    (c .numbered2 .result) (c .numbered2 .ensures)
 
 write-share-requires : tie.Need-write-share-requires
 write-share-requires c κs =

@@ -1,68 +1,40 @@
--- A prepared key gives F.
-use Rattle.suite.specs.Program.{program}
-use Rattle.scheme.specs.Keys.{KM, KC}
+-- A prepared key gives KM and KC, KM the two keys under it, and each of the three its part.
+use Prim.Native.Nat.{ℕ}
+use mathlib.Core.Path.{ap, _∙_}
+use mathlib.Core.List.{List}
 use Rattle.hmac.specs.Hmac.{F}
 use Rattle.scheme.specs.Suite.{number8}
-use Rattle.hmac.proofs.Laws.{from-prepared}
-use Prim.Native.Nat.{ℕ}
-use mathlib.Core.List.{List}
-use mathlib.Core.Path.{ap, _∙_}
+use Rattle.scheme.specs.Keys.{KM, KC}
+use Rattle.suite.specs.Program.{program}
+use Rattle.format.proofs.Tags.{prepared, numbered-is}
 use borrow.Author.Needs.{needs}
 use Rattle.client.proofs.keys.field_keys.Statement.{statement}
 use Rattle.client.proofs.keys.field_keys.Tie as tie
 
-prepare-requires : tie.Need-prepare-requires
-prepare-requires c κs = search needs
-
-numbered-requires : tie.Need-numbered-requires
-numbered-requires c κs = search needs
-
-numbered-requires-2 : tie.Need-numbered-requires-2
-numbered-requires-2 c κs = search needs
-
-slice-aggregate-prepare : tie.Need-slice-aggregate-prepare
-slice-aggregate-prepare c = search needs
-
-prepare-requires-2 : tie.Need-prepare-requires-2
-prepare-requires-2 c κs = search needs
-
-numbered-requires-3 : tie.Need-numbered-requires-3
-numbered-requires-3 c κs = search needs
-
-numbered-requires-4 : tie.Need-numbered-requires-4
-numbered-requires-4 c κs = search needs
-
-once-requires : tie.Need-once-requires
-once-requires c κs = search needs
-
-once-requires-2 : tie.Need-once-requires-2
-once-requires-2 c κs = search needs
-
-once-requires-3 : tie.Need-once-requires-3
-once-requires-3 c κs = search needs
-
 returns : tie.Need-returns
 unfolding KM KC program
-returns c = (
-  c .before .before .before .before .once .ensures ∙ ap (λ (k : List ℕ). F k (c .before .before .before .before .before .before .before .before .before .before .before .before .before .before .before .args .x .now)) (c .before .before .before .before .before .before .before .numbered3 .ensures ∙ from-prepared _ _ (c .before .before .before .before .before .before .before .before .before .before .before .numbered .result) (number8 1) (c .before .before .before .before .before .before .before .before .prepare2 .ensures .0) (c .before .before .before .before .before .before .before .before .prepare2 .ensures .1) ∙ ap (λ (k : List ℕ). F k (number8 1)) (c .before .before .before .before .before .before .before .before .before .before .before .numbered .ensures ∙ from-prepared _ _ (c .before .before .before .before .before .before .before .before .before .before .before .before .before .before .before .args .key .now) (number8 1) (c .before .before .before .before .before .before .before .before .before .before .before .before .prepare .ensures .0) (c .before .before .before .before .before .before .before .before .before .before .before .before .prepare .ensures .1))),
-  (
-    c .before .before .once2 .ensures ∙ ap (λ (k : List ℕ). F k (c .before .before .before .before .before .before .before .before .before .before .before .before .before .before .before .args .x .now)) (c .before .before .before .before .before .before .numbered4 .ensures ∙ from-prepared _ _ (c .before .before .before .before .before .before .before .before .before .before .before .numbered .result) (number8 2) (c .before .before .before .before .before .before .before .before .prepare2 .ensures .0) (c .before .before .before .before .before .before .before .before .prepare2 .ensures .1) ∙ ap (λ (k : List ℕ). F k (number8 2)) (c .before .before .before .before .before .before .before .before .before .before .before .numbered .ensures ∙ from-prepared _ _ (c .before .before .before .before .before .before .before .before .before .before .before .before .before .before .before .args .key .now) (number8 1) (c .before .before .before .before .before .before .before .before .before .before .before .before .prepare .ensures .0) (c .before .before .before .before .before .before .before .before .before .before .before .before .prepare .ensures .1))),
-    c .once3 .ensures ∙ ap (λ (k : List ℕ). F k (c .before .before .before .before .before .before .before .before .before .before .before .before .before .before .before .args .x .now)) (c .before .before .before .before .before .before .before .before .before .before .numbered2 .ensures ∙ from-prepared _ _ (c .before .before .before .before .before .before .before .before .before .before .before .before .before .before .before .args .key .now) (number8 2) (c .before .before .before .before .before .before .before .before .before .before .before .before .prepare .ensures .0) (c .before .before .before .before .before .before .before .before .before .before .before .before .prepare .ensures .1)),
-  ),
-)
+returns c =
+    let b = c .before .before in
+    let a = b .before .before in
+    let m2 = a .before .before in
+    let m1 = m2 .before in
+    let m = m1 .before in
+    let kc = m .before .before in
+    let km = kc .before in
+    let s = km .before .before .args in
+    let of = prepared (m .prepare .result) (km .numbered .result) (m .prepare .ensures) in
+    let under : List ℕ → List ℕ = λ l. F l (s .x .now) in
+    λ key p.
+    let e = km .numbered .ensures ∙ numbered-is (s .k) key 1 p in (
+      a .once .ensures ∙ ap under (m1 .numbered3 .ensures ∙ numbered-is (m .prepare .result) (km .numbered .result) 1 of ∙ ap (λ (l : List ℕ). F l (number8 1)) e),
+      (
+        b .once2 .ensures ∙ ap under (m2 .numbered4 .ensures ∙ numbered-is (m .prepare .result) (km .numbered .result) 2 of ∙ ap (λ (l : List ℕ). F l (number8 2)) e),
+        c .once3 .ensures ∙ ap under (kc .numbered2 .ensures ∙ numbered-is (s .k) key 2 p),
+      ),
+    )
 
 pub field-keys-spec : {M : Type 1} → statement M
 field-keys-spec =
     tie.close
-    (tie.spec
-    prepare-requires
-    numbered-requires
-    numbered-requires-2
-    slice-aggregate-prepare
-    prepare-requires-2
-    numbered-requires-3
-    numbered-requires-4
-    once-requires
-    once-requires-2
-    once-requires-3
-    returns)
+    (tie.spec (λ c κs. search needs) (λ c κs. search needs) (λ c. search needs) (λ c κs. search needs) (λ c κs. search needs) (λ c κs. search needs)
+    (λ c κs. search needs) (λ c κs. search needs) (λ c κs. search needs) returns)

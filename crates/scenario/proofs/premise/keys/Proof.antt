@@ -12,8 +12,8 @@ returns c =
     let y = s .before in
     let x = y .before .before in
     let a = x .before .before .before .args in (
-      prepared-MT (a .token .now) (a .u) (x .before .before .all .given .0) (x .prepare .result) (c .prepare3 .result) (s .share-of .result) (record { inner = x .prepare .ensures .0; outer = x .prepare .ensures .1 }) (s .share-of .ensures) (record { inner = c .prepare3 .ensures .0; outer = c .prepare3 .ensures .1 }),
-      prepared-CT (a .token .now) (a .u) (x .before .before .all .given .0) (y .prepare2 .result) (k .keys-of .result) (v .share-of2 .result) (record { inner = y .prepare2 .ensures .0; outer = y .prepare2 .ensures .1 }) (v .share-of2 .ensures) (k .keys-of .ensures),
+      prepared-MT (a .token .now) (a .u) (x .before .before .all .given .0) (x .prepare .result) (c .prepare3 .result) (s .numbered .result) (record { inner = x .prepare .ensures .0; outer = x .prepare .ensures .1 }) (s .numbered .ensures) (record { inner = c .prepare3 .ensures .0; outer = c .prepare3 .ensures .1 }),
+      prepared-CT (a .token .now) (a .u) (x .before .before .all .given .0) (y .prepare2 .result) (k .keys-of .result) (v .numbered2 .result) (record { inner = y .prepare2 .ensures .0; outer = y .prepare2 .ensures .1 }) (v .numbered2 .ensures) (k .keys-of .ensures),
     )
 
 pub keys-spec : {M : Type 1} → statement M
