@@ -21,16 +21,14 @@ use answer::Refusal;
 use counter::Counter;
 use counter::Reading;
 use format::AnchorNumber;
-use format::C_WIDTH;
 use format::COMPACTION_TOKEN;
-use format::HEADER;
 use format::Keys;
-use format::MV_WIDTH;
 use format::NONCE;
 use format::Position;
-use format::S_WIDTH;
 use format::row;
+use store::C_WIDTH;
 use store::Checked;
+use store::S_WIDTH;
 use store::Shape;
 
 // How many anchors were written and counters freed. [01:OP13]

@@ -2,6 +2,7 @@
 ghost use mathlib.Core.Path.{_≡_};
 ghost use Prim.Native.Nat.{_*_, _≤_};
 ghost use lib.ListN.{length};
+ghost use Rattle.scheme.specs.Store.{tableC, widthOf};
 ghost use Rattle.answer.specs.Answer.{counted};
 ghost use Rattle.table.specs.Table.{rows};
 ghost use Rattle.scheme.specs.Count.{count as countOf};
@@ -11,18 +12,15 @@ ghost use Rattle.count.specs.Sum.{sumAnswer};
 use answer::Counted;
 use answer::Refusal;
 use counter::Reading;
-use format::C_WIDTH;
 use format::COUNT_TOKEN;
-use format::HEADER;
-use format::MV_WIDTH;
 use hmac::Keyed;
 use store::Checked;
 
 // Reads the counters of shares 0 to p out of the part that holds table C, from the prepared F(KC, x),
 // and adds up their counts; 13 where one is damaged. [01:OP9 RS6 FM8]
 fn sum_of_counts(t: &[u8], c: usize, clx: Keyed, p: u64) -> Counted
-    requires { ⌜ (length (now t) ≡ 61 * c) × ((c ≤ 4096) × (p ≤ 15)) ⌝ }
-    ensures { λ r. ⌜ counted r ≡ sumAnswer (shareRead clx c (rows 61 c (now (t .entry)))) p ⌝ }
+    requires { ⌜ (length (now t) ≡ widthOf tableC * c) × ((c ≤ 4096) × (p ≤ 15)) ⌝ }
+    ensures { λ r. ⌜ counted r ≡ sumAnswer (shareRead clx c (rows (widthOf tableC) c (now (t .entry)))) p ⌝ }
 {
     let mut sum: u64 = 0;
     let mut u: u64 = 0;
@@ -48,10 +46,11 @@ pub fn count(store: &[u8], token: &[u8]) -> Counted
     match checked {
         Checked::Refused(r) => Counted::Refused(r),
         Checked::Fit(z) => {
-            let a = HEADER + MV_WIDTH * z.m;
-            let e = HEADER + MV_WIDTH * z.m + C_WIDTH * z.c;
+            let c = z.c;
+            let a = c.start;
+            let e = c.end;
             let clx = hmac::prepare(token);
-            sum_of_counts(&store[a..e], z.c, clx, z.p)
+            sum_of_counts(&store[a..e], c.rows, clx, z.p)
         }
     }
 }

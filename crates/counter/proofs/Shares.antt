@@ -10,7 +10,7 @@ use Rattle.hmac.specs.declared.Keyed.{Keyed}
 use Rattle.table.specs.Lists.{anyOf, sum, upTo}
 use Rattle.table.specs.Table.{Table}
 use Rattle.table.proofs.Below.{below, up-to-below, sum-next, none-next, any-below}
-use Rattle.scheme.specs.Store.{sizesOf, cut}
+use Rattle.scheme.specs.Store.{tableC, sizesOf, cut}
 use Rattle.scheme.specs.Reading.{limit, Reading, damaged, countOf, reading}
 use Rattle.scheme.specs.Reading.Reading.{counter, damage}
 use Rattle.scheme.specs.Find.{shareReading}
@@ -47,7 +47,7 @@ module _ (f : ℕ → Reading) where
   summed-all p n s = rw (up-to-below p) (s .sound, s .total)
 
 -- the reading of a share, from the prepared F(KC, x) and table C
-pub share-read : (clx : Keyed) (key before : List ℕ) (c : ℕ) (t : Table) → Prepared clx key → c ≡ sizesOf before .c → t ≡ cut before .tC
+pub share-read : (clx : Keyed) (key before : List ℕ) (c : ℕ) (t : Table) → Prepared clx key → c ≡ sizesOf before .c → t ≡ cut before .table tableC
     → shareRead clx c t ≡ shareReading program before key
 unfolding shareRead shareReading
 share-read clx key before c t p e f = λ j u. reading program (e j) (share-is clx key u p j) (f j)

@@ -3,6 +3,7 @@ ghost use mathlib.Core.Path.{_≡_};
 ghost use mathlib.Core.List.{[]};
 ghost use Prim.Native.Nat.{_*_, _≤_, _<_};
 ghost use lib.ListN.{length, getD};
+ghost use Rattle.scheme.specs.Store.{tableC, widthOf};
 ghost use Rattle.table.specs.Table.{rows, body};
 ghost use Rattle.scheme.specs.Reading.{limit, walk, reading};
 ghost use Rattle.suite.specs.Program.{program};
@@ -10,11 +11,11 @@ ghost use Rattle.format.specs.Tags.{KeysOf};
 ghost use Rattle.counter.specs.Walks.{counterTags, anchorTags, heldIn, lastPlace, noted};
 ghost use Rattle.counter.specs.Outcome.{numbersIn, numbersOr, numbersOf, anchorBad, counterBad, readingOf, placesNoted, shareRead};
 use format::AnchorNumber;
-use format::C_WIDTH;
 use format::Keys;
 use format::Position;
 use format::row;
 use hmac::Keyed;
+use store::C_WIDTH;
 
 // The two numbers in a row of C. [01:ST10 ST11]
 pub struct Numbers {
@@ -24,8 +25,8 @@ pub struct Numbers {
 
 // The numbers in the row of C at a place.
 fn numbers_at(t: &[u8], c: usize, i: usize, ce: &[u8; 32]) -> Numbers
-    requires { ⌜ (i < c) × (length (now t) ≡ 61 * c) ⌝ }
-    ensures { λ r. ⌜ numbersOf r ≡ numbersIn (now (ce .entry)) (body (getD (rows 61 c (now (t .entry))) i [])) ⌝ }
+    requires { ⌜ (i < c) × (length (now t) ≡ widthOf tableC * c) ⌝ }
+    ensures { λ r. ⌜ numbersOf r ≡ numbersIn (now (ce .entry)) (body (getD (rows (widthOf tableC) c (now (t .entry))) i [])) ⌝ }
 {
     let plain = row::text_at(t, c, i, ce);
     Numbers {
@@ -36,8 +37,8 @@ fn numbers_at(t: &[u8], c: usize, i: usize, ce: &[u8; 32]) -> Numbers
 
 // The numbers in the row of C at a place; others where the table has no such row.
 fn numbers_or(t: &[u8], c: usize, i: usize, ce: &[u8; 32], other: Numbers) -> Numbers
-    requires { ⌜ length (now t) ≡ 61 * c ⌝ }
-    ensures { λ r. ⌜ numbersOf r ≡ numbersOr (now (ce .entry)) (rows 61 c (now (t .entry))) i (numbersOf other) ⌝ }
+    requires { ⌜ length (now t) ≡ widthOf tableC * c ⌝ }
+    ensures { λ r. ⌜ numbersOf r ≡ numbersOr (now (ce .entry)) (rows (widthOf tableC) c (now (t .entry))) i (numbersOf other) ⌝ }
 {
     if i < c {
         numbers_at(t, c, i, ce)
@@ -54,8 +55,8 @@ struct Anchors {
 
 // The greatest B up to c such that anchors 1 to B are all held. [01:RC1]
 fn anchors_held(t: &[u8], c: usize, ct: Keyed) -> Anchors
-    requires { ⌜ (length (now t) ≡ 61 * c) × (c ≤ 4096) ⌝ }
-    ensures { λ r. ⌜ (r .b .0 ≡ walk (heldIn (anchorTags ct) (rows 61 c (now (t .entry)))) c 0) × (r .at ≡ lastPlace (anchorTags ct) (rows 61 c (now (t .entry))) 0 (r .b .0)) ⌝ }
+    requires { ⌜ (length (now t) ≡ widthOf tableC * c) × (c ≤ 4096) ⌝ }
+    ensures { λ r. ⌜ (r .b .0 ≡ walk (heldIn (anchorTags ct) (rows (widthOf tableC) c (now (t .entry)))) c 0) × (r .at ≡ lastPlace (anchorTags ct) (rows (widthOf tableC) c (now (t .entry))) 0 (r .b .0)) ⌝ }
 {
     let mut b: u64 = 0;
     let mut at = c;
@@ -88,9 +89,9 @@ struct Counters {
 // The greatest k up to c such that counters Start + 1 to Start + k are all held. [01:RC3]
 // Their places are noted.
 fn counters_held(t: &[u8], c: usize, ct: Keyed, start: Position, places: &mut [u16]) -> Counters
-    requires { ⌜ ((length (now t) ≡ 61 * c) × (c ≤ length (now places))) × ((c ≤ 4096) × (start .0 ≤ limit)) ⌝ }
-    ensures { λ r. ⌜ (r .k ≡ walk (heldIn (counterTags ct) (rows 61 c (now (t .entry)))) c (start .0)) × (r .at ≡ lastPlace (counterTags ct) (rows 61 c (now (t .entry))) (start .0) (r .k)) ⌝ }
-    ensures { λ r. ⌜ now (places .exit) ≡ noted (counterTags ct) (rows 61 c (now (t .entry))) (start .0) (r .k) (now (places .entry)) ⌝ }
+    requires { ⌜ ((length (now t) ≡ widthOf tableC * c) × (c ≤ length (now places))) × ((c ≤ 4096) × (start .0 ≤ limit)) ⌝ }
+    ensures { λ r. ⌜ (r .k ≡ walk (heldIn (counterTags ct) (rows (widthOf tableC) c (now (t .entry)))) c (start .0)) × (r .at ≡ lastPlace (counterTags ct) (rows (widthOf tableC) c (now (t .entry))) (start .0) (r .k)) ⌝ }
+    ensures { λ r. ⌜ now (places .exit) ≡ noted (counterTags ct) (rows (widthOf tableC) c (now (t .entry))) (start .0) (r .k) (now (places .entry)) ⌝ }
 {
     let mut k: u64 = 0;
     let mut at = c;
@@ -145,9 +146,9 @@ pub enum Reading {
 // + k could pass 2^64; only anchor B and counter Start + k are decrypted, each where it exists.
 // [01:RC5 RC6 RC7]
 pub fn read_by(t: &[u8], c: usize, cl: &[u8; 32], keys: Keys, places: &mut [u16]) -> Reading
-    requires { ⌜ ((length (now t) ≡ 61 * c) × (c ≤ length (now places))) × ((c ≤ 4096) × KeysOf keys (now cl)) ⌝ }
-    ensures { λ r. ⌜ readingOf r ≡ reading program c (now (cl .entry)) (rows 61 c (now (t .entry))) ⌝ }
-    ensures { λ _. ⌜ now (places .exit) ≡ placesNoted c (now (cl .entry)) (rows 61 c (now (t .entry))) (now (places .entry)) ⌝ }
+    requires { ⌜ ((length (now t) ≡ widthOf tableC * c) × (c ≤ length (now places))) × ((c ≤ 4096) × KeysOf keys (now cl)) ⌝ }
+    ensures { λ r. ⌜ readingOf r ≡ reading program c (now (cl .entry)) (rows (widthOf tableC) c (now (t .entry))) ⌝ }
+    ensures { λ _. ⌜ now (places .exit) ≡ placesNoted c (now (cl .entry)) (rows (widthOf tableC) c (now (t .entry))) (now (places .entry)) ⌝ }
 {
     let ct = keys.ct;
     let ce = keys.ce;
@@ -173,8 +174,8 @@ pub fn read_by(t: &[u8], c: usize, cl: &[u8; 32], keys: Keys, places: &mut [u16]
 
 // Reads the counter of CL, whose keys are given; the places that the reading notes aren't needed.
 pub fn read_keyed(t: &[u8], c: usize, cl: &[u8; 32], keys: Keys) -> Reading
-    requires { ⌜ (length (now t) ≡ 61 * c) × ((c ≤ 4096) × KeysOf keys (now cl)) ⌝ }
-    ensures { λ r. ⌜ readingOf r ≡ reading program c (now (cl .entry)) (rows 61 c (now (t .entry))) ⌝ }
+    requires { ⌜ (length (now t) ≡ widthOf tableC * c) × ((c ≤ 4096) × KeysOf keys (now cl)) ⌝ }
+    ensures { λ r. ⌜ readingOf r ≡ reading program c (now (cl .entry)) (rows (widthOf tableC) c (now (t .entry))) ⌝ }
 {
     let mut places = [0u16; 4096];
     read_by(t, c, cl, keys, &mut places)
@@ -182,16 +183,16 @@ pub fn read_keyed(t: &[u8], c: usize, cl: &[u8; 32], keys: Keys) -> Reading
 
 // Reads the counter of CL out of the part that holds table C.
 pub fn read(t: &[u8], c: usize, cl: &[u8; 32]) -> Reading
-    requires { ⌜ (length (now t) ≡ 61 * c) × (c ≤ 4096) ⌝ }
-    ensures { λ r. ⌜ readingOf r ≡ reading program c (now (cl .entry)) (rows 61 c (now (t .entry))) ⌝ }
+    requires { ⌜ (length (now t) ≡ widthOf tableC * c) × (c ≤ 4096) ⌝ }
+    ensures { λ r. ⌜ readingOf r ≡ reading program c (now (cl .entry)) (rows (widthOf tableC) c (now (t .entry))) ⌝ }
 {
     read_keyed(t, c, cl, format::keys_of(cl))
 }
 
 // Reads the counter of share u, whose CL comes from the prepared F(KC, x).
 pub fn read_share(t: &[u8], c: usize, clx: Keyed, u: u64) -> Reading
-    requires { ⌜ (length (now t) ≡ 61 * c) × (c ≤ 4096) ⌝ }
-    ensures { λ r. ⌜ readingOf r ≡ shareRead clx c (rows 61 c (now (t .entry))) u ⌝ }
+    requires { ⌜ (length (now t) ≡ widthOf tableC * c) × (c ≤ 4096) ⌝ }
+    ensures { λ r. ⌜ readingOf r ≡ shareRead clx c (rows (widthOf tableC) c (now (t .entry))) u ⌝ }
 {
     let cl = format::numbered(clx, u);
     read(t, c, &cl)

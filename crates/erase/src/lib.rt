@@ -11,13 +11,11 @@ ghost use Rattle.store.specs.Check.{checkedOf};
 ghost use Rattle.store.specs.declared.Checked.the-variants.{Fit};
 use answer::Counted;
 use answer::Refusal;
-use format::HEADER;
 use format::ID;
-use format::M_WIDTH;
-use format::MV_WIDTH;
-use format::V_WIDTH;
 use store::Checked;
+use store::M_WIDTH;
 use store::Shape;
+use store::V_WIDTH;
 
 // The erasure in a store that passed the checks: V is gone through once, and each row of the id in it
 // takes its M rows along. Tells how many V rows were freed. [01:OP4 OP5]

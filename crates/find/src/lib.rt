@@ -19,15 +19,13 @@ use answer::Counted;
 use answer::Refusal;
 use counter::Reading;
 use format::Address;
-use format::C_WIDTH;
 use format::FIND_TOKEN;
-use format::HEADER;
 use format::ID;
-use format::M_WIDTH;
-use format::MV_WIDTH;
 use format::row;
 use hmac::Keyed;
+use store::C_WIDTH;
 use store::Checked;
+use store::M_WIDTH;
 use store::Shape;
 
 // What the shares count, and the sum; or that one is damaged.

@@ -15,7 +15,7 @@ use Rattle.chacha20.specs.Cipher.{E}
 use Rattle.table.specs.Table.{Row, rows, body}
 use Rattle.table.proofs.Walk.{row-part, row-length, field-at, body-field, body-tail}
 use Rattle.scheme.specs.Suite.{number8}
-use Rattle.scheme.specs.Store.{entryRow, reverseRow, countedRow, clIn}
+use Rattle.scheme.specs.Store.{tableM, tableS, widthOf, entryRow, reverseRow, countedRow, clIn}
 use Rattle.suite.specs.Program.{program}
 use Rattle.format.specs.declared.Address.{Address}
 use Rattle.format.specs.declared.Keys.{Keys}
@@ -54,23 +54,23 @@ module _ (k : Keyed) (mt : List ℕ) (a : Address) (p : Prepared k mt) (tag : Li
 
 module _ (c i : ℕ) (t : List ℕ) (h : i < c) where
   -- of a row of M or C
-  pub nonce-at : take (61 * i + 45 - (61 * i + 33)) (drop (61 * i + 33) t) ≡ take 12 (drop 32 (body (getD (rows 61 c t) i [])))
+  pub nonce-at : take (widthOf tableM * i + 45 - (widthOf tableM * i + 33)) (drop (widthOf tableM * i + 33) t) ≡ take 12 (drop 32 (body (getD (rows (widthOf tableM) c t) i [])))
   nonce-at =
-      ap (λ (k : ℕ). take k (drop (61 * i + 33) t)) (let e : 61 * i + 45 - (61 * i + 33) ≡ 12 = omega arith in e)
-      ∙ sym (field-at 61 c i 33 12 t h (lit≤ tt)) ∙ ap (take 12) (sym (drop-drop 32 1 (getD (rows 61 c t) i [])))
+      ap (λ (k : ℕ). take k (drop (widthOf tableM * i + 33) t)) (let e : widthOf tableM * i + 45 - (widthOf tableM * i + 33) ≡ 12 = omega arith in e)
+      ∙ sym (field-at (widthOf tableM) c i 33 12 t h (lit≤ tt)) ∙ ap (take 12) (sym (drop-drop 32 1 (getD (rows (widthOf tableM) c t) i [])))
 
-  pub text-at : length t ≡ 61 * c → take (61 * i + 61 - (61 * i + 45)) (drop (61 * i + 45) t) ≡ drop 44 (body (getD (rows 61 c t) i []))
+  pub text-at : length t ≡ widthOf tableM * c → take (widthOf tableM * i + (widthOf tableM) - (widthOf tableM * i + 45)) (drop (widthOf tableM * i + 45) t) ≡ drop 44 (body (getD (rows (widthOf tableM) c t) i []))
   text-at e =
-      let row = getD (rows 61 c t) i [] in
-      let l : length row ≡ 61 = sym (ap length (row-part 61 c i t h)) ∙ row-length 61 c i t h e in
-      ap (λ (k : ℕ). take k (drop (61 * i + 45) t)) (let e : 61 * i + 61 - (61 * i + 45) ≡ 16 = omega arith in e)
-      ∙ sym (field-at 61 c i 45 16 t h (lit≤ tt)) ∙ take-all 16 (drop 45 row) (omega (arith, length-drop 45 row)) ∙ sym (drop-drop 44 1 row)
+      let row = getD (rows (widthOf tableM) c t) i [] in
+      let l : length row ≡ widthOf tableM = sym (ap length (row-part (widthOf tableM) c i t h)) ∙ row-length (widthOf tableM) c i t h e in
+      ap (λ (k : ℕ). take k (drop (widthOf tableM * i + 45) t)) (let e : widthOf tableM * i + (widthOf tableM) - (widthOf tableM * i + 45) ≡ 16 = omega arith in e)
+      ∙ sym (field-at (widthOf tableM) c i 45 16 t h (lit≤ tt)) ∙ take-all 16 (drop 45 row) (omega (arith, length-drop 45 row)) ∙ sym (drop-drop 44 1 row)
 
 -- of a row of S [01:ST12]
 pub cl-opened : (ks t : List ℕ) (s i : ℕ) → i < s
-    → E ks (take (45 * i + 13 - (45 * i + 1)) (drop (45 * i + 1) t)) (take (45 * i + 45 - (45 * i + 13)) (drop (45 * i + 13) t)) ≡ clIn program ks (body (getD (rows 45 s t) i []))
+    → E ks (take (widthOf tableS * i + 13 - (widthOf tableS * i + 1)) (drop (widthOf tableS * i + 1) t)) (take (widthOf tableS * i + widthOf tableS - (widthOf tableS * i + 13)) (drop (widthOf tableS * i + 13) t)) ≡ clIn program ks (body (getD (rows (widthOf tableS) s t) i []))
 unfolding clIn program
 cl-opened ks t s i h =
     ap₂ (λ (n x : List ℕ). E ks n x)
-    (ap (λ (k : ℕ). take k (drop (45 * i + 1) t)) (let e : 45 * i + 13 - (45 * i + 1) ≡ 12 = omega arith in e) ∙ sym (body-field 45 s i 0 12 t h (lit≤ tt)))
-    (ap (λ (k : ℕ). take k (drop (45 * i + 13) t)) (let e : 45 * i + 45 - (45 * i + 13) ≡ 32 = omega arith in e) ∙ sym (body-tail 45 s i 12 t h))
+    (ap (λ (k : ℕ). take k (drop (widthOf tableS * i + 1) t)) (let e : widthOf tableS * i + 13 - (widthOf tableS * i + 1) ≡ 12 = omega arith in e) ∙ sym (body-field (widthOf tableS) s i 0 12 t h (lit≤ tt)))
+    (ap (λ (k : ℕ). take k (drop (widthOf tableS * i + 13) t)) (let e : widthOf tableS * i + widthOf tableS - (widthOf tableS * i + 13) ≡ 32 = omega arith in e) ∙ sym (body-tail (widthOf tableS) s i 12 t h))

@@ -30,24 +30,6 @@ pub const COUNT_TOKEN: usize = 32;
 // The length of a compaction token. [01:KT10]
 pub const COMPACTION_TOKEN: usize = 32;
 
-// The length of a store's header. [01:ST2]
-pub const HEADER: usize = 8;
-
-// The width of a row of M. [01:ST6]
-pub const M_WIDTH: usize = 61;
-
-// The width of a row of V. [01:ST8]
-pub const V_WIDTH: usize = 49;
-
-// M and V have as many rows: the width of one of each. [01:ST3]
-pub const MV_WIDTH: usize = M_WIDTH + V_WIDTH;
-
-// The width of a row of C. [01:ST9]
-pub const C_WIDTH: usize = 61;
-
-// The width of a row of S. [01:ST12]
-pub const S_WIDTH: usize = 45;
-
 // Entry address: the number in the tag of an M row. [01:ST17 FM10]
 pub struct Address(pub u64);
 

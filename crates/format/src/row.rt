@@ -8,22 +8,22 @@ ghost use lib.ListN.{length, getD};
 ghost use Rattle.chacha20.specs.Cipher.{E};
 ghost use Rattle.table.specs.Table.{rows, isFree, body};
 ghost use Rattle.scheme.specs.Suite.{number8};
-ghost use Rattle.scheme.specs.Store.{entryRow, reverseRow, countedRow, counterRow, anchorRow, logRow, clIn};
+ghost use Rattle.scheme.specs.Store.{tableM, tableS, widthOf, entryRow, reverseRow, countedRow, counterRow, anchorRow, logRow, clIn};
 ghost use Rattle.suite.specs.Program.{program};
 ghost use Rattle.format.specs.Tags.{Prepared, KeysOf};
 ghost use Rattle.format.specs.Rows.{textIn};
 use crate::Address;
 use crate::AnchorNumber;
-use crate::C_WIDTH;
 use crate::Keys;
-use crate::M_WIDTH;
 use crate::Position;
-use crate::S_WIDTH;
-use crate::V_WIDTH;
 use crate::anchor_tag;
 use crate::counter_tag;
 use crate::entry_tag;
 use hmac::Keyed;
+use store::C_WIDTH;
+use store::M_WIDTH;
+use store::S_WIDTH;
+use store::V_WIDTH;
 
 // A row of M or of C: mark, tag, nonce, and 16 bytes under a key. [01:ST6 ST9]
 pub fn sealed_row(tag: &[u8], key: &[u8], nonce: &[u8], plain: &[u8]) -> [u8; M_WIDTH]
@@ -122,8 +122,8 @@ pub fn anchor_row(
 
 // The text of the row of M or C at a place, under a key. [01:ST6 ST9]
 pub fn text_at(t: &[u8], n: usize, i: usize, key: &[u8; 32]) -> [u8; 16]
-    requires { ⌜ (i < n) × (length (now t) ≡ 61 * n) ⌝ }
-    ensures { λ r. ⌜ r ≡ textIn (now (key .entry)) (body (getD (rows 61 n (now (t .entry))) i [])) ⌝ }
+    requires { ⌜ (i < n) × (length (now t) ≡ widthOf tableM * n) ⌝ }
+    ensures { λ r. ⌜ r ≡ textIn (now (key .entry)) (body (getD (rows (widthOf tableM) n (now (t .entry))) i [])) ⌝ }
 {
     let at = M_WIDTH * i;
     let nonce = at + 33;
@@ -147,8 +147,8 @@ pub fn log_row(log: &[u8]) -> [u8; S_WIDTH]
 
 // Whether the row of S at an index is used. [01:ST5]
 pub fn is_used(t: &[u8], s: usize, i: usize) -> bool
-    requires { ⌜ (i < s) × (length (now t) ≡ 45 * s) ⌝ }
-    ensures { λ r. ⌜ r ≡ not (isFree (getD (rows 45 s (now (t .entry))) i [])) ⌝ }
+    requires { ⌜ (i < s) × (length (now t) ≡ widthOf tableS * s) ⌝ }
+    ensures { λ r. ⌜ r ≡ not (isFree (getD (rows (widthOf tableS) s (now (t .entry))) i [])) ⌝ }
 {
     let at = S_WIDTH * i;
     t[at] != 0
@@ -156,8 +156,8 @@ pub fn is_used(t: &[u8], s: usize, i: usize) -> bool
 
 // Decrypts the CL in the row of S at an index. [01:ST12]
 pub fn open_row(t: &[u8], s: usize, i: usize, ks: &[u8], cl: &mut [u8])
-    requires { ⌜ (i < s) × ((length (now t) ≡ 45 * s) × ((length (now ks) ≡ 32) × (length (now cl) ≡ 32))) ⌝ }
-    ensures { λ _. ⌜ now (cl .exit) ≡ clIn program (now (ks .entry)) (body (getD (rows 45 s (now (t .entry))) i [])) ⌝ }
+    requires { ⌜ (i < s) × ((length (now t) ≡ widthOf tableS * s) × ((length (now ks) ≡ 32) × (length (now cl) ≡ 32))) ⌝ }
+    ensures { λ _. ⌜ now (cl .exit) ≡ clIn program (now (ks .entry)) (body (getD (rows (widthOf tableS) s (now (t .entry))) i [])) ⌝ }
 {
     let at = S_WIDTH * i;
     let nonce = at + 1;

@@ -26,21 +26,19 @@ use counter::Counter;
 use counter::GREATEST;
 use counter::Reading;
 use format::Address;
-use format::C_WIDTH;
-use format::HEADER;
 use format::ID;
 use format::INSERT_TOKEN;
 use format::Keys;
-use format::M_WIDTH;
-use format::MV_WIDTH;
 use format::NONCE;
 use format::Position;
-use format::S_WIDTH;
-use format::V_WIDTH;
 use format::row;
+use store::C_WIDTH;
 use store::Checked;
 use store::Free;
+use store::M_WIDTH;
+use store::S_WIDTH;
 use store::Shape;
+use store::V_WIDTH;
 
 // What tests make of a call: it may go on, or the first of them that holds refuses it.
 enum Tested {

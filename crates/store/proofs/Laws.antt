@@ -20,7 +20,7 @@ use Rattle.answer.specs.declared.Refusal.the-variants.{Header, Mark}
 use Rattle.answer.specs.Verdict.{Test, verdict}
 use Rattle.scheme.specs.Store.{Sizes, Which, widthOf, rowsOf, greatestMark, startOf, headerLength, rowsBad, sizesBad, lengthFor, headerOf, sizesOf, cut, headerBad, marksBad, stateTests, fresh, makeTests, make}
 use Rattle.scheme.specs.Layout.{Span, spanOf, Laid}
-use Rattle.scheme.proofs.Plan.{laid-cut}
+use Rattle.scheme.proofs.Plan.{laid-cut, laid-end, laid-inside, laid-long, laid-rows}
 use Rattle.store.specs.declared.Shape.{Shape}
 use Rattle.store.specs.declared.Surveyed.{Surveyed}
 use Rattle.store.specs.declared.Surveys.{Surveys}
@@ -208,35 +208,66 @@ pub fit-verdict : (b : List ℕ) (z : Shape) (ts : List Test) → checkedOf b �
 unfolding stateTests
 fit-verdict b z ts e = let f = fit b z e in rw (f .header, f .marks) refl
 
+-- the number of rows of each table is in range
+rows-range : (z : Sizes) (k : Which) → InRange z → (1 ≤ rowsOf z k) × (rowsOf z k ≤ 4096)
+rows-range z tableM r = (r .m-least, r .m-most)
+rows-range z tableV r = (r .m-least, r .m-most)
+rows-range z tableC r = (r .c-least, r .c-most)
+rows-range z tableS r = (r .s-least, r .s-most)
+
+-- where the tables stand in what the checks found
+spans : (b : List ℕ) (k : Which) → spanIn (shapeBy b (sizesOf b)) k ≡ spanOf (sizesOf b) k
+spans b tableM = refl
+spans b tableV = refl
+spans b tableC = refl
+spans b tableS = refl
+
+found : (b : List ℕ) (k : Which) → freeRows (tableBy b (sizesOf b) k) ≡ partIn (shapeBy b (sizesOf b)) k .free
+found b tableM = refl
+found b tableV = refl
+found b tableC = refl
+found b tableS = refl
+
+-- what an operation needs to know of a table's part: it lies in the slice and has so many rows, and these are the table's
+pub record Fits (b : List ℕ) (z : Shape) (k : Which) : Type 0 where
+  pub from : partIn z k .start ≤ partIn z k .end
+  pub to : partIn z k .end ≤ length b
+  pub least : 1 ≤ partIn z k .rows
+  pub most : partIn z k .rows ≤ 4096
+  pub long : length (take (partIn z k .end - partIn z k .start) (drop (partIn z k .start) b)) ≡ widthOf k * partIn z k .rows
+  pub same : rows (widthOf k) (partIn z k .rows) (take (partIn z k .end - partIn z k .start) (drop (partIn z k .start) b)) ≡ cut b .table k
+
 -- of a slice that passed
 module _ (b : List ℕ) (z : Shape) (e : checkedOf b ≡ Fit z) where
   -- its sizes, each in range
-  pub fit-sizes : sizesOf b ≡ sizesIn z
-  fit-sizes = sym (ap sizesIn (fit b z e .shape))
+  pub fit-sizes : sizesIn z ≡ sizesOf b
+  fit-sizes = ap sizesIn (fit b z e .shape)
 
   pub fit-range : InRange (sizesIn z)
-  fit-range = subst InRange fit-sizes (good-header b (fit b z e .header) .range)
+  fit-range = subst InRange (sym fit-sizes) (good-header b (fit b z e .header) .range)
+
+  fit-spans : spanIn z ≡ spanOf (sizesOf b)
+  fit-spans = ap spanIn (fit b z e .shape) ∙ fun-ext (spans b)
 
   -- its tables stand where their parts say
   pub laid-fit : Laid (spanIn z) b (cut b)
-  laid-fit =
-      let g = good-header b (fit b z e .header) in
-      subst (λ (z : Shape). Laid (spanIn z) b (cut b)) (sym (fit b z e .shape))
-      (subst (λ (at : Which → Span). Laid at b (cut b)) (sym (fun-ext spans)) (laid-cut b (g .whole)))
-    where
-      spans : (k : Which) → spanIn (shapeBy b (sizesOf b)) k ≡ spanOf (sizesOf b) k
-      spans tableM = refl
-      spans tableV = refl
-      spans tableC = refl
-      spans tableS = refl
+  laid-fit = subst (λ (at : Which → Span). Laid at b (cut b)) (sym fit-spans) (laid-cut b (good-header b (fit b z e .header) .whole))
 
   -- how many rows of a table are free
   pub free-rows : (k : Which) → freeRows (cut b .table k) ≡ partIn z k .free
   unfolding cut
-  free-rows k = found k ∙ sym (ap (λ (z : Shape). partIn z k .free) (fit b z e .shape))
-    where
-      found : (k : Which) → freeRows (tableBy b (sizesOf b) k) ≡ partIn (shapeBy b (sizesOf b)) k .free
-      found tableM = refl
-      found tableV = refl
-      found tableC = refl
-      found tableS = refl
+  free-rows k = found b k ∙ sym (ap (λ (z : Shape). partIn z k .free) (fit b z e .shape))
+
+  pub fits : (k : Which) → Fits b z k
+  fits k =
+      let l = laid-fit in
+      let n : partIn z k .rows ≡ rowsOf (sizesOf b) k = ap (λ (at : Which → Span). at k .rows) fit-spans in
+      let r = rows-range (sizesOf b) k (good-header b (fit b z e .header) .range) in
+      record {
+        from = omega (arith, laid-end (spanIn z) b (cut b) l k);
+        to = laid-inside (spanIn z) b (cut b) l k;
+        least = omega (arith, n, r .0);
+        most = omega (arith, n, r .1);
+        long = laid-long (spanIn z) b (cut b) l k;
+        same = laid-rows (spanIn z) b (cut b) l k;
+      }

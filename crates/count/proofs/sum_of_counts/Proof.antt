@@ -2,6 +2,7 @@
 use Prim.Native.Nat.{ℕ, _+_, _-_, _≤_}
 use mathlib.Core.Path.{_≡_, sym, ap, subst, _∙_}
 use native.Mathlib.Omega.{arith}
+use Rattle.scheme.specs.Store.{tableC, widthOf}
 use Rattle.table.specs.Table.{rows}
 use Rattle.format.specs.Tags.{numberedBy}
 use Rattle.counter.specs.Outcome.{readingOf, shareRead}
@@ -13,33 +14,33 @@ use Rattle.count.proofs.sum_of_counts.Statement.{statement}
 use Rattle.count.proofs.sum_of_counts.Tie as tie
 
 abbrev Inv-loop : tie.InvT-loop
-Inv-loop t c clx p sum₀ u₀ sum u = (u ≤ p + 1) × Summed (shareRead clx c (rows 61 c t)) u sum
+Inv-loop t c clx p sum₀ u₀ sum u = (u ≤ p + 1) × Summed (shareRead clx c (rows (widthOf tableC) c t)) u sum
 
 abbrev μ-loop : tie.MeasureT-loop
 μ-loop t c clx p sum₀ u₀ sum u = p + 1 - u
 
 loop-holds : tie.Need-loop-holds Inv-loop μ-loop
-loop-holds c = let a = c .before .args in (search needs, summed-none (shareRead (a .clx) (a .c) (rows 61 (a .c) (a .t .now))))
+loop-holds c = let a = c .before .args in (search needs, summed-none (shareRead (a .clx) (a .c) (rows (widthOf tableC) (a .c) (a .t .now))))
 
 returns : tie.Need-returns Inv-loop μ-loop
 returns c =
     let r = c .before .before in
     let l = r .before .before .loop in
     let a = r .before .before .before .before .args in
-    let f = shareRead (a .clx) (a .c) (rows 61 (a .c) (a .t .now)) in
+    let f = shareRead (a .clx) (a .c) (rows (widthOf tableC) (a .c) (a .t .now)) in
     sum-damage f (a .p) (summed-damage f (l .u) (a .p) (omega (arith, r .before .loop-test .taken)) (sym (ap readingOf (c .enum-told .given .1)) ∙ r .read-share .ensures))
 
 -- one share more
 more : (c : tie.After-struct-known Inv-loop μ-loop) →
     let l = c .before .before .before .before .before .before .loop in
     let a = c .before .before .before .before .before .before .before .before .args in
-    Summed (shareRead (a .clx) (a .c) (rows 61 (a .c) (a .t .now))) (l .u + 1) (l .sum + c .before .before .reading .given .0 .0 .count)
+    Summed (shareRead (a .clx) (a .c) (rows (widthOf tableC) (a .c) (a .t .now))) (l .u + 1) (l .sum + c .before .before .reading .given .0 .0 .count)
 unfolding shareRead
 more c =
     let r = c .before .before .before .before in
     let l = r .before .before .loop in
     let a = r .before .before .before .before .args in
-    let t = rows 61 (a .c) (a .t .now) in
+    let t = rows (widthOf tableC) (a .c) (a .t .now) in
     let g = c .before .before .reading .given in
     let z = g .0 .0 in
     let e = sym (ap readingOf (g .1)) ∙ r .read-share .ensures in
@@ -56,7 +57,7 @@ returns-2 : tie.Need-returns-2 Inv-loop μ-loop
 returns-2 c =
     let l = c .before .loop in
     let a = c .before .before .before .args in
-    let f = shareRead (a .clx) (a .c) (rows 61 (a .c) (a .t .now)) in
+    let f = shareRead (a .clx) (a .c) (rows (widthOf tableC) (a .c) (a .t .now)) in
     let e : l .u ≡ a .p + 1 = omega (arith, l .inv .0, c .loop-test .left) in
     sum-done f (a .p) (l .sum) (summed-all f (a .p) (l .sum) (subst (λ (u : ℕ). Summed f u (l .sum)) e (l .inv .1)))
 

@@ -1,6 +1,7 @@
 -- The plaintext is cut in two.
 use mathlib.Core.List.{[]}
 use lib.ListN.{getD}
+use Rattle.scheme.specs.Store.{tableC, widthOf}
 use Rattle.table.specs.Table.{rows, body}
 use Rattle.counter.proofs.Readings.{numbers-are}
 use borrow.Author.Needs.{needs}
@@ -12,7 +13,7 @@ returns c =
     let g = c .before .before .before in
     let x = g .before .before .before in
     let a = x .before .before .args in
-    numbers-are (a .ce .now) (body (getD (rows 61 (a .c) (a .t .now)) (a .i) [])) (x .text-at .result) (g .get .result) (c .get2 .result)
+    numbers-are (a .ce .now) (body (getD (rows (widthOf tableC) (a .c) (a .t .now)) (a .i) [])) (x .text-at .result) (g .get .result) (c .get2 .result)
     (search needs) (x .text-at .ensures) (g .get .ensures) (c .get2 .ensures)
 
 pub numbers-at-spec : {M : Type 1} → statement M

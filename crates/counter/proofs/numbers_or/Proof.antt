@@ -2,6 +2,7 @@
 use native.Mathlib.Omega.{arith}
 use borrow.Author.Tests.{lt-ltb, le-ltb}
 use lib.ListN.{length}
+use Rattle.scheme.specs.Store.{tableC, widthOf}
 use Rattle.table.specs.Table.{rows}
 use Rattle.table.proofs.Rows.{rows-length}
 use Rattle.counter.specs.Outcome.{numbersOr}
@@ -13,13 +14,13 @@ returns : tie.Need-returns
 unfolding numbersOr
 returns c =
     let a = c .before .before .before .args in
-    rw (lt-ltb (a .i) (length (rows 61 (a .c) (a .t .now))) (omega (arith, rows-length 61 (a .c) (a .t .now)))) (c .numbers-at .ensures)
+    rw (lt-ltb (a .i) (length (rows (widthOf tableC) (a .c) (a .t .now))) (omega (arith, rows-length (widthOf tableC) (a .c) (a .t .now)))) (c .numbers-at .ensures)
 
 returns-2 : tie.Need-returns-2
 unfolding numbersOr
 returns-2 c =
     let a = c .before .before .args in
-    rw (le-ltb (a .i) (length (rows 61 (a .c) (a .t .now))) (omega (arith, rows-length 61 (a .c) (a .t .now))))
+    rw (le-ltb (a .i) (length (rows (widthOf tableC) (a .c) (a .t .now))) (omega (arith, rows-length (widthOf tableC) (a .c) (a .t .now))))
 
 pub numbers-or-spec : {M : Type 1} → statement M
 numbers-or-spec = tie.close (tie.spec (λ c κs. search needs) returns returns-2)

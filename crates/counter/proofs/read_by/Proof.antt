@@ -3,6 +3,7 @@ use mathlib.Core.Path.{_≡_, sym, _∙_}
 use mathlib.Core.Bool.{false}
 use borrow.Author.Tests.{ltb-false}
 use lib.Dec.{ltb}
+use Rattle.scheme.specs.Store.{tableC, widthOf}
 use Rattle.table.specs.Table.{rows}
 use Rattle.table.proofs.Counting.{neither}
 use Rattle.scheme.specs.Reading.{limit, anchorNumbers, counterNumbers, countersHeld}
@@ -15,19 +16,19 @@ use Rattle.counter.proofs.read_by.Tie as tie
 
 anchor : (c : tie.After-numbers-or) →
     let a = c .before .before .before .before .before .before .before .args in
-    numbersOf (c .numbers-or .result) ≡ anchorNumbers program (a .c) (a .cl .now) (rows 61 (a .c) (a .t .now))
+    numbersOf (c .numbers-or .result) ≡ anchorNumbers program (a .c) (a .cl .now) (rows (widthOf tableC) (a .c) (a .t .now))
 anchor c =
     let b = c .before .before .anchors-held in
     let s = c .before .before .before .before .before .before .before in
     let a = s .args in
     c .numbers-or .ensures
-    ∙ anchor-numbers-are (a .c) (a .cl .now) (rows 61 (a .c) (a .t .now)) (a .keys) (s .pre .1 .1) (b .result .b .0) (b .result .at) (b .ensures .0) (b .ensures .1)
+    ∙ anchor-numbers-are (a .c) (a .cl .now) (rows (widthOf tableC) (a .c) (a .t .now)) (a .keys) (s .pre .1 .1) (b .result .b .0) (b .result .at) (b .ensures .0) (b .ensures .1)
 
 returns : tie.Need-returns
 returns c =
     let o = c .before .before in
     let a = o .before .before .before .before .before .before .before .args in
-    let t = rows 61 (a .c) (a .t .now) in
+    let t = rows (widthOf tableC) (a .c) (a .t .now) in
     let x = numbersOf (o .numbers-or .result) in
     let bad = sym (c .before .anchor-damaged .ensures) ∙ c .if1 .taken in
     (damaged-anchor (a .c) (a .cl .now) t x (anchor o) bad, places-kept (a .c) (a .cl .now) t x (anchor o) (a .places .now) bad)
@@ -45,35 +46,35 @@ counters-held-requires c κs =
 
 counter : (c : tie.After-numbers-or2) →
     let a = c .before .before .before .before .before .before .before .before .before .before .before .before .before .before .before .args in
-    numbersOf (c .numbers-or2 .result) ≡ counterNumbers program (a .c) (a .cl .now) (rows 61 (a .c) (a .t .now))
+    numbersOf (c .numbers-or2 .result) ≡ counterNumbers program (a .c) (a .cl .now) (rows (widthOf tableC) (a .c) (a .t .now))
 counter c =
     let h = c .before .before .before .before .counters-held in
     let o = c .before .before .before .before .before .before .before .before in
     let s = o .before .before .before .before .before .before .before in
     let a = s .args in
     c .numbers-or2 .ensures
-    ∙ counter-numbers-are (a .c) (a .cl .now) (rows 61 (a .c) (a .t .now)) (a .keys) (s .pre .1 .1) (numbersOf (o .numbers-or .result)) (anchor o) (h .result .k) (h .result .at) (h .ensures .0 .0) (h .ensures .0 .1)
+    ∙ counter-numbers-are (a .c) (a .cl .now) (rows (widthOf tableC) (a .c) (a .t .now)) (a .keys) (s .pre .1 .1) (numbersOf (o .numbers-or .result)) (anchor o) (h .result .k) (h .result .at) (h .ensures .0 .0) (h .ensures .0 .1)
 
 walked : (c : tie.After-counters-held) →
     let a = c .before .before .before .before .before .before .before .before .before .before .before .args in
-    c .counters-held .result .k ≡ countersHeld program (a .c) (a .cl .now) (rows 61 (a .c) (a .t .now))
+    c .counters-held .result .k ≡ countersHeld program (a .c) (a .cl .now) (rows (widthOf tableC) (a .c) (a .t .now))
 walked c =
     let h = c .counters-held in
     let o = c .before .before .before .before in
     let s = o .before .before .before .before .before .before .before in
     let a = s .args in
-    counters-are (a .c) (a .cl .now) (rows 61 (a .c) (a .t .now)) (a .keys) (s .pre .1 .1) (numbersOf (o .numbers-or .result)) (anchor o) (h .result .k) (h .result .at) (h .ensures .0 .0) (h .ensures .0 .1)
+    counters-are (a .c) (a .cl .now) (rows (widthOf tableC) (a .c) (a .t .now)) (a .keys) (s .pre .1 .1) (numbersOf (o .numbers-or .result)) (anchor o) (h .result .k) (h .result .at) (h .ensures .0 .0) (h .ensures .0 .1)
 
 -- what the walk noted
 noted : (c : tie.After-counters-held) →
     let a = c .before .before .before .before .before .before .before .before .before .before .before .args in
-    c .counters-held .last .1 .1 .1 .1 .0 ≡ placesNoted (a .c) (a .cl .now) (rows 61 (a .c) (a .t .now)) (a .places .now)
+    c .counters-held .last .1 .1 .1 .1 .0 ≡ placesNoted (a .c) (a .cl .now) (rows (widthOf tableC) (a .c) (a .t .now)) (a .places .now)
 noted c =
     let h = c .counters-held in
     let o = c .before .before .before .before in
     let s = o .before .before .before .before .before .before .before in
     let a = s .args in
-    places-are (a .c) (a .cl .now) (rows 61 (a .c) (a .t .now)) (numbersOf (o .numbers-or .result)) (anchor o) (a .places .now) (a .keys) (s .pre .1 .1) (good (c .before .before)) (h .result .k) (walked c) (h .last .1 .1 .1 .1 .0) (h .ensures .1)
+    places-are (a .c) (a .cl .now) (rows (widthOf tableC) (a .c) (a .t .now)) (numbersOf (o .numbers-or .result)) (anchor o) (a .places .now) (a .keys) (s .pre .1 .1) (good (c .before .before)) (h .result .k) (walked c) (h .last .1 .1 .1 .1 .0) (h .ensures .1)
 
 returns-2 : tie.Need-returns-2
 returns-2 c =
@@ -81,7 +82,7 @@ returns-2 c =
     let d = y .before .before .before .before .before .before in
     let o = d .before .before in
     let a = o .before .before .before .before .before .before .before .args in (
-      damaged-counter (a .c) (a .cl .now) (rows 61 (a .c) (a .t .now)) (numbersOf (o .numbers-or .result)) (anchor o) (good d)
+      damaged-counter (a .c) (a .cl .now) (rows (widthOf tableC) (a .c) (a .t .now)) (numbersOf (o .numbers-or .result)) (anchor o) (good d)
           (numbersOf (y .numbers-or2 .result)) (counter y) (sym (c .before .counter-damaged .ensures) ∙ c .if2 .taken),
       noted (y .before .before .before .before),
     )
@@ -95,7 +96,7 @@ returns-3 c =
     let b = o .before .before .anchors-held in
     let s = o .before .before .before .before .before .before .before in
     let a = s .args in
-    let t = rows 61 (a .c) (a .t .now) in (
+    let t = rows (widthOf tableC) (a .c) (a .t .now) in (
       counted (a .c) (a .cl .now) t (numbersOf (o .numbers-or .result)) (anchor o) (good d) (numbersOf (y .numbers-or2 .result)) (counter y) (b .result .b .0) (w .counters-held .result .k)
           (anchors-are (a .c) (a .cl .now) t (a .keys) (s .pre .1 .1) (b .result .b .0) (b .result .at) (b .ensures .0) (b .ensures .1))
           (walked w)
