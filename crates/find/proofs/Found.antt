@@ -17,7 +17,7 @@ use Rattle.table.proofs.Counting.{all-append}
 use Rattle.table.proofs.Rows.{all-at, flat-length}
 use Rattle.table.proofs.Walk.{place-found, place-none, place-holds}
 use Rattle.table.proofs.Below.{below, up-to-below, grows, flat-append, flat-next, flat-grows, flat-length-sum, sum-le, sum-next, sum-grows}
-use Rattle.scheme.specs.Store.{idIn, entryTag}
+use Rattle.scheme.specs.Store.{tableM, widthOf, idIn, entryTag}
 use Rattle.scheme.specs.Find.{idOf}
 use Rattle.suite.specs.Program.{program}
 use Rattle.format.specs.Rows.{textIn}
@@ -27,9 +27,9 @@ use Rattle.hmac.specs.declared.Keyed.{Keyed}
 use Rattle.find.specs.declared.EntryKeys.{EntryKeys}
 use Rattle.find.specs.Ids.{entryTags, foundAt, idAt, foundTo, idsBy, foundOf, idsOf, foundIn, idsIn}
 
--- rows of 61 bytes, ids of 16
-abbrev pub Rows61 : Table → Type 0
-Rows61 t = All (λ r. length r ≡ 61) t
+-- rows of M, ids of 16 bytes
+abbrev pub RowsM : Table → Type 0
+RowsM t = All (λ r. length r ≡ widthOf tableM) t
 
 abbrev pub Ids16 : List (List ℕ) → Type 0
 Ids16 ids = All (λ id. length id ≡ 16) ids
@@ -65,7 +65,7 @@ module _ (tag : ℕ → List ℕ) (me : List ℕ) (t : Table) where
       go none = refl
       go (some b) = refl
 
-  id-wide : Rows61 t → (a : ℕ) → Ids16 (idAt tag me t a)
+  id-wide : RowsM t → (a : ℕ) → Ids16 (idAt tag me t a)
   unfolding idAt idIn
   id-wide w a = go (ltb (placeOf (tag a) t) (length t)) refl
     where
@@ -73,7 +73,7 @@ module _ (tag : ℕ → List ℕ) (me : List ℕ) (t : Table) where
       go true e =
           let h = ltb-true (placeOf (tag a) t) (length t) e in
           let row = getD t (placeOf (tag a) t) [] in
-          let l : length row ≡ 61 = all-at (λ r. length r ≡ 61) t (placeOf (tag a) t) h w in
+          let l : length row ≡ widthOf tableM = all-at (λ r. length r ≡ widthOf tableM) t (placeOf (tag a) t) h w in
           rw (place-found (tag a) t h) (program .E-length me _ _ ∙ omega (arith, length-drop 44 (body row), length-drop 1 row), tt)
       go false e = rw (place-none (tag a) t (ltb-false (placeOf (tag a) t) (length t) e)) tt
 
@@ -84,7 +84,7 @@ module _ (tag : ℕ → List ℕ) (me : List ℕ) (t : Table) where
   ids-length zero = refl
   ids-length (suc n) = length-append (idsBy tag me t n) (idAt tag me t (suc n)) ∙ ap₂ (λ (x y : ℕ). x + y) (ids-length n) (id-length (suc n))
 
-  pub ids-wide : Rows61 t → (n : ℕ) → Ids16 (idsBy tag me t n)
+  pub ids-wide : RowsM t → (n : ℕ) → Ids16 (idsBy tag me t n)
   unfolding idsBy
   ids-wide w zero = tt
   ids-wide w (suc n) = all-append (λ id. length id ≡ 16) (idsBy tag me t n) (idAt tag me t (suc n)) (ids-wide w n) (id-wide w (suc n))
@@ -191,7 +191,7 @@ module _ (keys : EntryKeys) (t : Table) where
     ids-below-grow u p h =
         omega (arith, flat-grows (λ u. idsOf keys t u (getD of u 0)) (u + 1) (p + 1) (omega arith), ap length (ids-all p))
 
-    pub ids-below-wide : Rows61 t → (n : ℕ) → Ids16 (idsBelow n)
+    pub ids-below-wide : RowsM t → (n : ℕ) → Ids16 (idsBelow n)
     unfolding idsOf
     ids-below-wide w zero = tt
     ids-below-wide w (suc n) =
@@ -220,5 +220,5 @@ module _ (keys : EntryKeys) (t : Table) where
     pub ids-few : (p : ℕ) → length (idsIn keys t of p) ≤ sum (map (λ u. getD of u 0) (upTo p))
     ids-few p = omega (arith, found-fits p p (omega arith), found-all p, ids-found p)
 
-    pub ids-bytes : Rows61 t → (p : ℕ) → length (flat (idsIn keys t of p)) ≡ 16 * length (idsIn keys t of p)
+    pub ids-bytes : RowsM t → (p : ℕ) → length (flat (idsIn keys t of p)) ≡ 16 * length (idsIn keys t of p)
     ids-bytes w p = flat-length 16 (idsIn keys t of p) (subst Ids16 (ids-all p) (ids-below-wide w (p + 1)))

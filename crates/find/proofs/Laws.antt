@@ -18,8 +18,8 @@ use Rattle.answer.specs.Verdict.{Test, _⇒_, _⇒_carrying_, verdict, answerOr
 use Rattle.table.specs.Lists.{anyOf, flat, sum, upTo}
 use Rattle.table.specs.Table.{Table, rows, lookup}
 use Rattle.hmac.specs.declared.Keyed.{Keyed}
-use Rattle.scheme.specs.Keys.{share, findMT, findME, findCL}
-use Rattle.scheme.specs.Store.{sizesOf, cut, headerBad, marksBad, entryTag}
+use Rattle.scheme.specs.Keys.{findTokenLength, share, findMT, findME, findCL}
+use Rattle.scheme.specs.Store.{Sizes, widthOf, sizesOf, cut, stateTests, entryTag}
 use Rattle.scheme.specs.Reading.{Reading, damaged, countOf}
 use Rattle.scheme.specs.Refusals.{tokenTests}
 use Rattle.scheme.specs.Find.{idOf, idsTo, shareReading, idsOfShare, idsFound, findVerdict, find}
@@ -28,8 +28,7 @@ use Rattle.suite.specs.Program.{program}
 use Rattle.store.specs.declared.Shape.{Shape}
 use Rattle.store.specs.declared.Checked.the-variants.{Fit, Refused}
 use Rattle.store.specs.Check.{checkedOf}
-use Rattle.store.proofs.Laws.{fit, unfit, fit-verdict, fit-length}
-use Rattle.store.proofs.Tables.{tableM, tableC, laid-fit, laid-rows}
+use Rattle.store.proofs.Laws.{tableM, tableC, unfit, fit-verdict, fit-sizes, fit-range, fits}
 use Rattle.format.specs.Tags.{Prepared}
 use Rattle.counter.specs.Outcome.{shareRead}
 use Rattle.format.proofs.Tags.{share-is}
@@ -111,33 +110,33 @@ ids-to mt me t zero = refl
 ids-to mt me t (suc n) = ap (λ (l : List (List ℕ)). l ++ idOf program me (lookup (entryTag program mt (suc n)) t)) (ids-to mt me t n)
 
 -- a part of the store or of the token
-token-CL : (token : List ℕ) → length token ≡ 96 → take 32 (drop 64 token) ≡ findCL token
+token-CL : (token : List ℕ) → length token ≡ findTokenLength → take 32 (drop 64 token) ≡ findCL token
 unfolding findCL
 token-CL token h = take-all 32 (drop 64 token) (omega (arith, length-drop 64 token))
 
-module _ (before token : List ℕ) (z : Shape) (e : checkedOf before ≡ Fit z) (h : length token ≡ 96) where
+module _ (before token : List ℕ) (z : Shape) (e : checkedOf before ≡ Fit z) (h : length token ≡ findTokenLength) where
   -- the readings of the shares
   pub readings : (clx : Keyed) → Prepared clx (take 32 (drop 64 token))
-      → shareRead clx (z .c) (rows 61 (z .c) (take (8 + 110 * z .m + 61 * z .c - (8 + 110 * z .m)) (drop (8 + 110 * z .m) before))) ≡ shareReading program before (findCL token)
+      → shareRead clx (z .c .rows) (rows (widthOf tableC) (z .c .rows) (take (z .c .end - z .c .start) (drop (z .c .start) before))) ≡ shareReading program before (findCL token)
   readings clx p =
-      share-read clx (findCL token) before (z .c) _ (subst (Prepared clx) (token-CL token h) p) (ap (λ (z : Shape). z .c) (fit before z e .shape)) (laid-rows (z .m) (z .c) (z .s) before (cut before) (laid-fit before z e) tableC)
+      share-read clx (findCL token) before (z .c .rows) _ (subst (Prepared clx) (token-CL token h) p) (ap (λ (y : Sizes). y .c) (fit-sizes before z e)) (fits before z e tableC .same)
 
   pub shares-are : z .p ≡ sizesOf before .p
-  shares-are = ap (λ (z : Shape). z .p) (fit before z e .shape)
+  shares-are = ap (λ (y : Sizes). y .p) (fit-sizes before z e)
 
   pub ids-are : (keys : EntryKeys) (c : Counts) → Prepared (keys .mt) (findMT token) → Prepared (keys .me) (findME token)
       → Sound (shareReading program before (findCL token)) (z .p) c
-      → idsIn keys (rows 61 (z .m) (take (8 + 61 * z .m - 8) (drop 8 before))) (c .of) (z .p) ≡ idsFound program before token
+      → idsIn keys (rows (widthOf tableM) (z .m .rows) (take (z .m .end - z .m .start) (drop (z .m .start) before))) (c .of) (z .p) ≡ idsFound program before token
   unfolding idsIn idsFound idsOf idsOfShare
   ids-are keys c km ke s =
       let f = shareReading program before (findCL token) in
-      let t = rows 61 (z .m) (take (8 + 61 * z .m - 8) (drop 8 before)) in
-      let q : t ≡ cut before .tM = laid-rows (z .m) (z .c) (z .s) before (cut before) (laid-fit before z e) tableM in
+      let t = rows (widthOf tableM) (z .m .rows) (take (z .m .end - z .m .start) (drop (z .m .start) before)) in
+      let q : t ≡ cut before .table tableM = fits before z e tableM .same in
       ap flat (map-upTo (z .p) (λ u. idsOf keys t u (getD (c .of) u 0)) (idsOfShare program before token)
       (λ u l.
       ap₂ (λ (a b : List ℕ). idsBy (entryTag program a) b t (getD (c .of) u 0)) (share-is (keys .mt) (findMT token) u km) (share-is (keys .me) (findME token) u ke)
       ∙ ids-to (share program (findMT token) u) (share program (findME token) u) t (getD (c .of) u 0)
-      ∙ ap₂ (idsTo program (share program (findMT token) u) (share program (findME token) u)) q (count-at f (z .p) c s (fit-length before z e .range .p-most) u l)))
+      ∙ ap₂ (idsTo program (share program (findMT token) u) (share program (findME token) u)) q (count-at f (z .p) c s (fit-range before z e .p-most) u l)))
       ∙ ap (λ (p : ℕ). flat (map (idsOfShare program before token) (upTo p))) shares-are
 
 -- ---- each way out
@@ -151,27 +150,27 @@ module _ (before token output : List ℕ) where
   told o q =
       (ap (λ (v : Option Answer). answerOr v (done (length (idsFound program before token) ∷ []))) (sym q), ap (λ (v : Option Answer). unlessRefused v (flat (idsFound program before token) ++ drop (16 * length (idsFound program before token)) output) output) (sym q))
 
-  abbrev stateTests : List Test
-  stateTests =
+  abbrev laterTests : List Test
+  laterTests =
       (anyOf (λ u. damaged (shareReading program before (findCL token) u)) (upTo (sizesOf before .p)) ⇒ 13)
       ∷ (ltb (length output) (16 * length (idsFound program before token)) ⇒ 18 carrying (length (idsFound program before token) ∷ []))
       ∷ []
 
-  pub other-length : (length token ≡ 96 → ⊥) → (refused 6 [] ≡ find program before token output .answer) × (output ≡ find program before token output .output)
+  pub other-length : (length token ≡ findTokenLength → ⊥) → (refused 6 [] ≡ find program before token output .answer) × (output ≡ find program before token output .output)
   unfolding findVerdict tokenTests
-  other-length h = told (some (refused 6 [])) (rw (ne-eqb (length token) 96 h) refl)
+  other-length h = told (some (refused 6 [])) (rw (ne-eqb (length token) findTokenLength h) refl)
 
-  module _ (h : length token ≡ 96) where
-    from-state : findVerdict program before token output ≡ verdict ((headerBad before ⇒ 10) ∷ (marksBad (cut before) ⇒ 11) ∷ stateTests)
+  module _ (h : length token ≡ findTokenLength) where
+    from-state : findVerdict program before token output ≡ verdict (stateTests before ++ laterTests)
     unfolding findVerdict tokenTests
-    from-state = rw (eq-eqb (length token) 96 h) refl
+    from-state = rw (eq-eqb (length token) findTokenLength h) refl
 
     pub unfit-store : (r : Refusal) → checkedOf before ≡ Refused r → (refusal r ≡ find program before token output .answer) × (output ≡ find program before token output .output)
-    unfit-store r e = told (some (refusal r)) (from-state ∙ unfit before r stateTests e)
+    unfit-store r e = told (some (refusal r)) (from-state ∙ unfit before r laterTests e)
 
     module _ (z : Shape) (e : checkedOf before ≡ Fit z) where
-      passed : findVerdict program before token output ≡ verdict stateTests
-      passed = from-state ∙ fit-verdict before z stateTests e
+      passed : findVerdict program before token output ≡ verdict laterTests
+      passed = from-state ∙ fit-verdict before z laterTests e
 
       pub damage-found : anyOf (λ u. damaged (shareReading program before (findCL token) u)) (upTo (z .p)) ≡ true
           → (refused 13 [] ≡ find program before token output .answer) × (output ≡ find program before token output .output)

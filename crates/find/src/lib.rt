@@ -9,7 +9,9 @@ ghost use Rattle.octets.specs.Part.{written};
 ghost use Rattle.answer.specs.Answer.{counted};
 ghost use Rattle.table.specs.Lists.{flat, sum, upTo};
 ghost use Rattle.table.specs.Table.{rows, placeOf};
-ghost use Rattle.scheme.specs.Find.{find as findOf};
+ghost use Rattle.scheme.specs.Store.{tableM, tableC, widthOf};
+ghost use Rattle.scheme.specs.Keys.{findTokenLength, findCL};
+ghost use Rattle.scheme.specs.Find.{shareReading, find as findOf};
 ghost use Rattle.suite.specs.Program.{program};
 ghost use Rattle.store.specs.Check.{checkedOf};
 ghost use Rattle.counter.specs.Outcome.{shareRead};
@@ -23,7 +25,6 @@ use format::FIND_TOKEN;
 use format::ID;
 use format::row;
 use hmac::Keyed;
-use store::C_WIDTH;
 use store::Checked;
 use store::M_WIDTH;
 use store::Shape;
@@ -38,8 +39,8 @@ struct Counts {
 // Reads the counters of shares 0 to p out of the part that holds table C, from the prepared F(KC, x).
 // [01:RS6 FM8]
 fn read_all(t: &[u8], c: usize, clx: Keyed, p: u64) -> Counts
-    requires { ⌜ (length (now t) ≡ 61 * c) × ((c ≤ 4096) × (p ≤ 15)) ⌝ }
-    ensures { λ r. ⌜ r ≡ countsOf (shareRead clx c (rows 61 c (now (t .entry)))) p ⌝ }
+    requires { ⌜ (length (now t) ≡ widthOf tableC * c) × ((c ≤ 4096) × (p ≤ 15)) ⌝ }
+    ensures { λ r. ⌜ r ≡ countsOf (shareRead clx c (rows (widthOf tableC) c (now (t .entry)))) p ⌝ }
 {
     let mut of = [0u64; 16];
     let mut sum: u64 = 0;
@@ -73,8 +74,8 @@ struct EntryKeys {
 
 // The place of the row of M at an address, with the prepared MT; m where there is none. [01:ST6 ST13]
 fn place(t: &[u8], m: usize, mt: Keyed, a: Address) -> usize
-    requires { ⌜ length (now t) ≡ 61 * m ⌝ }
-    ensures { λ r. ⌜ r ≡ placeOf (entryTags mt (a .0)) (rows 61 m (now (t .entry))) ⌝ }
+    requires { ⌜ length (now t) ≡ widthOf tableM * m ⌝ }
+    ensures { λ r. ⌜ r ≡ placeOf (entryTags mt (a .0)) (rows (widthOf tableM) m (now (t .entry))) ⌝ }
 {
     let tag = format::entry_tag(mt, a);
     table::place(t, M_WIDTH, m, &tag)
@@ -82,8 +83,8 @@ fn place(t: &[u8], m: usize, mt: Keyed, a: Address) -> usize
 
 // 1 where the entry at an address is held; else 0.
 fn held(t: &[u8], m: usize, mt: Keyed, a: Address) -> u64
-    requires { ⌜ length (now t) ≡ 61 * m ⌝ }
-    ensures { λ r. ⌜ r ≡ foundAt (entryTags mt) (rows 61 m (now (t .entry))) (a .0) ⌝ }
+    requires { ⌜ length (now t) ≡ widthOf tableM * m ⌝ }
+    ensures { λ r. ⌜ r ≡ foundAt (entryTags mt) (rows (widthOf tableM) m (now (t .entry))) (a .0) ⌝ }
 {
     let i = place(t, m, mt, a);
     if i < m { 1 } else { 0 }
@@ -91,8 +92,8 @@ fn held(t: &[u8], m: usize, mt: Keyed, a: Address) -> u64
 
 // How many of addresses 1 to the count are held.
 fn found_in_share(t: &[u8], m: usize, mt: Keyed, count: u64) -> u64
-    requires { ⌜ length (now t) ≡ 61 * m ⌝ }
-    ensures { λ r. ⌜ r ≡ foundTo (entryTags mt) (rows 61 m (now (t .entry))) count ⌝ }
+    requires { ⌜ length (now t) ≡ widthOf tableM * m ⌝ }
+    ensures { λ r. ⌜ r ≡ foundTo (entryTags mt) (rows (widthOf tableM) m (now (t .entry))) count ⌝ }
 {
     let mut found: u64 = 0;
     let mut a: u64 = 0;
@@ -114,9 +115,9 @@ fn write_entry(
     output: &mut [u8],
     k: usize,
 ) -> usize
-    requires { ⌜ (length (now t) ≡ 61 * m) × (16 * (k + length (idAt (entryTags mt) (now me) (rows 61 m (now t)) (a .0))) ≤ length (now output)) ⌝ }
-    ensures { λ r. ⌜ r ≡ k + length (idAt (entryTags mt) (now (me .entry)) (rows 61 m (now (t .entry))) (a .0)) ⌝ }
-    ensures { λ _. ⌜ now (output .exit) ≡ written (now (output .entry)) (16 * k) (flat (idAt (entryTags mt) (now (me .entry)) (rows 61 m (now (t .entry))) (a .0))) ⌝ }
+    requires { ⌜ (length (now t) ≡ widthOf tableM * m) × (16 * (k + length (idAt (entryTags mt) (now me) (rows (widthOf tableM) m (now t)) (a .0))) ≤ length (now output)) ⌝ }
+    ensures { λ r. ⌜ r ≡ k + length (idAt (entryTags mt) (now (me .entry)) (rows (widthOf tableM) m (now (t .entry))) (a .0)) ⌝ }
+    ensures { λ _. ⌜ now (output .exit) ≡ written (now (output .entry)) (16 * k) (flat (idAt (entryTags mt) (now (me .entry)) (rows (widthOf tableM) m (now (t .entry))) (a .0))) ⌝ }
 {
     let i = place(t, m, mt, a);
     if i < m {
@@ -138,9 +139,9 @@ fn write_share(
     output: &mut [u8],
     k: usize,
 ) -> usize
-    requires { ⌜ (length (now t) ≡ 61 * m) × (16 * (k + length (idsBy (entryTags mt) (now me) (rows 61 m (now t)) n)) ≤ length (now output)) ⌝ }
-    ensures { λ r. ⌜ r ≡ k + length (idsBy (entryTags mt) (now (me .entry)) (rows 61 m (now (t .entry))) n) ⌝ }
-    ensures { λ _. ⌜ now (output .exit) ≡ written (now (output .entry)) (16 * k) (flat (idsBy (entryTags mt) (now (me .entry)) (rows 61 m (now (t .entry))) n)) ⌝ }
+    requires { ⌜ (length (now t) ≡ widthOf tableM * m) × (16 * (k + length (idsBy (entryTags mt) (now me) (rows (widthOf tableM) m (now t)) n)) ≤ length (now output)) ⌝ }
+    ensures { λ r. ⌜ r ≡ k + length (idsBy (entryTags mt) (now (me .entry)) (rows (widthOf tableM) m (now (t .entry))) n) ⌝ }
+    ensures { λ _. ⌜ now (output .exit) ≡ written (now (output .entry)) (16 * k) (flat (idsBy (entryTags mt) (now (me .entry)) (rows (widthOf tableM) m (now (t .entry))) n)) ⌝ }
 {
     let mut next = k;
     let mut a: u64 = 0;
@@ -153,8 +154,8 @@ fn write_share(
 
 // How many of addresses 1 to n of share u are held. MT is prepared once.
 fn found_of(t: &[u8], m: usize, keys: EntryKeys, u: u64, n: u64) -> u64
-    requires { ⌜ length (now t) ≡ 61 * m ⌝ }
-    ensures { λ r. ⌜ r ≡ foundOf keys (rows 61 m (now (t .entry))) u n ⌝ }
+    requires { ⌜ length (now t) ≡ widthOf tableM * m ⌝ }
+    ensures { λ r. ⌜ r ≡ foundOf keys (rows (widthOf tableM) m (now (t .entry))) u n ⌝ }
 {
     let key = format::numbered(keys.mt, u);
     let mt = hmac::prepare(&key);
@@ -163,8 +164,8 @@ fn found_of(t: &[u8], m: usize, keys: EntryKeys, u: u64, n: u64) -> u64
 
 // How many ids the shares 0 to p have, by their counts.
 fn found_in_all(t: &[u8], m: usize, keys: EntryKeys, of: [u64; 16], p: u64) -> u64
-    requires { ⌜ (length (now t) ≡ 61 * m) × ((p ≤ 15) × (sum (map (λ u. getD of u 0) (upTo p)) < 2 ^ 64)) ⌝ }
-    ensures { λ r. ⌜ r ≡ foundIn keys (rows 61 m (now (t .entry))) of p ⌝ }
+    requires { ⌜ (length (now t) ≡ widthOf tableM * m) × ((p ≤ 15) × (sum (map (λ u. getD of u 0) (upTo p)) < 2 ^ 64)) ⌝ }
+    ensures { λ r. ⌜ r ≡ foundIn keys (rows (widthOf tableM) m (now (t .entry))) of p ⌝ }
 {
     let mut found: u64 = 0;
     let mut u: u64 = 0;
@@ -187,9 +188,9 @@ fn write_of(
     output: &mut [u8],
     k: usize,
 ) -> usize
-    requires { ⌜ (length (now t) ≡ 61 * m) × (16 * (k + length (idsOf keys (rows 61 m (now t)) u n)) ≤ length (now output)) ⌝ }
-    ensures { λ r. ⌜ r ≡ k + length (idsOf keys (rows 61 m (now (t .entry))) u n) ⌝ }
-    ensures { λ _. ⌜ now (output .exit) ≡ written (now (output .entry)) (16 * k) (flat (idsOf keys (rows 61 m (now (t .entry))) u n)) ⌝ }
+    requires { ⌜ (length (now t) ≡ widthOf tableM * m) × (16 * (k + length (idsOf keys (rows (widthOf tableM) m (now t)) u n)) ≤ length (now output)) ⌝ }
+    ensures { λ r. ⌜ r ≡ k + length (idsOf keys (rows (widthOf tableM) m (now (t .entry))) u n) ⌝ }
+    ensures { λ _. ⌜ now (output .exit) ≡ written (now (output .entry)) (16 * k) (flat (idsOf keys (rows (widthOf tableM) m (now (t .entry))) u n)) ⌝ }
 {
     let key = format::numbered(keys.mt, u);
     let mt = hmac::prepare(&key);
@@ -200,9 +201,9 @@ fn write_of(
 // Writes the ids of the shares 0 to p, by their counts, to the start of the output; answers how many.
 // [01:OP6 OP7]
 fn write_all(t: &[u8], m: usize, keys: EntryKeys, of: [u64; 16], p: u64, output: &mut [u8]) -> usize
-    requires { ⌜ (length (now t) ≡ 61 * m) × ((p ≤ 15) × (16 * length (idsIn keys (rows 61 m (now t)) of p) ≤ length (now output))) ⌝ }
-    ensures { λ r. ⌜ r ≡ length (idsIn keys (rows 61 m (now (t .entry))) of p) ⌝ }
-    ensures { λ _. ⌜ now (output .exit) ≡ written (now (output .entry)) 0 (flat (idsIn keys (rows 61 m (now (t .entry))) of p)) ⌝ }
+    requires { ⌜ (length (now t) ≡ widthOf tableM * m) × ((p ≤ 15) × (16 * length (idsIn keys (rows (widthOf tableM) m (now t)) of p) ≤ length (now output))) ⌝ }
+    ensures { λ r. ⌜ r ≡ length (idsIn keys (rows (widthOf tableM) m (now (t .entry))) of p) ⌝ }
+    ensures { λ _. ⌜ now (output .exit) ≡ written (now (output .entry)) 0 (flat (idsIn keys (rows (widthOf tableM) m (now (t .entry))) of p)) ⌝ }
 {
     let mut k: usize = 0;
     let mut u: u64 = 0;
@@ -214,18 +215,29 @@ fn write_all(t: &[u8], m: usize, keys: EntryKeys, of: [u64; 16], p: u64, output:
     k
 }
 
-// Find in a store that passed the checks, with a token of 96 bytes: refused by 13 and 18. [01:RS6 RS11]
+// Reads the counters of all shares of a store that passed the checks, under a find token. [01:RS6]
+fn counts_in(store: &[u8], z: Shape, token: &[u8]) -> Counts
+    requires { ⌜ (checkedOf (now store) ≡ Checked.Fit z) × (length (now token) ≡ findTokenLength) ⌝ }
+    ensures { λ r. ⌜ r ≡ countsOf (shareReading program (now (store .entry)) (findCL (now (token .entry)))) (z .p) ⌝ }
+{
+    let c = z.c;
+    let a = c.start;
+    let e = c.end;
+    let clx = hmac::prepare(&token[64..FIND_TOKEN]);
+    read_all(&store[a..e], c.rows, clx, z.p)
+}
+
+// Find in a store that passed the checks, with a token of its length: refused by 13 and 18.
+// [01:RS6 RS11]
 fn find_in(store: &[u8], z: Shape, token: &[u8], output: &mut [u8]) -> Counted
-    requires { ⌜ (checkedOf (now store) ≡ Checked.Fit z) × (length (now token) ≡ 96) ⌝ }
+    requires { ⌜ (checkedOf (now store) ≡ Checked.Fit z) × (length (now token) ≡ findTokenLength) ⌝ }
     ensures { λ r. ⌜ counted r ≡ findOf program (now (store .entry)) (now (token .entry)) (now (output .entry)) .answer ⌝ }
     ensures { λ _. ⌜ now (output .exit) ≡ findOf program (now (store .entry)) (now (token .entry)) (now (output .entry)) .output ⌝ }
 {
-    // Where M ends, and where C starts and ends.
-    let a = HEADER + M_WIDTH * z.m;
-    let b = HEADER + MV_WIDTH * z.m;
-    let e = HEADER + MV_WIDTH * z.m + C_WIDTH * z.c;
-    let clx = hmac::prepare(&token[64..FIND_TOKEN]);
-    let counts = read_all(&store[b..e], z.c, clx, z.p);
+    let m = z.m;
+    let a = m.start;
+    let e = m.end;
+    let counts = counts_in(store, z, token);
     if counts.damaged {
         return Counted::Refused(Refusal::Damage);
     }
@@ -235,12 +247,12 @@ fn find_in(store: &[u8], z: Shape, token: &[u8], output: &mut [u8]) -> Counted
     let of = counts.of;
     let room = (output.len() / ID) as u64;
     if room < counts.sum {
-        let found = found_in_all(&store[HEADER..a], z.m, keys, of, z.p);
+        let found = found_in_all(&store[a..e], m.rows, keys, of, z.p);
         if room < found {
             return Counted::Refused(Refusal::OutputLength(found));
         }
     }
-    let n = write_all(&store[HEADER..a], z.m, keys, of, z.p, output);
+    let n = write_all(&store[a..e], m.rows, keys, of, z.p, output);
     Counted::Number(n as u64)
 }
 

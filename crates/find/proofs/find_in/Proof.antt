@@ -9,97 +9,74 @@ use Rattle.octets.specs.Part.{written}
 use Rattle.table.specs.Lists.{flat, sum, upTo}
 use Rattle.table.specs.Table.{Table, rows}
 use Rattle.table.proofs.Rows.{rows-wide}
+use Rattle.scheme.specs.Store.{widthOf}
 use Rattle.scheme.specs.Keys.{findMT, findME, findCL}
-use Rattle.scheme.specs.Store.{cut}
-use Rattle.scheme.specs.Reading.{Reading}
 use Rattle.scheme.specs.Find.{shareReading, idsFound}
 use Rattle.suite.specs.Program.{program}
-use Rattle.store.proofs.Laws.{FitLength, fit-length}
-use Rattle.store.proofs.Tables.{tableM, tableC, laid-fit, laid-long}
-use Rattle.find.specs.Counts.{countsOf}
+use Rattle.store.proofs.Laws.{tableM, Fits, fit-range, fits}
 use Rattle.find.specs.declared.EntryKeys.{EntryKeys}
 use Rattle.find.specs.Ids.{idsIn}
 use Rattle.find.proofs.Found.{ids-found, ids-few, ids-bytes}
-use Rattle.find.proofs.Laws.{Sound, told-damage, told-sound, counts-sum, readings, ids-are, damage-found, no-room, all-written}
+use Rattle.find.proofs.Laws.{Sound, told-damage, told-sound, counts-sum, ids-are, damage-found, no-room, all-written}
 use borrow.Author.Needs.{needs}
 use Rattle.find.proofs.find_in.Statement.{statement}
 use Rattle.find.proofs.find_in.Tie as tie
 
-sized : (s : tie.Start) → FitLength (s .args .store .now) (s .args .z)
-sized s = fit-length (s .args .store .now) (s .args .z) (s .pre .0)
+-- the part that holds M
+inM : (s : tie.Start) → Fits (s .args .store .now) (s .args .z) tableM
+inM s = fits (s .args .store .now) (s .args .z) (s .pre .0) tableM
 
--- the parts that hold M and C
-partM : (s : tie.Start) → length (take (8 + 61 * s .args .z .m - 8) (drop 8 (s .args .store .now))) ≡ 61 * s .args .z .m
-partM s = let z = s .args .z in laid-long (z .m) (z .c) (z .s) (s .args .store .now) (cut (s .args .store .now)) (laid-fit (s .args .store .now) z (s .pre .0)) tableM
-
-counts : (c : tie.After-read-all) →
-    let a = c .before .before .before .before .before .before .before .before .before .before .before .args in
-    c .read-all .result ≡ countsOf (shareReading program (a .store .now) (findCL (a .token .now))) (a .z .p)
-counts c =
-    let p = c .before .before in
-    let s = p .before .before .before .before .before .before .before .before .before in
-    let a = s .args in
-    c .read-all .ensures
-    ∙ ap (λ (f : ℕ → Reading). countsOf f (a .z .p))
-    (readings (a .store .now) (a .token .now) (a .z) (s .pre .0) (s .pre .1) (p .prepare .result) (record { inner = p .prepare .ensures .0; outer = p .prepare .ensures .1 }))
+shares : (s : tie.Start) → s .args .z .p ≤ 15
+shares s = fit-range (s .args .store .now) (s .args .z) (s .pre .0) .p-most
 
 sound : (c : tie.Else1) →
-    let a = c .before .before .before .before .before .before .before .before .before .before .before .before .args in
-    Sound (shareReading program (a .store .now) (findCL (a .token .now))) (a .z .p) (c .before .read-all .result)
+    let a = c .before .before .before .before .before .before .args in
+    Sound (shareReading program (a .store .now) (findCL (a .token .now))) (a .z .p) (c .before .counts-in .result)
 sound c =
-    let a = c .before .before .before .before .before .before .before .before .before .before .before .before .args in
-    told-sound (shareReading program (a .store .now) (findCL (a .token .now))) (a .z .p) (c .before .read-all .result) (counts (c .before)) (c .if1 .left)
+    let a = c .before .before .before .before .before .before .args in
+    told-sound (shareReading program (a .store .now) (findCL (a .token .now))) (a .z .p) (c .before .counts-in .result) (c .before .counts-in .ensures) (c .if1 .left)
 
-ids : (c : tie.After-prepare3) →
-    let e = c .before .before .before .before in
-    let a = e .before .before .before .before .before .before .before .before .before .before .before .before .args in
-    idsIn (record { mt = c .before .before .prepare2 .result; me = c .prepare3 .result }) (rows 61 (a .z .m) (take (8 + 61 * a .z .m - 8) (drop 8 (a .store .now)))) (e .before .read-all .result .of) (a .z .p) ≡ idsFound program (a .store .now) (a .token .now)
+-- where the function starts, the keys, M's rows, and the counts
+abbrev start : tie.After-prepare2 → tie.Start
+start c = c .before .before .before .before .before .before .before .before .before .before
+
+abbrev keysAt : tie.After-prepare2 → EntryKeys
+keysAt c = record { mt = c .before .before .prepare .result; me = c .prepare2 .result }
+
+abbrev tableAt : tie.After-prepare2 → Table
+tableAt c = let a = start c .args in rows (widthOf tableM) (a .z .m .rows) (take (a .z .m .end - a .z .m .start) (drop (a .z .m .start) (a .store .now)))
+
+abbrev ofAt : tie.After-prepare2 → List ℕ
+ofAt c = c .before .before .before .before .before .counts-in .result .of
+
+ids : (c : tie.After-prepare2) → let a = start c .args in idsIn (keysAt c) (tableAt c) (ofAt c) (a .z .p) ≡ idsFound program (a .store .now) (a .token .now)
 unfolding findMT findME
 ids c =
     let q = c .before .before in
     let e = q .before .before in
-    let s = e .before .before .before .before .before .before .before .before .before .before .before .before in
+    let s = start c in
     let a = s .args in
-    ids-are (a .store .now) (a .token .now) (a .z) (s .pre .0) (s .pre .1) (record { mt = q .prepare2 .result; me = c .prepare3 .result }) (e .before .read-all .result)
-    (record { inner = q .prepare2 .ensures .0; outer = q .prepare2 .ensures .1 }) (record { inner = c .prepare3 .ensures .0; outer = c .prepare3 .ensures .1 }) (sound e)
-
-read-all-requires : tie.Need-read-all-requires
-read-all-requires c κs =
-    let s = c .before .before .before .before .before .before .before .before .before .before in
-    let z = s .args .z in
-    (laid-long (z .m) (z .c) (z .s) (s .args .store .now) (cut (s .args .store .now)) (laid-fit (s .args .store .now) z (s .pre .0)) tableC, (omega (arith, sized s .range), omega (arith, sized s .range)))
+    ids-are (a .store .now) (a .token .now) (a .z) (s .pre .0) (s .pre .1) (keysAt c) (e .before .counts-in .result)
+    (record { inner = q .prepare .ensures .0; outer = q .prepare .ensures .1 }) (record { inner = c .prepare2 .ensures .0; outer = c .prepare2 .ensures .1 }) (sound e)
 
 returns : tie.Need-returns
 returns c =
     let r = c .before in
-    let s = r .before .before .before .before .before .before .before .before .before .before .before in
+    let s = r .before .before .before .before .before in
     let a = s .args in
     damage-found (a .store .now) (a .token .now) (a .output .now) (s .pre .1) (a .z) (s .pre .0)
-    (told-damage (shareReading program (a .store .now) (findCL (a .token .now))) (a .z .p) (r .read-all .result) (counts r) (c .if1 .taken))
+    (told-damage (shareReading program (a .store .now) (findCL (a .token .now))) (a .z .p) (r .counts-in .result) (r .counts-in .ensures) (c .if1 .taken))
 
--- where the function starts, the keys, M's rows, and the counts
-abbrev start : tie.After-prepare3 → tie.Start
-start c = c .before .before .before .before .before .before .before .before .before .before .before .before .before .before .before .before
-
-abbrev keysAt : tie.After-prepare3 → EntryKeys
-keysAt c = record { mt = c .before .before .prepare2 .result; me = c .prepare3 .result }
-
-abbrev tableAt : tie.After-prepare3 → Table
-tableAt c = let a = start c .args in rows 61 (a .z .m) (take (8 + 61 * a .z .m - 8) (drop 8 (a .store .now)))
-
-abbrev ofAt : tie.After-prepare3 → List ℕ
-ofAt c = c .before .before .before .before .before .read-all .result .of
-
-total : (c : tie.After-prepare3) → sum (map (λ u. getD (ofAt c) u 0) (upTo (start c .args .z .p))) ≡ c .before .before .before .before .before .read-all .result .sum
+total : (c : tie.After-prepare2) → sum (map (λ u. getD (ofAt c) u 0) (upTo (start c .args .z .p))) ≡ c .before .before .before .before .before .counts-in .result .sum
 total c =
     let e = c .before .before .before .before in
     let a = start c .args in
-    counts-sum (shareReading program (a .store .now) (findCL (a .token .now))) (a .z .p) (e .before .read-all .result) (sound e) (omega (arith, sized (start c) .range))
+    counts-sum (shareReading program (a .store .now) (findCL (a .token .now))) (a .z .p) (e .before .counts-in .result) (sound e) (shares (start c))
 
 found-in-all-requires : tie.Need-found-in-all-requires
 found-in-all-requires c κs =
     let k = c .before .before .before .before in
-    (partM (start k), (omega (arith, sized (start k) .range), omega (arith, total k, c .before .before .struct-known5 .given .1 .1 .0)))
+    (inM (start k) .long, (shares (start k), omega (arith, total k, c .before .before .struct-known .given .1 .1 .0)))
 
 returns-2 : tie.Need-returns-2
 returns-2 c =
@@ -124,7 +101,7 @@ room c =
 write-all-requires : tie.Need-write-all-requires
 write-all-requires c κs =
     let k = c .before .before .before .before .before in
-    (partM (start k), (omega (arith, sized (start k) .range), room (c .before .before)))
+    (inM (start k) .long, (shares (start k), room (c .before .before)))
 
 returns-3 : tie.Need-returns-3
 returns-3 c =
@@ -138,29 +115,14 @@ returns-3 c =
     (w .ensures .0 ∙ ap length (ids k)) (omega (arith, room j, w .ensures .0)) (w .last .1 .1 .1 .1 .1 .0)
     (w .ensures .1 ∙ ap (λ (x : List (List ℕ)). written (a .output .now) 0 (flat x)) (ids k))
     (ap (λ (x : List (List ℕ)). length (flat x)) (sym (ids k))
-    ∙ ids-bytes (keysAt k) (tableAt k) (ofAt k) (rows-wide 61 (a .z .m) (take (8 + 61 * a .z .m - 8) (drop 8 (a .store .now))) (omega (arith, partM s))) (a .z .p)
+    ∙ ids-bytes (keysAt k) (tableAt k) (ofAt k) (rows-wide (widthOf tableM) (a .z .m .rows) (take (a .z .m .end - a .z .m .start) (drop (a .z .m .start) (a .store .now))) (omega (arith, inM s))) (a .z .p)
     ∙ ap (λ (n : ℕ). 16 * n) (sym (w .ensures .0)))
 
 pub find-in-spec : {M : Type 1} → statement M
 find-in-spec =
     tie.close
     (tie.spec
-    (λ c. omega (arith, sized (c .before .before .before .before)))
-    (λ c. omega (arith, sized (c .before .before .before .before)))
-    (λ c. omega (arith, sized (c .before .before .before .before .before)))
-    (λ c. omega (arith, sized (c .before .before .before .before .before)))
-    (λ c. omega (arith, sized (c .before .before .before .before .before .before)))
-    (λ c. omega (arith, sized (c .before .before .before .before .before .before)))
-    (λ c. omega (arith, sized (c .before .before .before .before .before .before .before)))
-    (λ c. omega (arith, sized (c .before .before .before .before .before .before .before)))
-    (λ c. search needs)
-    (λ c. search needs)
-    (λ c. search needs)
     (λ c κs. search needs)
-    (λ c. search needs)
-    (λ c. search needs)
-    (λ c. omega (arith, sized (c .before .before .before .before .before .before .before .before .before)))
-    read-all-requires
     returns
     (λ c. search needs)
     (λ c. search needs)
@@ -168,16 +130,16 @@ find-in-spec =
     (λ c κs. search needs)
     (λ c. search needs)
     (λ c. search needs)
-    (λ c. omega (arith, c .before .before .before .before .before .before .before .before .before .before .before .before .before .before .pre .1))
+    (λ c. search needs)
     (λ c κs. search needs)
-    (λ c. search needs)
-    (λ c. search needs)
-    (λ c. omega (arith, sized (c .before .before .before .before .before .before .before .before .before .before .before .before .before .before .before .before .before .before .before)))
+    (λ c. omega (arith, inM (start (c .before .before .before))))
+    (λ c. omega (arith, inM (start (c .before .before .before))))
+    (λ c. omega (arith, inM (start (c .before .before .before))))
     found-in-all-requires
     returns-2
-    (λ c. search needs)
-    (λ c. search needs)
-    (λ c. omega (arith, sized (c .before .before .before .before .before .before .before .before .before .before .before .before .before .before .before .before .before .before .before)))
+    (λ c. omega (arith, inM (start (c .before .before .before))))
+    (λ c. omega (arith, inM (start (c .before .before .before))))
+    (λ c. omega (arith, inM (start (c .before .before .before))))
     write-all-requires
     (λ c. search needs)
     returns-3)

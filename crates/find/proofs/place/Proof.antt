@@ -2,6 +2,7 @@
 use Prim.Native.Nat.{ℕ}
 use mathlib.Core.Path.{ap, _∙_}
 use mathlib.Core.List.{List}
+use Rattle.scheme.specs.Store.{tableM, widthOf}
 use Rattle.table.specs.Table.{rows, placeOf}
 use borrow.Author.Needs.{needs}
 use Rattle.find.proofs.place.Statement.{statement}
@@ -10,7 +11,7 @@ use Rattle.find.proofs.place.Tie as tie
 returns : tie.Need-returns
 returns c =
     let a = c .before .before .before .before .args in
-    c .place .ensures ∙ ap (λ (g : List ℕ). placeOf g (rows 61 (a .m) (a .t .now))) (c .before .before .entry-tag .ensures)
+    c .place .ensures ∙ ap (λ (g : List ℕ). placeOf g (rows (widthOf tableM) (a .m) (a .t .now))) (c .before .before .entry-tag .ensures)
 
 pub place-spec : {M : Type 1} → statement M
 place-spec = tie.close (tie.spec (λ c κs. search needs) (λ c κs. search needs) returns)

@@ -5,6 +5,7 @@ use mathlib.Core.List.{List}
 use native.Mathlib.Numerals.{add-one}
 use native.Mathlib.Omega.{arith}
 use lib.ListN.{set, replicate}
+use Rattle.scheme.specs.Store.{tableC, widthOf}
 use Rattle.table.specs.Table.{rows}
 use Rattle.scheme.specs.Reading.{countOf}
 use Rattle.format.specs.Tags.{numberedBy}
@@ -19,20 +20,20 @@ use Rattle.find.proofs.read_all.Tie as tie
 
 abbrev Inv-loop : tie.InvT-loop
 Inv-loop t c clx p of₀ sum₀ u₀ of sum u =
-    (u ≤ p + 1) × Summed (shareRead clx c (rows 61 c t)) u sum × (of ≡ filled (λ u. countOf (shareRead clx c (rows 61 c t) u)) u (replicate 16 0))
+    (u ≤ p + 1) × Summed (shareRead clx c (rows (widthOf tableC) c t)) u sum × (of ≡ filled (λ u. countOf (shareRead clx c (rows (widthOf tableC) c t) u)) u (replicate 16 0))
 
 abbrev μ-loop : tie.MeasureT-loop
 μ-loop t c clx p of₀ sum₀ u₀ of sum u = p + 1 - u
 
 loop-holds : tie.Need-loop-holds Inv-loop μ-loop
-loop-holds c = let a = c .before .args in (search needs, summed-none (shareRead (a .clx) (a .c) (rows 61 (a .c) (a .t .now))), refl)
+loop-holds c = let a = c .before .args in (search needs, summed-none (shareRead (a .clx) (a .c) (rows (widthOf tableC) (a .c) (a .t .now))), refl)
 
 returns : tie.Need-returns Inv-loop μ-loop
 returns c =
     let r = c .before .before in
     let l = r .before .before .loop in
     let a = r .before .before .before .before .args in
-    let f = shareRead (a .clx) (a .c) (rows 61 (a .c) (a .t .now)) in
+    let f = shareRead (a .clx) (a .c) (rows (widthOf tableC) (a .c) (a .t .now)) in
     counts-damage f (a .p) (summed-damage f (l .u) (a .p) (omega (arith, r .before .loop-test .taken)) (sym (ap readingOf (c .enum-told .given .1)) ∙ r .read-share .ensures))
 
 -- one share more
@@ -40,14 +41,14 @@ more : (c : tie.After-struct-known Inv-loop μ-loop) →
     let l = c .before .before .before .before .before .before .loop in
     let a = c .before .before .before .before .before .before .before .before .args in
     let x = c .before .before .reading .given .0 .0 .count in
-    let f = shareRead (a .clx) (a .c) (rows 61 (a .c) (a .t .now)) in
+    let f = shareRead (a .clx) (a .c) (rows (widthOf tableC) (a .c) (a .t .now)) in
     Summed f (l .u + 1) (l .sum + x) × (set (l .of) (l .u) x ≡ filled (λ u. countOf (f u)) (l .u + 1) (replicate 16 0))
 unfolding shareRead
 more c =
     let r = c .before .before .before .before in
     let l = r .before .before .loop in
     let a = r .before .before .before .before .args in
-    let t = rows 61 (a .c) (a .t .now) in
+    let t = rows (widthOf tableC) (a .c) (a .t .now) in
     let g = c .before .before .reading .given in
     let z = g .0 .0 in
     let f = shareRead (a .clx) (a .c) t in
@@ -67,7 +68,7 @@ returns-2 : tie.Need-returns-2 Inv-loop μ-loop
 returns-2 c =
     let l = c .before .loop in
     let a = c .before .before .before .args in
-    let f = shareRead (a .clx) (a .c) (rows 61 (a .c) (a .t .now)) in
+    let f = shareRead (a .clx) (a .c) (rows (widthOf tableC) (a .c) (a .t .now)) in
     let e : l .u ≡ a .p + 1 = omega (arith, l .inv .0, c .loop-test .left) in
     counts-done f (a .p) (l .of) (l .sum) (l .inv .2 ∙ ap (λ (n : ℕ). filled (λ u. countOf (f u)) n (replicate 16 0)) e) (summed-all f (a .p) (l .sum) (subst (λ (u : ℕ). Summed f u (l .sum)) e (l .inv .1)))
 

@@ -4,6 +4,7 @@ use mathlib.Core.Path.{_≡_, sym, ap, _∙_}
 use mathlib.Core.List.{List, [], _∷_, append-nil}
 use native.Mathlib.Omega.{arith}
 use lib.ListN.{length}
+use Rattle.scheme.specs.Store.{tableM, widthOf}
 use Rattle.octets.specs.Part.{written}
 use Rattle.octets.proofs.Parts.{written-none}
 use Rattle.table.specs.Lists.{flat}
@@ -18,11 +19,11 @@ use Rattle.find.proofs.write_entry.Tie as tie
 -- the one id
 hit : (c : tie.After-text-at) →
     let a = c .before .before .before .before .before .args in
-    idAt (entryTags (a .mt)) (a .me .now) (rows 61 (a .m) (a .t .now)) (a .a .0) ≡ c .text-at .result ∷ []
+    idAt (entryTags (a .mt)) (a .me .now) (rows (widthOf tableM) (a .m) (a .t .now)) (a .a .0) ≡ c .text-at .result ∷ []
 hit c =
     let p = c .before .before in
     let a = p .before .before .before .args in
-    id-hit (entryTags (a .mt)) (rows 61 (a .m) (a .t .now)) (a .a .0) (p .place .result) (p .place .ensures) (a .me .now) (omega (arith, rows-length 61 (a .m) (a .t .now))) (c .text-at .result) (c .text-at .ensures)
+    id-hit (entryTags (a .mt)) (rows (widthOf tableM) (a .m) (a .t .now)) (a .a .0) (p .place .result) (p .place .ensures) (a .me .now) (omega (arith, rows-length (widthOf tableM) (a .m) (a .t .now))) (c .text-at .result) (c .text-at .ensures)
 
 copy-at-requires : tie.Need-copy-at-requires
 copy-at-requires c κs =
@@ -42,7 +43,7 @@ returns-2 : tie.Need-returns-2
 returns-2 c =
     let p = c .before in
     let a = p .before .before .before .args in
-    let e = id-miss (entryTags (a .mt)) (rows 61 (a .m) (a .t .now)) (a .a .0) (p .place .result) (p .place .ensures) (a .me .now) (omega (arith, rows-length 61 (a .m) (a .t .now))) in (
+    let e = id-miss (entryTags (a .mt)) (rows (widthOf tableM) (a .m) (a .t .now)) (a .a .0) (p .place .result) (p .place .ensures) (a .me .now) (omega (arith, rows-length (widthOf tableM) (a .m) (a .t .now))) in (
       omega (arith, ap length e),
       sym (ap (λ (ids : List (List ℕ)). written (a .output .now) (16 * a .k) (flat ids)) e ∙ written-none (a .output .now) (16 * a .k)),
     )

@@ -4,6 +4,7 @@ use mathlib.Core.Path.{_≡_, ap, _∙_}
 use mathlib.Core.List.{List}
 use native.Mathlib.Omega.{arith}
 use lib.ListN.{length}
+use Rattle.scheme.specs.Store.{tableM, widthOf}
 use Rattle.octets.specs.Part.{written}
 use Rattle.table.specs.Lists.{flat}
 use Rattle.table.specs.Table.{rows}
@@ -16,13 +17,13 @@ use Rattle.find.proofs.write_of.Tie as tie
 ids : (c : tie.After-numbered2) →
     let p = c .before in
     let a = p .before .before .before .before .before .args in
-    let t = rows 61 (a .m) (a .t .now) in
+    let t = rows (widthOf tableM) (a .m) (a .t .now) in
     idsBy (entryTags (p .prepare .result)) (c .numbered2 .result) t (a .n) ≡ idsOf (a .keys) t (a .u) (a .n)
 ids c =
     let p = c .before in
     let k = p .before .before in
     let a = k .before .before .before .args in
-    share-ids (a .keys) (rows 61 (a .m) (a .t .now)) (a .u) (a .n) (p .prepare .result) (k .numbered .result) (record { inner = p .prepare .ensures .0; outer = p .prepare .ensures .1 }) (k .numbered .ensures)
+    share-ids (a .keys) (rows (widthOf tableM) (a .m) (a .t .now)) (a .u) (a .n) (p .prepare .result) (k .numbered .result) (record { inner = p .prepare .ensures .0; outer = p .prepare .ensures .1 }) (k .numbered .ensures)
     (c .numbered2 .result) (c .numbered2 .ensures)
 
 write-share-requires : tie.Need-write-share-requires
