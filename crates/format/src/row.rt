@@ -1,19 +1,21 @@
 // Rows (document 01, "Store"): those of M, V, C and S as they are written, and the text in a row that is
 // read.
 ghost use mathlib.Core.Path.{_≡_};
-ghost use mathlib.Core.Bool.{not};
+ghost use mathlib.Core.Bool.{not, _&&_};
 ghost use mathlib.Core.List.{_∷_, _++_, []};
 ghost use Prim.Native.Nat.{_*_, _<_};
 ghost use lib.ListN.{length, getD};
 ghost use Rattle.chacha20.specs.Cipher.{E};
+ghost use Rattle.table.specs.Lists.{same};
 ghost use Rattle.table.specs.Table.{rows, isFree, body};
 ghost use Rattle.scheme.specs.Suite.{number8};
-ghost use Rattle.scheme.specs.Store.{tableM, tableS, widthOf, entryRow, reverseRow, countedRow, counterRow, anchorRow, logRow, clIn};
+ghost use Rattle.scheme.specs.Store.{tableM, tableS, tableV, widthOf, reverseId, reverseTag, entryRow, reverseRow, countedRow, counterRow, anchorRow, logRow, clIn};
 ghost use Rattle.suite.specs.Program.{program};
 ghost use Rattle.format.specs.Tags.{Prepared, KeysOf};
 ghost use Rattle.format.specs.Rows.{textIn};
 use crate::Address;
 use crate::AnchorNumber;
+use crate::ID;
 use crate::Keys;
 use crate::Position;
 use crate::anchor_tag;
@@ -165,4 +167,26 @@ pub fn open_row(t: &[u8], s: usize, i: usize, ks: &[u8], cl: &mut [u8])
     let e = at + S_WIDTH;
     octets::copy(cl, &t[text..e]);
     chacha20::apply_short(ks, &t[nonce..text], cl);
+}
+
+// Whether the row of V at an index is used and is the id's. [01:ST8]
+pub fn is_reverse(t: &[u8], n: usize, i: usize, id: &[u8; ID]) -> bool
+    requires { ⌜ (i < n) × (length (now t) ≡ widthOf tableV * n) ⌝ }
+    ensures { λ r. ⌜ r ≡ (not (isFree (getD (rows (widthOf tableV) n (now (t .entry))) i [])) && same (reverseId (body (getD (rows (widthOf tableV) n (now (t .entry))) i []))) (now (id .entry))) ⌝ }
+{
+    let at = V_WIDTH * i;
+    let e = at + V_WIDTH;
+    table::starts(&t[at..e], id)
+}
+
+// The tag in the row of V at an index. [01:ST8]
+pub fn tag_at(t: &[u8], n: usize, i: usize) -> [u8; 32]
+    requires { ⌜ (i < n) × (length (now t) ≡ widthOf tableV * n) ⌝ }
+    ensures { λ r. ⌜ r ≡ reverseTag (body (getD (rows (widthOf tableV) n (now (t .entry))) i [])) ⌝ }
+{
+    let e = V_WIDTH * i + V_WIDTH;
+    let at = V_WIDTH * i + 17;
+    let mut tag = [0u8; 32];
+    octets::copy(&mut tag, &t[at..e]);
+    tag
 }

@@ -193,6 +193,10 @@ fit b z e = go (headerBad b) (marksBad (cut b)) refl refl e
     go false true eh ek e = absurd (let z : _≡_ {A = ℕ} 0 1 = cc in omega arith)
     go false false eh ek e = let q : z ≡ shapeBy b (sizesOf b) = cc in record { header = eh; marks = ek; shape = q }
 
+-- and they are no others
+pub fit-unique : (b : List ℕ) (y z : Shape) → checkedOf b ≡ Fit y → checkedOf b ≡ Fit z → y ≡ z
+fit-unique b y z p q = fit b y p .shape ∙ sym (fit b z q .shape)
+
 -- the slice was refused: any list of tests that starts with those of the state refuses it so
 pub unfit : (b : List ℕ) (r : Refusal) (ts : List Test) → checkedOf b ≡ Refused r → verdict (stateTests b ++ ts) ≡ some (refusal r)
 unfolding checkedOf stateTests

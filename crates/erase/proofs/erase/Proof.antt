@@ -2,7 +2,6 @@
 use mathlib.Core.Path.{_≡_, sym, _∙_}
 use Rattle.store.specs.declared.Checked.the-variants.{Fit}
 use Rattle.store.specs.Check.{checkedOf}
-use Rattle.store.proofs.Laws.{fit-length}
 use Rattle.erase.proofs.Laws.{erase-length, erase-unfit, erase-fit}
 use borrow.Author.Needs.{needs}
 use Rattle.erase.proofs.erase.Statement.{statement}
@@ -15,10 +14,7 @@ returns : tie.Need-returns
 returns c = erase-length (c .before .before .before .args .store .now) (c .before .before .before .args .id .now) (c .if1 .taken)
 
 erase-rows-requires : tie.Need-erase-rows-requires
-erase-rows-requires c κs =
-    let z = c .before .before .before in
-    let f = fit-length (z .before .before .before .before .before .before .before .before .before .before .args .store .now) (z .z .given .0 .0) (checked z) in
-    (checked z, (f .range .m-most, f .whole))
+erase-rows-requires c κs = checked (c .before .before .before)
 
 returns-2 : tie.Need-returns-2
 returns-2 c =
