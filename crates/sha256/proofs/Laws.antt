@@ -13,34 +13,44 @@ use Rattle.octets.specs.Part.{back}
 use Rattle.octets.proofs.Numbers.{length-bytes}
 use Rattle.octets.proofs.Parts.{back-next, length-back, length-part}
 use Rattle.sha256.specs.Words.{_⊞_, σ0, σ1}
-use Rattle.sha256.specs.Constants.{K, H0}
+use Rattle.sha256.specs.Constants.{H0}
 use Rattle.sha256.specs.Schedule.{Word, Words, Next, Schedule}
 use Rattle.sha256.specs.Compression.{Step, Steps, Added, Compress}
 use Rattle.sha256.specs.Padding.{zeros, padding}
 use Rattle.sha256.specs.Hash.{Blocks, Tail, Final, Digest, Hash}
 
+-- ---- sums and words, part by part
+
+pub sum : {r x y a b : ℕ} → r ≡ x ⊞ y → x ≡ a → y ≡ b → r ≡ a ⊞ b
+sum e f g = e ∙ ap₂ (λ (m n : ℕ). m ⊞ n) f g
+
+infixr 60 _then_
+pub _then_ : {x y : ℕ} {xs ys : List ℕ} → x ≡ y → xs ≡ ys → x ∷ xs ≡ y ∷ ys
+e then f = ap₂ (λ (x : ℕ) (xs : List ℕ). x ∷ xs) e f
+
 -- ---- turns
 
-steps-add : (a b t : ℕ) (w s : List ℕ) → Steps (a + b) t w s ≡ Steps b (t + a) w (Steps a t w s)
+steps-add : (a b t : ℕ) (k w s : List ℕ) → Steps (a + b) t k w s ≡ Steps b (t + a) k w (Steps a t k w s)
 unfolding Steps
-steps-add zero b t w s = rw (zero-add b, add-zero t)
-steps-add (suc a) b t w s =
+steps-add zero b t k w s = rw (zero-add b, add-zero t)
+steps-add (suc a) b t k w s =
     rw (suc-add a b)
-    (steps-add a b (t + 1) w (Step (getD K t 0) (getD w t 0) s)
-    ∙ ap (λ (n : ℕ). Steps b n w (Steps a (t + 1) w (Step (getD K t 0) (getD w t 0) s))) (moved t a))
+    (steps-add a b (t + 1) k w (Step (getD k t 0) (getD w t 0) s)
+    ∙ ap (λ (n : ℕ). Steps b n k w (Steps a (t + 1) k w (Step (getD k t 0) (getD w t 0) s))) (moved t a))
   where
     moved : (t a : ℕ) → t + 1 + a ≡ t + suc a
     moved t a = omega arith
 
-pub eight-more : (t : ℕ) (w s : List ℕ) → t + 8 ≤ 64 → Steps (64 - t) t w s ≡ Steps (64 - (t + 8)) (t + 8) w (Steps 8 t w s)
-eight-more t w s h = ap (λ (n : ℕ). Steps n t w s) (split t h) ∙ steps-add 8 (64 - (t + 8)) t w s
+pub eight-more : (t : ℕ) (k w s : List ℕ) → t + 8 ≤ 64
+    → Steps (64 - t) t k w s ≡ Steps (64 - (t + 8)) (t + 8) k w (Steps 8 t k w s)
+eight-more t k w s h = ap (λ (n : ℕ). Steps n t k w s) (split t h) ∙ steps-add 8 (64 - (t + 8)) t k w s
   where
     split : (t : ℕ) → t + 8 ≤ 64 → 64 - t ≡ 8 + (64 - (t + 8))
     split t h = omega arith
 
-pub no-more : (t : ℕ) (w s z : List ℕ) → 64 ≤ t → Steps (64 - t) t w s ≡ z → s ≡ z
+pub no-more : (t : ℕ) (k w s z : List ℕ) → 64 ≤ t → Steps (64 - t) t k w s ≡ z → s ≡ z
 unfolding Steps
-no-more t w s z h e = sym (ap (λ (n : ℕ). Steps n t w s) (none t h)) ∙ e
+no-more t k w s z h e = sym (ap (λ (n : ℕ). Steps n t k w s) (none t h)) ∙ e
   where
     none : (t : ℕ) → 64 ≤ t → 64 - t ≡ zero
     none t h = omega arith

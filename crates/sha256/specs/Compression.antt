@@ -22,10 +22,10 @@ unfoldable pub Step : ℕ → ℕ → List ℕ → List ℕ
 Step k w s =
     (T1 k w s ⊞ T2 s) ∷ getD s 0 0 ∷ getD s 1 0 ∷ getD s 2 0 ∷ (getD s 3 0 ⊞ T1 k w s) ∷ getD s 4 0 ∷ getD s 5 0 ∷ getD s 6 0 ∷ []
 
--- n turns from turn t on
-unfoldable pub Steps : ℕ → ℕ → List ℕ → List ℕ → List ℕ
-Steps zero t w s = s
-Steps (suc n) t w s = Steps n (t + 1) w (Step (getD K t 0) (getD w t 0) s)
+-- n turns from turn t on, by a table k and the schedule w
+unfoldable pub Steps : ℕ → ℕ → List ℕ → List ℕ → List ℕ → List ℕ
+Steps zero t k w s = s
+Steps (suc n) t k w s = Steps n (t + 1) k w (Step (getD k t 0) (getD w t 0) s)
 
 -- step 4: the words are added one by one
 unfoldable pub Added : List ℕ → List ℕ → List ℕ
@@ -35,4 +35,4 @@ Added s v =
 
 -- the hash value after the block b
 unfoldable pub Compress : List ℕ → List ℕ → List ℕ
-Compress s b = Added s (Steps 64 0 (Schedule 48 b) s)
+Compress s b = Added s (Steps 64 0 K (Schedule 48 b) s)

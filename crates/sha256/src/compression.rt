@@ -2,7 +2,7 @@
 ghost use mathlib.Core.Path.{_≡_};
 ghost use Prim.Native.Nat.{_<_, _≤_, _+_};
 ghost use lib.ListN.{length, getD};
-ghost use Rattle.sha256.specs.Constants.{K as constantsOf, H0};
+ghost use Rattle.sha256.specs.Constants.{H0};
 ghost use Rattle.sha256.specs.Schedule.{Schedule};
 ghost use Rattle.sha256.specs.Compression.{words, Step, Steps, Added, Compress};
 use crate::functions::ch;
@@ -11,6 +11,74 @@ use crate::functions::large1;
 use crate::functions::maj;
 use crate::schedule::schedule;
 use std::num::wrapping_add_u32;
+
+// The round constants (4.2.2): one table, of which a compression reads a copy of its own. [01:KF5 FM4]
+const K: [u32; 64] = [
+    0x428a_2f98,
+    0x7137_4491,
+    0xb5c0_fbcf,
+    0xe9b5_dba5,
+    0x3956_c25b,
+    0x59f1_11f1,
+    0x923f_82a4,
+    0xab1c_5ed5,
+    0xd807_aa98,
+    0x1283_5b01,
+    0x2431_85be,
+    0x550c_7dc3,
+    0x72be_5d74,
+    0x80de_b1fe,
+    0x9bdc_06a7,
+    0xc19b_f174,
+    0xe49b_69c1,
+    0xefbe_4786,
+    0x0fc1_9dc6,
+    0x240c_a1cc,
+    0x2de9_2c6f,
+    0x4a74_84aa,
+    0x5cb0_a9dc,
+    0x76f9_88da,
+    0x983e_5152,
+    0xa831_c66d,
+    0xb003_27c8,
+    0xbf59_7fc7,
+    0xc6e0_0bf3,
+    0xd5a7_9147,
+    0x06ca_6351,
+    0x1429_2967,
+    0x27b7_0a85,
+    0x2e1b_2138,
+    0x4d2c_6dfc,
+    0x5338_0d13,
+    0x650a_7354,
+    0x766a_0abb,
+    0x81c2_c92e,
+    0x9272_2c85,
+    0xa2bf_e8a1,
+    0xa81a_664b,
+    0xc24b_8b70,
+    0xc76c_51a3,
+    0xd192_e819,
+    0xd699_0624,
+    0xf40e_3585,
+    0x106a_a070,
+    0x19a4_c116,
+    0x1e37_6c08,
+    0x2748_774c,
+    0x34b0_bcb5,
+    0x391c_0cb3,
+    0x4ed8_aa4a,
+    0x5b9c_ca4f,
+    0x682e_6ff3,
+    0x748f_82ee,
+    0x78a5_636f,
+    0x84c8_7814,
+    0x8cc7_0208,
+    0x90be_fffa,
+    0xa450_6ceb,
+    0xbef9_a3f7,
+    0xc671_78f2,
+];
 
 // A hash value: its eight words, a to h in a compression, H0 to H7 between blocks.
 pub struct State {
@@ -66,16 +134,16 @@ fn step(s: State, k: u32, w: u32) -> State
 
 // Turn t, with the constant and the word of the schedule that belong to it.
 fn turn<'a>(s: State, k: &'a [u32; 64], w: &'a [u32; 64], t: usize) -> State
-    requires { ⌜ (t < 64) × (now k ≡ constantsOf) ⌝ }
-    ensures { λ r. ⌜ words r ≡ Step (getD constantsOf t 0) (getD (now (w .entry)) t 0) (words s) ⌝ }
+    requires { ⌜ t < 64 ⌝ }
+    ensures { λ r. ⌜ words r ≡ Step (getD (now (k .entry)) t 0) (getD (now (w .entry)) t 0) (words s) ⌝ }
 {
     step(s, k[t], w[t])
 }
 
 // Eight turns from turn t on.
 fn eight<'a>(s: State, k: &'a [u32; 64], w: &'a [u32; 64], t: usize) -> State
-    requires { ⌜ (t + 8 ≤ 64) × (now k ≡ constantsOf) ⌝ }
-    ensures { λ r. ⌜ words r ≡ Steps 8 t (now (w .entry)) (words s) ⌝ }
+    requires { ⌜ t + 8 ≤ 64 ⌝ }
+    ensures { λ r. ⌜ words r ≡ Steps 8 t (now (k .entry)) (now (w .entry)) (words s) ⌝ }
 {
     let t1 = t + 1;
     let t2 = t1 + 1;
@@ -91,8 +159,7 @@ fn eight<'a>(s: State, k: &'a [u32; 64], w: &'a [u32; 64], t: usize) -> State
 
 // The 64 turns of step 3.
 fn rounds<'a>(s: State, k: &'a [u32; 64], w: &'a [u32; 64]) -> State
-    requires { ⌜ now k ≡ constantsOf ⌝ }
-    ensures { λ r. ⌜ words r ≡ Steps 64 0 (now (w .entry)) (words s) ⌝ }
+    ensures { λ r. ⌜ words r ≡ Steps 64 0 (now (k .entry)) (now (w .entry)) (words s) ⌝ }
 {
     let mut v = s;
     let mut t = 0;
@@ -120,11 +187,12 @@ fn added(s: State, v: State) -> State
 }
 
 // The hash value after a block.
-pub fn compress<'a>(s: State, block: &'a [u8], k: &'a [u32; 64]) -> State
-    requires { ⌜ (length (now block) ≡ 64) × (now k ≡ constantsOf) ⌝ }
+pub fn compress(s: State, block: &[u8]) -> State
+    requires { ⌜ length (now block) ≡ 64 ⌝ }
     ensures { λ r. ⌜ words r ≡ Compress (words s) (now (block .entry)) ⌝ }
 {
+    let k = K;
     let w = schedule(block);
-    let v = rounds(s, k, &w);
+    let v = rounds(s, &k, &w);
     added(s, v)
 }

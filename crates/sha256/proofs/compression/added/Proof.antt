@@ -1,5 +1,7 @@
 -- Each sum is its callee's.
 use Rattle.sha256.specs.Compression.{Added}
+use Rattle.sha256.proofs.Laws.{_then_}
+use mathlib.Core.Path.{refl}
 use borrow.Author.Needs.{needs}
 use Rattle.sha256.proofs.compression.added.Statement.{statement}
 use Rattle.sha256.proofs.compression.added.Tie as tie
@@ -30,7 +32,16 @@ wrapping-add-u32-requires-8 c κs = search needs
 
 returns : tie.Need-returns
 unfolding Added
-returns c = cc
+returns c =
+    c .before .before .before .before .before .before .before .wrapping-add-u32 .ensures then
+    c .before .before .before .before .before .before .wrapping-add-u322 .ensures then
+    c .before .before .before .before .before .wrapping-add-u323 .ensures then
+    c .before .before .before .before .wrapping-add-u324 .ensures then
+    c .before .before .before .wrapping-add-u325 .ensures then
+    c .before .before .wrapping-add-u326 .ensures then
+    c .before .wrapping-add-u327 .ensures then
+    c .wrapping-add-u328 .ensures then
+    refl
 
 pub added-spec : {M : Type 1} → statement M
 added-spec =

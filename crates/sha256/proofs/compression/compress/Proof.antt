@@ -1,5 +1,9 @@
--- The three steps, one after the other.
-use Rattle.sha256.specs.Compression.{Compress}
+-- The code's table is the standard's, entry by entry; the three steps, one after the other.
+use Rattle.sha256.specs.Compression.{words, Steps, Added, Compress}
+use Rattle.sha256.specs.Constants.{K}
+use Prim.Native.Nat.{ℕ}
+use mathlib.Core.List.{List}
+use mathlib.Core.Path.{ap, _∙_}
 use borrow.Author.Needs.{needs}
 use Rattle.sha256.proofs.compression.compress.Statement.{statement}
 use Rattle.sha256.proofs.compression.compress.Tie as tie
@@ -14,8 +18,10 @@ added-requires : tie.Need-added-requires
 added-requires c κs = search needs
 
 returns : tie.Need-returns
-unfolding Compress
-returns c = cc
+unfolding Compress K
+returns c =
+    let s = words (c .before .before .before .before .before .before .args .s) in
+    c .added .ensures ∙ ap (Added s) (c .before .rounds .ensures ∙ ap (λ (w : List ℕ). Steps 64 0 K w s) (c .before .before .before .before .schedule .ensures))
 
 pub compress-spec : {M : Type 1} → statement M
 compress-spec = tie.close (tie.spec schedule-requires rounds-requires added-requires returns)

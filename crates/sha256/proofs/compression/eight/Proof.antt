@@ -1,5 +1,6 @@
 -- Eight turns, one after the other.
-use Rattle.sha256.specs.Compression.{Steps}
+use Rattle.sha256.specs.Compression.{Step, Steps}
+use mathlib.Core.Path.{ap, _∙_}
 use borrow.Author.Needs.{needs}
 use Rattle.sha256.proofs.compression.eight.Statement.{statement}
 use Rattle.sha256.proofs.compression.eight.Tie as tie
@@ -51,7 +52,8 @@ turn-requires-8 c κs = search needs
 
 returns : tie.Need-returns
 unfolding Steps
-returns c = cc
+returns c =
+    c .turn8 .ensures ∙ ap (Step _ _) (c .before .turn7 .ensures ∙ ap (Step _ _) (c .before .before .turn6 .ensures ∙ ap (Step _ _) (c .before .before .before .turn5 .ensures ∙ ap (Step _ _) (c .before .before .before .before .turn4 .ensures ∙ ap (Step _ _) (c .before .before .before .before .before .turn3 .ensures ∙ ap (Step _ _) (c .before .before .before .before .before .before .turn2 .ensures ∙ ap (Step _ _) (c .before .before .before .before .before .before .before .turn .ensures)))))))
 
 pub eight-spec : {M : Type 1} → statement M
 eight-spec =

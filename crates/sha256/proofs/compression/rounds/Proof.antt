@@ -9,7 +9,7 @@ use Rattle.sha256.proofs.compression.rounds.Statement.{statement}
 use Rattle.sha256.proofs.compression.rounds.Tie as tie
 
 abbrev Inv-loop : tie.InvT-loop
-Inv-loop k w v₀ t₀ v t = (t ≤ 64) × (t % 8 ≡ 0) × (Steps (64 - t) t w (words v) ≡ Steps 64 0 w (words v₀))
+Inv-loop k w v₀ t₀ v t = (t ≤ 64) × (t % 8 ≡ 0) × (Steps (64 - t) t k w (words v) ≡ Steps 64 0 k w (words v₀))
 
 abbrev μ-loop : tie.MeasureT-loop
 μ-loop k w v₀ t₀ v t = 64 - t
@@ -29,17 +29,21 @@ loop-less c = search needs
 loop-again : tie.Need-loop-again Inv-loop μ-loop
 loop-again c =
     let l = c .before .before .loop in
+    let k = c .before .before .before .args .k .now in
+    let w = c .before .before .before .args .w .now in
     let h : l .t + 8 ≤ 64 = omega arith in (
       h,
       omega arith,
-      ap (Steps (64 - (l .t + 8)) (l .t + 8) (c .before .before .before .args .w .now)) (c .eight .ensures)
-          ∙ sym (eight-more (l .t) (c .before .before .before .args .w .now) (words (l .v)) h) ∙ l .inv .2,
+      ap (Steps (64 - (l .t + 8)) (l .t + 8) k w) (c .eight .ensures)
+          ∙ sym (eight-more (l .t) k w (words (l .v)) h) ∙ l .inv .2,
     )
 
 returns : tie.Need-returns Inv-loop μ-loop
 returns c =
     let l = c .before .loop in
-    no-more (l .t) (c .before .before .args .w .now) (words (l .v)) (Steps 64 0 (c .before .before .args .w .now) (words (c .before .before .args .s)))
+    let k = c .before .before .args .k .now in
+    let w = c .before .before .args .w .now in
+    no-more (l .t) k w (words (l .v)) (Steps 64 0 k w (words (c .before .before .args .s)))
     (c .loop-test .left) (l .inv .2)
 
 pub rounds-spec : {M : Type 1} → statement M

@@ -1,5 +1,7 @@
 -- Each sum is its callee's; the words follow.
 use Rattle.sha256.specs.Compression.{Step, T1, T2}
+use Rattle.sha256.proofs.Laws.{sum, _then_}
+use mathlib.Core.Path.{refl}
 use borrow.Author.Needs.{needs}
 use Rattle.sha256.proofs.compression.step.Statement.{statement}
 use Rattle.sha256.proofs.compression.step.Tie as tie
@@ -39,7 +41,10 @@ wrapping-add-u32-requires-7 c κs = search needs
 
 returns : tie.Need-returns
 unfolding Step T1 T2
-returns c = cc
+returns c =
+    let t1 = sum (c .before .before .before .before .before .wrapping-add-u324 .ensures) (sum (c .before .before .before .before .before .before .wrapping-add-u323 .ensures) (sum (c .before .before .before .before .before .before .before .wrapping-add-u322 .ensures) (sum (c .before .before .before .before .before .before .before .before .before .wrapping-add-u32 .ensures) refl (c .before .before .before .before .before .before .before .before .before .before .large1 .ensures)) (c .before .before .before .before .before .before .before .before .ch .ensures)) refl) refl in
+    let t2 = sum (c .before .before .wrapping-add-u325 .ensures) (c .before .before .before .before .large0 .ensures) (c .before .before .before .maj .ensures) in
+    sum (c .before .wrapping-add-u326 .ensures) t1 t2 then refl then refl then refl then sum (c .wrapping-add-u327 .ensures) refl t1 then refl
 
 pub step-spec : {M : Type 1} → statement M
 step-spec =

@@ -19,7 +19,7 @@ step-requires : tie.Need-step-requires
 step-requires c κs = search needs
 
 returns : tie.Need-returns
-returns c = cc
+returns c = c .step .ensures
 
 pub turn-spec : {M : Type 1} → statement M
 turn-spec =

@@ -1,5 +1,7 @@
 -- Each sum is its callee's.
 use Rattle.sha256.specs.Schedule.{Next}
+use Rattle.sha256.proofs.Laws.{sum}
+use mathlib.Core.Path.{refl}
 use borrow.Author.Needs.{needs}
 use Rattle.sha256.proofs.schedule.next.Statement.{statement}
 use Rattle.sha256.proofs.schedule.next.Tie as tie
@@ -54,7 +56,7 @@ wrapping-add-u32-requires-3 c κs = search needs
 
 returns : tie.Need-returns
 unfolding Next
-returns c = cc
+returns c = sum (c .wrapping-add-u323 .ensures) (sum (c .before .before .wrapping-add-u322 .ensures) (sum (c .before .before .before .before .before .wrapping-add-u32 .ensures) (c .before .before .before .before .before .before .before .small1 .ensures) refl) (c .before .before .before .small0 .ensures)) refl
 
 pub next-spec : {M : Type 1} → statement M
 next-spec =
