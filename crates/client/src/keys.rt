@@ -2,7 +2,7 @@
 ghost use mathlib.Core.Path.{_≡_};
 ghost use Prim.Native.Nat.{_≤_};
 ghost use lib.ListN.{length};
-ghost use Rattle.sha256.specs.Compression.{words};
+ghost use Rattle.compression.specs.Compression.{words};
 ghost use Rattle.hmac.specs.Hmac.{F, Tag};
 ghost use Rattle.scheme.specs.Suite.{number8};
 ghost use Rattle.scheme.specs.Keys.{KC, KM, KS};

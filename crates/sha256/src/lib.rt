@@ -6,19 +6,29 @@ ghost use mathlib.Core.List.{_++_};
 ghost use lib.ListN.{length, replicate};
 ghost use Rattle.answer.specs.Answer.{completion};
 ghost use Rattle.sha256.specs.Constants.{H0};
-ghost use Rattle.sha256.specs.Compression.{words, Compress};
+ghost use Rattle.compression.specs.Compression.{words, Compress};
 ghost use Rattle.sha256.specs.Padding.{zeros, padding};
 ghost use Rattle.sha256.specs.Hash.{Blocks, Tail, Final, Digest, hashAnswer, hashDigest};
-
-pub mod compression;
-mod functions;
-mod schedule;
-
 use answer::Completion;
 use answer::Refusal;
 use compression::State;
 use compression::compress;
-use compression::initial;
+
+// The initial hash value (5.3.3).
+pub fn initial() -> State
+    ensures { λ r. ⌜ words r ≡ H0 ⌝ }
+{
+    State {
+        a: 0x6a09_e667,
+        b: 0xbb67_ae85,
+        c: 0x3c6e_f372,
+        d: 0xa54f_f53a,
+        e: 0x510e_527f,
+        f: 0x9b05_688c,
+        g: 0x1f83_d9ab,
+        h: 0x5be0_cd19,
+    }
+}
 
 // The hash value after the full blocks of a slice.
 fn blocks(s: State, m: &[u8]) -> State

@@ -3,7 +3,7 @@ use lib.ListN.{take}
 use Prim.Native.Nat.{ℕ, _+_}
 use Rattle.sha256.proofs.Laws.{block-first, block-more, block-none}
 use Rattle.sha256.specs.Hash.{Blocks}
-use Rattle.sha256.specs.Compression.{words, Compress}
+use Rattle.compression.specs.Compression.{words, Compress}
 use lib.ListN.{length, drop}
 use native.Mathlib.Omega.{arith}
 use Prim.Native.Nat.{_≤_, _-_, _/_}

@@ -1,5 +1,5 @@
 -- The full blocks, and then the rest.
-use Rattle.sha256.specs.Compression.{words}
+use Rattle.compression.specs.Compression.{words}
 use mathlib.Core.Path.{ap₂}
 use Prim.Native.Nat.{ℕ}
 use mathlib.Core.List.{List}

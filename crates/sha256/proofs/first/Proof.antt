@@ -2,7 +2,7 @@
 use Prim.Native.Nat.{ℕ}
 use mathlib.Core.List.{List}
 use mathlib.Core.Path.{ap, _∙_}
-use Rattle.sha256.specs.Compression.{Compress}
+use Rattle.compression.specs.Compression.{Compress}
 use borrow.Author.Needs.{needs}
 use Rattle.sha256.proofs.first.Statement.{statement}
 use Rattle.sha256.proofs.first.Tie as tie

@@ -4,7 +4,7 @@ use lib.ListN.{take}
 use Prim.Native.Nat.{_%_}
 use Rattle.sha256.proofs.Laws.{padded-whole, length-padded}
 use Rattle.sha256.specs.Hash.{Blocks, Tail}
-use Rattle.sha256.specs.Compression.{words}
+use Rattle.compression.specs.Compression.{words}
 use lib.Seq.{length-take-le, take-at}
 use lib.ListN.{length, length-append, drop, replicate}
 use Prim.Native.Nat.{ℕ, _+_, _*_, _/_}

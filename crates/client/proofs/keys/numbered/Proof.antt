@@ -1,6 +1,6 @@
 -- The number's bytes under the key.
 use Rattle.scheme.specs.Suite.{number8}
-use Rattle.sha256.specs.Compression.{words}
+use Rattle.compression.specs.Compression.{words}
 use Rattle.hmac.specs.Hmac.{Tag}
 use Prim.Native.Nat.{ℕ}
 use mathlib.Core.List.{List}
