@@ -1,3 +1,4 @@
 pub mod Signed
 pub mod Carrying
 pub mod Bounds
+pub mod Injective

@@ -98,9 +98,9 @@ fn compacted(r: Compaction) -> i64
     ensures { λ k. ⌜ k ≡ encoded (compactionAnswer r) ⌝ }
 {
     match r {
-        Compaction::Done(t) => positive(t.anchors * 65536 + t.counters),
+        Compaction::Done(t) => positive(t.anchors * 0x1_0000_0000 + t.counters),
         Compaction::Refused(z) => refused(z),
-        Compaction::Damage(t) => negative(13 + 256 * (t.anchors * 65536 + t.counters)),
+        Compaction::Damage(t) => negative(13 + 256 * (t.anchors * 0x1_0000_0000 + t.counters)),
     }
 }
 
