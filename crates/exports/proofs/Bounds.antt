@@ -33,7 +33,7 @@ use Rattle.scheme.specs.Compaction.{Treats, finished, stopped, skipped, anchore
 use Rattle.suite.specs.Program.{program}
 use Rattle.store.proofs.Laws.{good-header}
 use Rattle.counter.proofs.Readings.{reading-bounds}
-use Rattle.exports.specs.Encoding.{packed, magnitude, Values, none as no-value, one, two, carries, Gives, Fits}
+use Rattle.encoding.specs.Encoding.{packed, magnitude, Values, none as no-value, one, two, carries, Gives, Fits}
 
 -- the answer of a list of conditions, each looked at where those before it do not hold
 abbrev pub Bounded : ℕ → List Test → Answer → Type 0

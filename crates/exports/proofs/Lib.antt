@@ -1,4 +1,3 @@
 pub mod Signed
 pub mod Carrying
 pub mod Bounds
-pub mod Injective

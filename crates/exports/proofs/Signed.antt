@@ -7,7 +7,7 @@ use mir.Syntax.{w64}
 use mir.Val.{SFits, toZ, ofZ}
 use mir.Facts.{toZ-pos, toZ-ofZ}
 use Rattle.answer.specs.Answer.{Answer, done, refused}
-use Rattle.exports.specs.Encoding.{magnitude, encoded, Fits, answering}
+use Rattle.encoding.specs.Encoding.{magnitude, encoded, Fits, answering}
 
 minus-fits : (x : ℕ) → x < 2 ^ 63 → SFits w64 (negℤ (pos x))
 minus-fits zero h = record { sfits = omega arith }

@@ -53,7 +53,10 @@ turn-requires-8 c κs = search needs
 returns : tie.Need-returns
 unfolding Steps
 returns c =
-    c .turn8 .ensures ∙ ap (Step _ _) (c .before .turn7 .ensures ∙ ap (Step _ _) (c .before .before .turn6 .ensures ∙ ap (Step _ _) (c .before .before .before .turn5 .ensures ∙ ap (Step _ _) (c .before .before .before .before .turn4 .ensures ∙ ap (Step _ _) (c .before .before .before .before .before .turn3 .ensures ∙ ap (Step _ _) (c .before .before .before .before .before .before .turn2 .ensures ∙ ap (Step _ _) (c .before .before .before .before .before .before .before .turn .ensures)))))))
+    let m = c .before .before .before .before in
+    let four = m .turn4 .ensures ∙ ap (Step _ _) (m .before .turn3 .ensures ∙ ap (Step _ _) (m .before .before .turn2 .ensures ∙ ap (Step _ _) (m .before .before .before .turn .ensures))) in
+    c .turn8 .ensures
+    ∙ ap (Step _ _) (c .before .turn7 .ensures ∙ ap (Step _ _) (c .before .before .turn6 .ensures ∙ ap (Step _ _) (c .before .before .before .turn5 .ensures ∙ ap (Step _ _) four)))
 
 pub eight-spec : {M : Type 1} → statement M
 eight-spec =

@@ -42,7 +42,12 @@ wrapping-add-u32-requires-7 c κs = search needs
 returns : tie.Need-returns
 unfolding Step T1 T2
 returns c =
-    let t1 = sum (c .before .before .before .before .before .wrapping-add-u324 .ensures) (sum (c .before .before .before .before .before .before .wrapping-add-u323 .ensures) (sum (c .before .before .before .before .before .before .before .wrapping-add-u322 .ensures) (sum (c .before .before .before .before .before .before .before .before .before .wrapping-add-u32 .ensures) refl (c .before .before .before .before .before .before .before .before .before .before .large1 .ensures)) (c .before .before .before .before .before .before .before .before .ch .ensures)) refl) refl in
+    let m = c .before .before .before .before .before in
+    let t1 =
+    sum (m .wrapping-add-u324 .ensures)
+    (sum (m .before .wrapping-add-u323 .ensures)
+    (sum (m .before .before .wrapping-add-u322 .ensures)
+    (sum (m .before .before .before .before .wrapping-add-u32 .ensures) refl (m .before .before .before .before .before .large1 .ensures)) (m .before .before .before .ch .ensures)) refl) refl in
     let t2 = sum (c .before .before .wrapping-add-u325 .ensures) (c .before .before .before .before .large0 .ensures) (c .before .before .before .maj .ensures) in
     sum (c .before .wrapping-add-u326 .ensures) t1 t2 then refl then refl then refl then sum (c .wrapping-add-u327 .ensures) refl t1 then refl
 

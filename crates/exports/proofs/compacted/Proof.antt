@@ -5,7 +5,7 @@ use native.Mathlib.Omega.{arith}
 use mathlib.Core.Path.{sym, ap, subst, _∙_}
 use Rattle.compact.specs.declared.Compaction.{Compaction}
 use Rattle.compact.specs.Outcome.{compactionAnswer}
-use Rattle.exports.specs.Encoding.{packed, magnitude, encoded}
+use Rattle.encoding.specs.Encoding.{packed, magnitude, encoded}
 use borrow.Author.Needs.{needs}
 use Rattle.exports.proofs.Signed.{passes}
 use Rattle.exports.proofs.compacted.Statement.{statement}

@@ -56,7 +56,10 @@ wrapping-add-u32-requires-3 c κs = search needs
 
 returns : tie.Need-returns
 unfolding Next
-returns c = sum (c .wrapping-add-u323 .ensures) (sum (c .before .before .wrapping-add-u322 .ensures) (sum (c .before .before .before .before .before .wrapping-add-u32 .ensures) (c .before .before .before .before .before .before .before .small1 .ensures) refl) (c .before .before .before .small0 .ensures)) refl
+returns c =
+    let m = c .before .before in
+    let first = sum (m .before .before .before .wrapping-add-u32 .ensures) (m .before .before .before .before .before .small1 .ensures) refl in
+    sum (c .wrapping-add-u323 .ensures) (sum (m .wrapping-add-u322 .ensures) first (m .before .small0 .ensures)) refl
 
 pub next-spec : {M : Type 1} → statement M
 next-spec =

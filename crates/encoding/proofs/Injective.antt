@@ -5,7 +5,7 @@ use mathlib.Core.Path.{_≡_, refl, sym, ap, ap₂, subst}
 use mathlib.Core.List.{List, [], _∷_}
 use lib.IntN.{ℤ, pos, negℤ}
 use Rattle.answer.specs.Answer.{Answer, done, refused}
-use Rattle.exports.specs.Encoding.{packed, encoded, Values, none, one, two, carries, Gives, answering}
+use Rattle.encoding.specs.Encoding.{packed, encoded, Values, none, one, two, carries, Gives, answering}
 
 same-values : {n : ℕ} {l m : List ℕ} → Values n l → Values n m → packed l ≡ packed m → l ≡ m
 same-values none none e = refl
