@@ -9,6 +9,7 @@
  *   below 0     the call was refused: minus (the refusal's number + 256 * what it carries).
  *               mazhkuri_refusal and mazhkuri_carried take the two apart. Only refusal 18 carries a
  *               number, and refusal 13 of a compaction, which carries its two numbers so far.
+ * Different answers of a call are different numbers (proved): nothing of an answer is lost.
  * A refused call changes no byte of what it was lent, with one exception: see mazhkuri_compact.
  *
  * Memory
@@ -81,6 +82,15 @@ enum {
 static inline int mazhkuri_refusal(int64_t told) { return told < 0 ? (int)(-told % 256) : 0; }
 static inline int64_t mazhkuri_carried(int64_t told) { return told < 0 ? -told / 256 : 0; }
 
+/* The two numbers of what a compaction returned, done or refused by 13: anchors written and counters
+ * freed. */
+static inline int64_t mazhkuri_anchors(int64_t told) {
+  return (told < 0 ? -told / 256 : told) / 4294967296;
+}
+static inline int64_t mazhkuri_counters(int64_t told) {
+  return (told < 0 ? -told / 256 : told) % 4294967296;
+}
+
 /* SHA-256 of the message. Returns 0; or -9. */
 int64_t mazhkuri_sha256(const uint8_t *message, size_t message_length, uint8_t digest[32]);
 
@@ -146,11 +156,10 @@ int64_t mazhkuri_count(const uint8_t *store, size_t store_length, const uint8_t 
 
 /* Compacts: for every field and share inserted under since the last compaction, frees its counter
  * rows and writes one anchor row in their place; then frees the log rows. At least as many nonces of
- * 12 bytes as the log has used rows. Returns anchors written * 65,536 + counters freed; or -4, -6,
- * -10, -11, -19, or -(13 + 256 * (anchors * 65,536 + counters)): a counter is damaged, and what was
+ * 12 bytes as the log has used rows. Returns anchors written * 2^32 + counters freed; or -4, -6,
+ * -10, -11, -19, or -(13 + 256 * (anchors * 2^32 + counters)): a counter is damaged, and what was
  * compacted before it stays compacted, as both numbers tell. This is the one refusal after which
- * bytes of the store have changed. (Counters freed are below 65,536 in every store that only these
- * calls have written.) */
+ * bytes of the store have changed. mazhkuri_anchors and mazhkuri_counters take the numbers apart. */
 int64_t mazhkuri_compact(uint8_t *store, size_t store_length, const uint8_t *nonces,
                          size_t nonces_length, const uint8_t *token, size_t token_length);
 

@@ -136,7 +136,7 @@ class Library:
 
 
 def packed(values):
-    return functools.reduce(lambda n, value: n * 65536 + value, values, 0)
+    return functools.reduce(lambda n, value: n * 2**32 + value, values, 0)
 
 
 def encoded(answer):

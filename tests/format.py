@@ -61,7 +61,7 @@ def by_library(library, lines, inserted, compacted):
     same("find", library.find(store[1], lines["find token"], bytes(16)), (1, ID))
     same("count", library.count(store[1], lines["count token"])[0], 1)
     same("compaction", library.compact(store[1], ANCHOR_NONCE, lines["compaction token"]),
-         (65536 + 1, compacted))
+         (2**32 + 1, compacted))
 
 
 def printed(lines):

@@ -145,7 +145,7 @@ int main(void) {
   find("G2", HUE, "AC");
   count("G2", HUE, 3);
   compact("too few nonces", 1, -19);
-  compact("G3", 2, 2 * 65536 + 2);
+  compact("G3", 2, 2 * 4294967296 + 2);
   find("G3", HUE, "AC");
   insert("G4", HUE, 0, "D", 3);
   find("G4", HUE, "ADC");
@@ -157,12 +157,17 @@ int main(void) {
   erase("G7", "C", 1);
   insert("G7", SIZE, 0, "G", -16);
   find("G7", HUE, "DEF");
-  compact("G8", 2, 1 * 65536 + 2);
+  compact("G8", 2, 1 * 4294967296 + 2);
   insert("G8", SIZE, 0, "G", 1);
   find("G8", HUE, "DEF");
   find("G8", SIZE, "G");
   count("G8", HUE, 6);
   count("G8", SIZE, 1);
+  int64_t damage = -(13 + 256 * (3 * 4294967296 + 5));
+  expect("13's anchors", mazhkuri_anchors(damage), 3);
+  expect("13's counters", mazhkuri_counters(damage), 5);
+  expect("anchors", mazhkuri_anchors(2 * 4294967296 + 7), 2);
+  expect("counters", mazhkuri_counters(2 * 4294967296 + 7), 7);
   empty();
   free(store), free(key);
   if (!failed) printf("G1 to G8 over the archive: as document 01 says\n");

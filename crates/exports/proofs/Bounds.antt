@@ -1,12 +1,13 @@
--- Every answer fits its number: what the definitions answer is below 2 ^ 63, with 256 times what a refusal carries.
+-- Every answer fits its number: what the definitions answer is below 2 ^ 63, with 256 times what a refusal carries, and each call
+-- answers always as many values, and its refusals carry as many as their numbers say.
 use Prim.Native.Nat.{ℕ, zero, suc, _+_, _*_, _/_, _%_, _^_, _≤_, _<_}
 use native.Mathlib.Omega.{arith}
 use native.Mathlib.Nat.{le-trans}
 use mathlib.Core.Path.{_≡_, refl, sym, subst}
-use mathlib.Core.Bool.{Bool, true, false, cond, not}
+use mathlib.Core.Bool.{Bool, true, false, cond, not, _&&_}
 use mathlib.Core.Option.{Option, none, some}
 use mathlib.Core.List.{List, [], _∷_, _++_, map}
-use lib.Dec.{T, ltb, eqb, lit<}
+use lib.Dec.{T, ltb, eqb, lit<, eqb→eq}
 use lib.ListN.{length, drop, length-append, length-map}
 use Rattle.answer.specs.Answer.{Answer, done, refused}
 use Rattle.answer.specs.Verdict.{Test, _⇒_, _⇒_carrying_, verdict, answerOr}
@@ -32,23 +33,35 @@ use Rattle.scheme.specs.Compaction.{Treats, finished, stopped, skipped, anchore
 use Rattle.suite.specs.Program.{program}
 use Rattle.store.proofs.Laws.{good-header}
 use Rattle.counter.proofs.Readings.{reading-bounds}
-use Rattle.exports.specs.Encoding.{packed, magnitude}
+use Rattle.encoding.specs.Encoding.{packed, magnitude, Values, none as no-value, one, two, carries, Gives, Fits}
 
 -- the answer of a list of conditions, each looked at where those before it do not hold
-abbrev pub Bounded : List Test → Answer → Type 0
-Bounded [] a = magnitude a < 2 ^ 63
-Bounded ((b ⇒ n) ∷ ts) a = T (ltb n 256) × (b ≡ false → Bounded ts a)
-Bounded ((b ⇒ n carrying l) ∷ ts) a = (n + 256 * packed l < 2 ^ 63) × (b ≡ false → Bounded ts a)
+abbrev pub Bounded : ℕ → List Test → Answer → Type 0
+Bounded n [] a = Fits n a
+Bounded n ((b ⇒ k) ∷ ts) a = T (ltb 0 k && ltb k 256 && eqb (carries n k) 0) × (b ≡ false → Bounded n ts a)
+Bounded n ((b ⇒ k carrying l) ∷ ts) a = Fits n (refused k l) × (b ≡ false → Bounded n ts a)
 
-chosen : (b : Bool) (r a : Answer) (v : Option Answer) → magnitude r < 2 ^ 63 → (b ≡ false → magnitude (answerOr v a) < 2 ^ 63)
-    → magnitude (answerOr (cond b (some r) v) a) < 2 ^ 63
+both : (x y : Bool) → T (x && y) → T x × T y
+both true y t = (tt, t)
+both false y t = absurd t
+
+-- a refusal that carries nothing
+plain : (n k : ℕ) → T (ltb 0 k && ltb k 256 && eqb (carries n k) 0) → Fits n (refused k [])
+plain n k t =
+    let h = both (ltb 0 k && ltb k 256) (eqb (carries n k) 0) t in
+    let i = both (ltb 0 k) (ltb k 256) (h .0) in
+    let below = lit< {m = k} {n = 256} (i .1) in
+    record { small = omega arith; gives = (lit< {m = 0} {n = k} (i .0), below, subst (λ (m : ℕ). Values m []) (sym (eqb→eq (carries n k) 0 (h .1))) no-value) }
+
+chosen : {n : ℕ} (b : Bool) (r a : Answer) (v : Option Answer) → Fits n r → (b ≡ false → Fits n (answerOr v a))
+    → Fits n (answerOr (cond b (some r) v) a)
 chosen true r a v h f = h
 chosen false r a v h f = f refl
 
-pub bounded : (ts : List Test) (a : Answer) → Bounded ts a → magnitude (answerOr (verdict ts) a) < 2 ^ 63
+pub bounded : {n : ℕ} (ts : List Test) (a : Answer) → Bounded n ts a → Fits n (answerOr (verdict ts) a)
 bounded [] a h = h
-bounded ((b ⇒ n) ∷ ts) a h = chosen b (refused n []) a (verdict ts) (omega (arith, lit< {m = n} {n = 256} (h .0))) (λ e. bounded ts a (h .1 e))
-bounded ((b ⇒ n carrying l) ∷ ts) a h = chosen b (refused n l) a (verdict ts) (h .0) (λ e. bounded ts a (h .1 e))
+bounded {n} ((b ⇒ k) ∷ ts) a h = chosen b (refused k []) a (verdict ts) (plain n k (h .0)) (λ e. bounded ts a (h .1 e))
+bounded ((b ⇒ k carrying l) ∷ ts) a h = chosen b (refused k l) a (verdict ts) (h .0) (λ e. bounded ts a (h .1 e))
 
 -- a reading's count
 count-small : (c : ℕ) (cl : List ℕ) (t : Table) → countOf (reading program c cl t) ≤ limit
@@ -81,23 +94,23 @@ module _ (before : List ℕ) where
   used-S = let z = sizesOf before in omega (arith, free-used (cut before .tS), rows-length 45 (z .s) (drop (8 + 110 * z .m + 61 * z .c) before))
 
 -- the calls' answers
-pub insert-small : (before ids nonces token : List ℕ) → length ids < 2 ^ 64
-    → magnitude (answerOr (insertVerdict program before ids nonces token) (done (newCount program before ids token ∷ []))) < 2 ^ 63
+pub insert-fits : (before ids nonces token : List ℕ) → length ids < 2 ^ 64
+    → Fits 1 (answerOr (insertVerdict program before ids nonces token) (done (newCount program before ids token ∷ [])))
 unfolding insertVerdict insertInputTests tokenTests insertStateTests newCount insertReading
-insert-small before ids nonces token h =
+insert-fits before ids nonces token h =
     let n = count-small (sizesOf before .c) (tokenCL token) (cut before .tC) in
     bounded (insertInputTests ids nonces ++ (tokenTests 141 token ++ insertStateTests program before ids nonces token)) (done (newCount program before ids token ∷ []))
-    (tt, λ _. (tt, λ _. (tt, λ _. (tt, λ _. (tt, λ _. (tt, λ _. (tt, λ _. (tt, λ _. (tt, λ _. (tt, λ _. (tt, λ _. omega (arith, n, h))))))))))))
+    (tt, λ _. (tt, λ _. (tt, λ _. (tt, λ _. (tt, λ _. (tt, λ _. (tt, λ _. (tt, λ _. (tt, λ _. (tt, λ _. (tt, λ _. record { small = omega (arith, n, h); gives = one })))))))))))
 
-pub erase-small : (before id : List ℕ) → magnitude (erase before id .answer) < 2 ^ 63
+pub erase-fits : (before id : List ℕ) → Fits 1 (erase before id .answer)
 unfolding erase eraseVerdict eraseInputTests
-erase-small before id =
+erase-fits before id =
     bounded (eraseInputTests id ++ ((headerBad before ⇒ 10) ∷ (marksBad (cut before) ⇒ 11) ∷ [])) _
-    (tt, λ _. (tt, λ h. (tt, λ _. omega (arith, good-header before h .range .m-most, used-V before, count-le (isReverse before id) (used (cut before .tV))))))
+    (tt, λ _. (tt, λ h. (tt, λ _. record { small = omega (arith, good-header before h .range .m-most, used-V before, count-le (isReverse before id) (used (cut before .tV))); gives = one })))
 
-pub count-answer-small : (before token : List ℕ) → magnitude (count program before token .answer) < 2 ^ 63
+pub count-answer-fits : (before token : List ℕ) → Fits 1 (count program before token .answer)
 unfolding count countVerdict tokenTests sumOfCounts
-count-answer-small before token =
+count-answer-fits before token =
     bounded (tokenTests 32 token ++ ((headerBad before ⇒ 10) ∷ (marksBad (cut before) ⇒ 11) ∷ (anyOf (λ u. damaged (shareReading program before token u)) (upTo (sizesOf before .p)) ⇒ 13) ∷ [])) _ (
       tt,
       λ _. (
@@ -106,8 +119,10 @@ count-answer-small before token =
           tt,
           λ _. (
             tt,
-            λ _.
-                omega (arith, good-header before h .range .p-most, length-up-to (sizesOf before .p), sum-few (λ u. countOf (shareReading program before token u)) (share-small before token) (upTo (sizesOf before .p))),
+            λ _. record {
+              small = omega (arith, good-header before h .range .p-most, length-up-to (sizesOf before .p), sum-few (λ u. countOf (shareReading program before token u)) (share-small before token) (upTo (sizesOf before .p)));
+              gives = one;
+            },
           ),
         ),
       ),
@@ -136,13 +151,13 @@ found-few before token h =
       sum-few (λ u. length (idsOfShare program before token u)) (share-few before token) (upTo (sizesOf before .p)),
     )
 
-pub find-small : (before token output : List ℕ) → magnitude (find program before token output .answer) < 2 ^ 63
+pub find-fits : (before token output : List ℕ) → Fits 1 (find program before token output .answer)
 unfolding find findVerdict tokenTests
-find-small before token output =
+find-fits before token output =
     let n = length (idsFound program before token) in
     bounded (tokenTests 96 token ++ ((headerBad before ⇒ 10) ∷ (marksBad (cut before) ⇒ 11)
     ∷ (anyOf (λ u. damaged (shareReading program before (findCL token) u)) (upTo (sizesOf before .p)) ⇒ 13) ∷ (ltb (length output) (16 * n) ⇒ 18 carrying (n ∷ [])) ∷ [])) _
-    (tt, λ _. (tt, λ h. (tt, λ _. (tt, λ _. (omega (arith, found-few before token h), λ _. omega (arith, found-few before token h))))))
+    (tt, λ _. (tt, λ h. (tt, λ _. (tt, λ _. (record { small = omega (arith, found-few before token h); gives = (omega arith, omega arith, one) }, λ _. record { small = omega (arith, found-few before token h); gives = one })))))
 
 distinct-few : (l : List (List ℕ)) → length (distinct l) ≤ length l
 distinct-few [] = omega arith
@@ -150,11 +165,19 @@ distinct-few (x ∷ xs) = omega (arith, distinct-few xs, count-split (λ y. same
 
 treats-few : {c : ℕ} {ks : List ℕ} {cls : List (List ℕ)} {tC tS : Table} {nonces : List ℕ} {anchors counters : ℕ} {answer : Answer} {tC′ tS′ : Table} → c ≤ 4096
     → Treats program c ks cls tC tS nonces anchors counters answer tC′ tS′
-    → magnitude answer ≤ 13 + 256 * ((anchors + length cls) * 65536 + (counters + 4096 * length cls))
+    → magnitude answer ≤ 13 + 256 * packed ((anchors + length cls) ∷ (counters + 4096 * length cls) ∷ [])
 treats-few h finished = omega arith
 treats-few h (stopped e) = omega arith
 treats-few h (skipped e r) = omega (arith, treats-few h r)
 treats-few {c} h (anchored {cl} {cls} {tC} {B = B} {start} {k} {n} e a r) = omega (arith, treats-few h r, reading-bounds c cl tC B start (suc k) n (sym e) .counters)
+
+treats-give : {c : ℕ} {ks : List ℕ} {cls : List (List ℕ)} {tC tS : Table} {nonces : List ℕ} {anchors counters : ℕ} {answer : Answer} {tC′ tS′ : Table} → c ≤ 4096
+    → counters + 4096 * length cls < 2 ^ 32 → Treats program c ks cls tC tS nonces anchors counters answer tC′ tS′ → Gives 2 answer
+treats-give {counters = counters} h b finished = let s : counters < 2 ^ 32 = omega arith in two s
+treats-give {counters = counters} h b (stopped e) = let s : counters < 2 ^ 32 = omega arith in (omega arith, omega arith, two s)
+treats-give h b (skipped e r) = treats-give h (omega arith) r
+treats-give {c} h b (anchored {cl} {cls} {tC} {B = B} {start} {k} {n} e a r) =
+    treats-give h (omega (arith, reading-bounds c cl tC B start (suc k) n (sym e) .counters)) r
 
 -- the third condition does not hold where nothing refuses
 third : (x y z : Bool) (n m k : ℕ) (ts : List Test) → verdict ((x ⇒ n) ∷ (y ⇒ m) ∷ (z ⇒ k) ∷ ts) ≡ none → z ≡ false
@@ -170,52 +193,54 @@ module _ (before nonces token : List ℕ) where
       third (not (eqb (length nonces % 12) 0)) (lengthNot 32 token) (headerBad before) 4 6 10
       ((marksBad (cut before) ⇒ 11) ∷ (ltb (length nonces / 12) (length (used (cut before .tS))) ⇒ 19) ∷ []) e
 
-  compact-refused : (r : Answer) → compactVerdict program before nonces token ≡ some r → magnitude r < 2 ^ 63
+  compact-refused : (r : Answer) → compactVerdict program before nonces token ≡ some r → Fits 2 r
   unfolding compactVerdict compactionInputTests tokenTests
   compact-refused r e =
-      subst (λ (o : Option Answer). magnitude (answerOr o (done [])) < 2 ^ 63) e
+      subst (λ (o : Option Answer). Fits 2 (answerOr o (done (0 ∷ 0 ∷ [])))) e
       (bounded (compactionInputTests nonces ++ (tokenTests 32 token ++
-      ((headerBad before ⇒ 10) ∷ (marksBad (cut before) ⇒ 11) ∷ (ltb (length nonces / 12) (length (used (cut before .tS))) ⇒ 19) ∷ []))) (done [])
-      (tt, λ _. (tt, λ _. (tt, λ _. (tt, λ _. (tt, λ _. omega arith))))))
+      ((headerBad before ⇒ 10) ∷ (marksBad (cut before) ⇒ 11) ∷ (ltb (length nonces / 12) (length (used (cut before .tS))) ⇒ 19) ∷ []))) (done (0 ∷ 0 ∷ []))
+      (tt, λ _. (tt, λ _. (tt, λ _. (tt, λ _. (tt, λ _. record { small = omega arith; gives = two (omega arith) }))))))
 
   logged-few : length (logged program before token) ≤ sizesOf before .s
   unfolding logged logOf
   logged-few = omega (arith, distinct-few (map (clIn program token) (used (cut before .tS))), length-map (used (cut before .tS)) (clIn program token), used-S before)
 
-  pub compact-small : (a : Answer) (after : List ℕ) → Compact program before nonces token a after → magnitude a < 2 ^ 63
-  compact-small a after k = go (compactVerdict program before nonces token) refl
+  pub compact-fits : (a : Answer) (after : List ℕ) → Compact program before nonces token a after → Fits 2 a
+  compact-fits a after k = go (compactVerdict program before nonces token) refl
     where
-      go : (v : Option Answer) → compactVerdict program before nonces token ≡ v → magnitude a < 2 ^ 63
+      go : (v : Option Answer) → compactVerdict program before nonces token ≡ v → Fits 2 a
       go none e =
-          let z = good-header before (header-good e) .range in
-          omega (arith, treats-few (z .c-most) (k .wrote e .treats), logged-few, z .s-most)
-      go (some r) e = subst (λ (x : Answer). magnitude x < 2 ^ 63) (sym (k .kept r e .0)) (compact-refused r e)
+          let z = good-header before (header-good e) .range in record {
+            small = omega (arith, treats-few (z .c-most) (k .wrote e .treats), logged-few, z .s-most);
+            gives = treats-give (z .c-most) (omega (arith, logged-few, z .s-most)) (k .wrote e .treats);
+          }
+      go (some r) e = subst (Fits 2) (sym (k .kept r e .0)) (compact-refused r e)
 
 -- the calls that answer no value
-pub hash-small : (m : List ℕ) → magnitude (hashAnswer m) < 2 ^ 63
+pub hash-fits : (m : List ℕ) → Fits 0 (hashAnswer m)
 unfolding hashAnswer hashTests
-hash-small m = bounded (hashTests m) (done []) (tt, λ _. omega arith)
+hash-fits m = bounded (hashTests m) (done []) (tt, λ _. record { small = omega arith; gives = no-value })
 
-pub mac-small : (key m : List ℕ) → magnitude (macAnswer key m) < 2 ^ 63
+pub mac-fits : (key m : List ℕ) → Fits 0 (macAnswer key m)
 unfolding macAnswer macTests
-mac-small key m = bounded (macTests key m) (done []) (tt, λ _. omega arith)
+mac-fits key m = bounded (macTests key m) (done []) (tt, λ _. record { small = omega arith; gives = no-value })
 
-pub cipher-small : (key nonce text : List ℕ) → magnitude (cipherAnswer key nonce text) < 2 ^ 63
+pub cipher-fits : (key nonce text : List ℕ) → Fits 0 (cipherAnswer key nonce text)
 unfolding cipherAnswer cipherTests
-cipher-small key nonce text = bounded (cipherTests key nonce text) (done []) (tt, λ _. (tt, λ _. (tt, λ _. omega arith)))
+cipher-fits key nonce text = bounded (cipherTests key nonce text) (done []) (tt, λ _. (tt, λ _. (tt, λ _. record { small = omega arith; gives = no-value })))
 
-pub make-small : (z : Sizes) (slice : List ℕ) → magnitude (make z slice .answer) < 2 ^ 63
+pub make-fits : (z : Sizes) (slice : List ℕ) → Fits 0 (make z slice .answer)
 unfolding make makeTests
-make-small z slice = bounded (makeTests z slice) (done []) (tt, λ _. (tt, λ _. omega arith))
+make-fits z slice = bounded (makeTests z slice) (done []) (tt, λ _. (tt, λ _. record { small = omega arith; gives = no-value }))
 
-pub insert-token-small : (key : List ℕ) (f : Field) (p u : ℕ) (nonce : List ℕ) → magnitude (makingAnswer (insertTokenTests key f p u nonce)) < 2 ^ 63
+pub insert-token-fits : (key : List ℕ) (f : Field) (p u : ℕ) (nonce : List ℕ) → Fits 0 (makingAnswer (insertTokenTests key f p u nonce))
 unfolding insertTokenTests
-insert-token-small key f p u nonce = bounded (insertTokenTests key f p u nonce) (done []) (tt, λ _. (tt, λ _. (tt, λ _. (tt, λ _. omega arith))))
+insert-token-fits key f p u nonce = bounded (insertTokenTests key f p u nonce) (done []) (tt, λ _. (tt, λ _. (tt, λ _. (tt, λ _. record { small = omega arith; gives = no-value }))))
 
-pub field-token-small : (key : List ℕ) (f : Field) → magnitude (makingAnswer (fieldTokenTests key f)) < 2 ^ 63
+pub field-token-fits : (key : List ℕ) (f : Field) → Fits 0 (makingAnswer (fieldTokenTests key f))
 unfolding fieldTokenTests
-field-token-small key f = bounded (fieldTokenTests key f) (done []) (tt, λ _. (tt, λ _. omega arith))
+field-token-fits key f = bounded (fieldTokenTests key f) (done []) (tt, λ _. (tt, λ _. record { small = omega arith; gives = no-value }))
 
-pub key-token-small : (key : List ℕ) → magnitude (makingAnswer (keyTests key)) < 2 ^ 63
+pub key-token-fits : (key : List ℕ) → Fits 0 (makingAnswer (keyTests key))
 unfolding keyTests
-key-token-small key = bounded (keyTests key) (done []) (tt, λ _. omega arith)
+key-token-fits key = bounded (keyTests key) (done []) (tt, λ _. record { small = omega arith; gives = no-value })

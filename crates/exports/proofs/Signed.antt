@@ -7,7 +7,7 @@ use mir.Syntax.{w64}
 use mir.Val.{SFits, toZ, ofZ}
 use mir.Facts.{toZ-pos, toZ-ofZ}
 use Rattle.answer.specs.Answer.{Answer, done, refused}
-use Rattle.exports.specs.Encoding.{magnitude, encoded, answering}
+use Rattle.encoding.specs.Encoding.{magnitude, encoded, Fits, answering}
 
 minus-fits : (x : ℕ) → x < 2 ^ 63 → SFits w64 (negℤ (pos x))
 minus-fits zero h = record { sfits = omega arith }
@@ -31,16 +31,16 @@ pub passes : (z : ℤ) (a : Answer) → magnitude a < 2 ^ 63 → z ≡ encoded a
 passes z a h e = toZ-ofZ {w = w64} (subst (SFits w64) (sym e) (encoded-fits a h)) ∙ e
 
 -- the same of an answer that is equal to another
-pub fits-as : {a b : Answer} → a ≡ b → magnitude b < 2 ^ 63 → magnitude a < 2 ^ 63
-fits-as e h = subst (λ (x : Answer). magnitude x < 2 ^ 63) (sym e) h
+pub fits-as : {n : ℕ} {a b : Answer} → a ≡ b → Fits n b → magnitude a < 2 ^ 63
+fits-as e h = subst (λ (x : Answer). magnitude x < 2 ^ 63) (sym e) (h .small)
 
-pub told : (z : ℤ) {a b : Answer} → a ≡ b → magnitude b < 2 ^ 63 → z ≡ encoded a → toZ w64 (ofZ w64 z) ≡ encoded b
-told z {a} {b} e h k = passes z b h (k ∙ ap encoded e)
+pub told : (z : ℤ) {n : ℕ} {a b : Answer} → a ≡ b → Fits n b → z ≡ encoded a → toZ w64 (ofZ w64 z) ≡ encoded b
+told z {b = b} e h k = passes z b (h .small) (k ∙ ap encoded e)
 
 -- a token making's
 pub answering-small : (n : ℕ) (a : Answer) → n < 2 ^ 63 → magnitude a < 2 ^ 63 → magnitude (answering n a) < 2 ^ 63
 answering-small n (done l) h k = h
 answering-small n (refused r l) h k = k
 
-pub told-made : (n : ℕ) → n < 2 ^ 63 → (z : ℤ) {a b : Answer} → a ≡ b → magnitude b < 2 ^ 63 → z ≡ encoded (answering n a) → toZ w64 (ofZ w64 z) ≡ encoded (answering n b)
-told-made n l z {a} {b} e h k = passes z (answering n b) (answering-small n b l h) (k ∙ ap (λ (x : Answer). encoded (answering n x)) e)
+pub told-made : (n : ℕ) → n < 2 ^ 63 → (z : ℤ) {m : ℕ} {a b : Answer} → a ≡ b → Fits m b → z ≡ encoded (answering n a) → toZ w64 (ofZ w64 z) ≡ encoded (answering n b)
+told-made n l z {b = b} e h k = passes z (answering n b) (answering-small n b l (h .small)) (k ∙ ap (λ (x : Answer). encoded (answering n x)) e)

@@ -1,5 +1,5 @@
 // The library as C sees it: each public call on pointers and lengths, with its answer as one number
-// (specs/Encoding.antt). include/mazhkuri.h declares and documents these functions. [01:FM9]
+// (crate encoding). include/mazhkuri.h declares and documents these functions. [01:FM9]
 ghost use mathlib.Core.Path.{_≡_};
 ghost use Prim.Native.Nat.{_^_, _<_};
 ghost use lib.IntN.{pos, negℤ};
@@ -18,7 +18,7 @@ ghost use Rattle.scheme.specs.Compaction.{Compact};
 ghost use Rattle.suite.specs.Program.{program};
 ghost use Rattle.client.specs.Making.{makingAnswer, makingToken, fieldOf};
 ghost use Rattle.compact.specs.Outcome.{compactionAnswer};
-ghost use Rattle.exports.specs.Encoding.{packed, magnitude, encoded, answering, Told};
+ghost use Rattle.encoding.specs.Encoding.{packed, magnitude, encoded, answering, Told};
 use answer::Completion;
 use answer::Counted;
 use answer::Refusal;
@@ -98,9 +98,9 @@ fn compacted(r: Compaction) -> i64
     ensures { λ k. ⌜ k ≡ encoded (compactionAnswer r) ⌝ }
 {
     match r {
-        Compaction::Done(t) => positive(t.anchors * 65536 + t.counters),
+        Compaction::Done(t) => positive(t.anchors * 0x1_0000_0000 + t.counters),
         Compaction::Refused(z) => refused(z),
-        Compaction::Damage(t) => negative(13 + 256 * (t.anchors * 65536 + t.counters)),
+        Compaction::Damage(t) => negative(13 + 256 * (t.anchors * 0x1_0000_0000 + t.counters)),
     }
 }
 

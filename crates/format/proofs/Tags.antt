@@ -3,7 +3,7 @@ use Prim.Native.Nat.{ℕ}
 use mathlib.Core.Path.{_≡_}
 use mathlib.Core.List.{List, _∷_}
 use Rattle.hmac.specs.declared.Keyed.{Keyed}
-use Rattle.sha256.specs.Compression.{words}
+use Rattle.compression.specs.Compression.{words}
 use Rattle.hmac.specs.Hmac.{F, Inner, Outer}
 use Rattle.hmac.proofs.Laws.{from-prepared}
 use Rattle.scheme.specs.Suite.{number8}

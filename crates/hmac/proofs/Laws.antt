@@ -10,7 +10,7 @@ use lib.ListN.{length, length-append, length-map, length-replicate, drop, replic
 use lib.Bits.{bitXor}
 use lib.Dec.{leb}
 use Rattle.sha256.specs.Constants.{H0}
-use Rattle.sha256.specs.Compression.{Compress}
+use Rattle.compression.specs.Compression.{Compress}
 use Rattle.sha256.specs.Hash.{Hash, Final, Digest}
 use Rattle.sha256.proofs.Laws.{after-block, length-hash}
 use Rattle.hmac.specs.Hmac.{Used, Block, Pad, F, Inner, Outer, Tag}

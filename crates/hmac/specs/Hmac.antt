@@ -9,7 +9,7 @@ use lib.Dec.{leb, ltb}
 use Rattle.answer.specs.Answer.{Answer, done}
 use Rattle.answer.specs.Verdict.{Test, _⇒_, verdict, answerOr, unlessRefused}
 use Rattle.sha256.specs.Constants.{H0}
-use Rattle.sha256.specs.Compression.{Compress}
+use Rattle.compression.specs.Compression.{Compress}
 use Rattle.sha256.specs.Hash.{Hash, Final, Digest, longest}
 
 -- the key as it is used: hashed where it is longer than a block

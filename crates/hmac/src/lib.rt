@@ -7,11 +7,11 @@ ghost use lib.ListN.{length, replicate};
 ghost use lib.Bits.{bitXor};
 ghost use Rattle.answer.specs.Answer.{completion};
 ghost use Rattle.sha256.specs.Constants.{H0};
-ghost use Rattle.sha256.specs.Compression.{words, Compress};
+ghost use Rattle.compression.specs.Compression.{words, Compress};
 ghost use Rattle.hmac.specs.Hmac.{Block, Inner, Outer, Tag, macAnswer, macTag};
 use answer::Completion;
 use answer::Refusal;
-use sha256::compression::State;
+use compression::State;
 
 // A prepared key: the hash values after the two key blocks.
 pub struct Keyed {
@@ -28,10 +28,7 @@ fn block(key: &[u8], to: &mut [u8])
     if n <= 64 {
         octets::copy(&mut to[..n], key);
     } else {
-        sha256::digest(
-            sha256::finish(sha256::compression::initial(), 0, key),
-            &mut to[..32],
-        );
+        sha256::digest(sha256::finish(sha256::initial(), 0, key), &mut to[..32]);
     }
 }
 

@@ -1,5 +1,4 @@
--- Laws of the definitions: turns and blocks split, a schedule's words do not depend on the room behind them, the padded tail
--- fills whole blocks, and a hash goes on from the state after a first block.
+-- Laws of the definitions: blocks split, the padded tail fills whole blocks, and a hash goes on from the state after a first block.
 use mathlib.Core.Path.{_≡_, refl, sym, ap, ap₂, subst, _∙_}
 use mathlib.Core.List.{List, [], _∷_, _++_, append-assoc, append-nil}
 use Prim.Native.Nat.{ℕ, zero, suc, _+_, _-_, _*_, _/_, _%_, _<_, _≤_}
@@ -12,84 +11,10 @@ use Rattle.octets.specs.Number.{bytes}
 use Rattle.octets.specs.Part.{back}
 use Rattle.octets.proofs.Numbers.{length-bytes}
 use Rattle.octets.proofs.Parts.{back-next, length-back, length-part}
-use Rattle.sha256.specs.Words.{_⊞_, σ0, σ1}
-use Rattle.sha256.specs.Constants.{K, H0}
-use Rattle.sha256.specs.Schedule.{Word, Words, Next, Schedule}
-use Rattle.sha256.specs.Compression.{Step, Steps, Added, Compress}
+use Rattle.sha256.specs.Constants.{H0}
+use Rattle.compression.specs.Compression.{Added, Compress}
 use Rattle.sha256.specs.Padding.{zeros, padding}
 use Rattle.sha256.specs.Hash.{Blocks, Tail, Final, Digest, Hash}
-
--- ---- turns
-
-steps-add : (a b t : ℕ) (w s : List ℕ) → Steps (a + b) t w s ≡ Steps b (t + a) w (Steps a t w s)
-unfolding Steps
-steps-add zero b t w s = rw (zero-add b, add-zero t)
-steps-add (suc a) b t w s =
-    rw (suc-add a b)
-    (steps-add a b (t + 1) w (Step (getD K t 0) (getD w t 0) s)
-    ∙ ap (λ (n : ℕ). Steps b n w (Steps a (t + 1) w (Step (getD K t 0) (getD w t 0) s))) (moved t a))
-  where
-    moved : (t a : ℕ) → t + 1 + a ≡ t + suc a
-    moved t a = omega arith
-
-pub eight-more : (t : ℕ) (w s : List ℕ) → t + 8 ≤ 64 → Steps (64 - t) t w s ≡ Steps (64 - (t + 8)) (t + 8) w (Steps 8 t w s)
-eight-more t w s h = ap (λ (n : ℕ). Steps n t w s) (split t h) ∙ steps-add 8 (64 - (t + 8)) t w s
-  where
-    split : (t : ℕ) → t + 8 ≤ 64 → 64 - t ≡ 8 + (64 - (t + 8))
-    split t h = omega arith
-
-pub no-more : (t : ℕ) (w s z : List ℕ) → 64 ≤ t → Steps (64 - t) t w s ≡ z → s ≡ z
-unfolding Steps
-no-more t w s z h e = sym (ap (λ (n : ℕ). Steps n t w s) (none t h)) ∙ e
-  where
-    none : (t : ℕ) → 64 ≤ t → 64 - t ≡ zero
-    none t h = omega arith
-
--- ---- the schedule, in an array that still has zeros behind the words written
-
--- the first zero behind xs is written
-pub write-next : (xs : List ℕ) (i n m v : ℕ) → length xs ≡ i → n ≡ suc m
-    → set (xs ++ replicate n 0) i v ≡ (xs ++ (v ∷ [])) ++ replicate m 0
-write-next xs i n m v e f =
-    ap₂ (λ (k j : ℕ). set (xs ++ replicate k 0) j v) f (sym e)
-    ∙ set-append-seam xs 0 (replicate m 0) v ∙ sym (append-assoc xs (v ∷ []) (replicate m 0))
-
-pub length-words : (n : ℕ) (b : List ℕ) → length (Words n b) ≡ n
-unfolding Words
-length-words zero b = refl
-length-words (suc n) b = length-append (Words n b) (Word b n ∷ []) ∙ omega (arith, length-words n b)
-
-pub length-schedule : (n : ℕ) (b : List ℕ) → length (Schedule n b) ≡ n + 16
-unfolding Schedule
-length-schedule zero b = length-words 16 b
-length-schedule (suc n) b = length-append (Schedule n b) (Next n (Schedule n b) ∷ []) ∙ omega (arith, length-schedule n b)
-
-pub next-front : (n : ℕ) (xs ys : List ℕ) → length xs ≡ n + 16 → Next n (xs ++ ys) ≡ Next n xs
-unfolding Next
-next-front n xs ys e =
-    rw (
-      List·getD-append xs ys 0 (n + 14) (omega arith),
-      List·getD-append xs ys 0 (n + 9) (omega arith),
-      List·getD-append xs ys 0 (n + 1) (omega arith),
-      List·getD-append xs ys 0 n (omega arith),
-    )
-
-pub load-more : (t v : ℕ) (b w : List ℕ) → t < 16 → w ≡ Words t b ++ replicate (64 - t) 0 → v ≡ Word b t
-    → set w t v ≡ Words (t + 1) b ++ replicate (64 - (t + 1)) 0
-unfolding Words
-load-more t v b w h e f =
-    rw (add-one t)
-    (ap₂ (λ (l : List ℕ) (x : ℕ). set l t x) e f
-    ∙ write-next (Words t b) t (64 - t) (64 - suc t) (Word b t) (length-words t b) (omega arith))
-
-pub schedule-more : (n v : ℕ) (b w : List ℕ) → n < 48 → w ≡ Schedule n b ++ replicate (48 - n) 0 → v ≡ Next n w
-    → set w (n + 16) v ≡ Schedule (n + 1) b ++ replicate (48 - (n + 1)) 0
-unfolding Schedule
-schedule-more n v b w h e f =
-    rw (add-one n)
-    (ap₂ (λ (l : List ℕ) (x : ℕ). set l (n + 16) x) e
-    (f ∙ ap (Next n) e ∙ next-front n (Schedule n b) (replicate (48 - n) 0) (length-schedule n b))
-    ∙ write-next (Schedule n b) (n + 16) (48 - n) (48 - suc n) (Next n (Schedule n b)) (length-schedule n b) (omega arith))
 
 -- ---- blocks
 

@@ -6,7 +6,7 @@ use lib.Dec.{ltb}
 use Rattle.answer.specs.Answer.{Answer, done}
 use Rattle.answer.specs.Verdict.{Test, _⇒_, verdict, answerOr, unlessRefused}
 use Rattle.sha256.specs.Constants.{H0}
-use Rattle.sha256.specs.Compression.{Compress}
+use Rattle.compression.specs.Compression.{Compress}
 use Rattle.sha256.specs.Padding.{padding}
 use Rattle.octets.specs.Number.{bytes}
 

@@ -1,6 +1,4 @@
-pub mod Words
 pub mod Constants
-pub mod Schedule
 pub mod Compression
 pub mod Padding
 pub mod Hash

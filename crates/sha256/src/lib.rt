@@ -5,31 +5,40 @@ ghost use Prim.Native.Nat.{_+_, _-_, _*_, _/_, _<_, _≤_, _%_};
 ghost use mathlib.Core.List.{_++_};
 ghost use lib.ListN.{length, replicate};
 ghost use Rattle.answer.specs.Answer.{completion};
-ghost use Rattle.sha256.specs.Constants.{K as constantsOf, H0};
-ghost use Rattle.sha256.specs.Compression.{words, Compress};
+ghost use Rattle.sha256.specs.Constants.{H0};
+ghost use Rattle.compression.specs.Compression.{words, Compress};
 ghost use Rattle.sha256.specs.Padding.{zeros, padding};
 ghost use Rattle.sha256.specs.Hash.{Blocks, Tail, Final, Digest, hashAnswer, hashDigest};
-
-pub mod compression;
-mod functions;
-mod schedule;
-
 use answer::Completion;
 use answer::Refusal;
 use compression::State;
 use compression::compress;
-use compression::initial;
+
+// The initial hash value (5.3.3).
+pub fn initial() -> State
+    ensures { λ r. ⌜ words r ≡ H0 ⌝ }
+{
+    State {
+        a: 0x6a09_e667,
+        b: 0xbb67_ae85,
+        c: 0x3c6e_f372,
+        d: 0xa54f_f53a,
+        e: 0x510e_527f,
+        f: 0x9b05_688c,
+        g: 0x1f83_d9ab,
+        h: 0x5be0_cd19,
+    }
+}
 
 // The hash value after the full blocks of a slice.
-fn blocks<'a>(s: State, m: &'a [u8], k: &'a [u32; 64]) -> State
-    requires { ⌜ now k ≡ constantsOf ⌝ }
+fn blocks(s: State, m: &[u8]) -> State
     ensures { λ r. ⌜ words r ≡ Blocks (length (now (m .entry)) / 64) (words s) (now (m .entry)) ⌝ }
 {
     let mut v = s;
     let mut at = 0;
     while 64 <= m.len() - at {
         let e = at + 64;
-        v = compress(v, &m[at..e], k);
+        v = compress(v, &m[at..e]);
         at = e;
     }
     v
@@ -51,14 +60,14 @@ fn pad(to: &mut [u8], rest: &[u8], n: usize)
 }
 
 // The hash value after the rest of a message of n bytes in all, with its padding.
-fn tail<'a>(s: State, rest: &'a [u8], n: usize, k: &'a [u32; 64]) -> State
-    requires { ⌜ (now k ≡ constantsOf) × ((length (now rest) ≡ n % 64) × (n ≤ 131072)) ⌝ }
+fn tail(s: State, rest: &[u8], n: usize) -> State
+    requires { ⌜ (length (now rest) ≡ n % 64) × (n ≤ 131072) ⌝ }
     ensures { λ r. ⌜ words r ≡ Tail (words s) (now (rest .entry)) n ⌝ }
 {
     let mut last = [0u8; 128];
     let e = (rest.len() + 72) / 64 * 64;
     pad(&mut last[..e], rest, n);
-    blocks(s, &last[..e], k)
+    blocks(s, &last[..e])
 }
 
 // The hash value after the last bytes of a message of which n bytes, whole blocks, led to s.
@@ -66,10 +75,9 @@ pub fn finish(s: State, n: usize, m: &[u8]) -> State
     requires { ⌜ (n % 64 ≡ 0) × ((n ≤ 65536) × (length (now m) ≤ 65536)) ⌝ }
     ensures { λ r. ⌜ words r ≡ Final (words s) n (now (m .entry)) ⌝ }
 {
-    let k = functions::constants();
-    let v = blocks(s, m, &k);
+    let v = blocks(s, m);
     let at = m.len() / 64 * 64;
-    tail(v, &m[at..], n + m.len(), &k)
+    tail(v, &m[at..], n + m.len())
 }
 
 // The hash value after a message's first block.
@@ -77,8 +85,7 @@ pub fn first(block: &[u8]) -> State
     requires { ⌜ length (now block) ≡ 64 ⌝ }
     ensures { λ r. ⌜ words r ≡ Compress H0 (now (block .entry)) ⌝ }
 {
-    let k = functions::constants();
-    compress(initial(), block, &k)
+    compress(initial(), block)
 }
 
 // A word as a wider number.

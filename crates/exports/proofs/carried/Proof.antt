@@ -3,7 +3,7 @@ use mathlib.Core.Path.{sym, ap}
 use borrow.Author.Needs.{needs}
 use Rattle.answer.specs.declared.Refusal.{Refusal}
 use Rattle.answer.specs.Answer.{carriedBy}
-use Rattle.exports.specs.Encoding.{packed}
+use Rattle.encoding.specs.Encoding.{packed}
 use Rattle.exports.proofs.Carrying.{none-carried}
 use Rattle.exports.proofs.carried.Statement.{statement}
 use Rattle.exports.proofs.carried.Tie as tie

@@ -1,19 +1,20 @@
 -- Each case is its own number; the tally's two numbers fit by what is required.
 use Prim.Native.Nat.{_+_, _*_, _^_, _<_}
+use mathlib.Core.List.{[], _∷_}
 use native.Mathlib.Omega.{arith}
 use mathlib.Core.Path.{sym, ap, subst, _∙_}
 use Rattle.compact.specs.declared.Compaction.{Compaction}
 use Rattle.compact.specs.Outcome.{compactionAnswer}
-use Rattle.exports.specs.Encoding.{magnitude, encoded}
+use Rattle.encoding.specs.Encoding.{packed, magnitude, encoded}
 use borrow.Author.Needs.{needs}
 use Rattle.exports.proofs.Signed.{passes}
 use Rattle.exports.proofs.compacted.Statement.{statement}
 use Rattle.exports.proofs.compacted.Tie as tie
 
-done-fits : (c : tie.After-r) → let t = c .r .given .0 .0 in t .anchors * 65536 + t .counters < 2 ^ 63
+done-fits : (c : tie.After-r) → let t = c .r .given .0 .0 in packed (t .anchors ∷ t .counters ∷ []) < 2 ^ 63
 done-fits c = subst (λ (r : Compaction). magnitude (compactionAnswer r) < 2 ^ 63) (c .r .given .1) (c .before .before .pre)
 
-damage-fits : (c : tie.After-r3) → let t = c .r3 .given .0 .0 in 13 + 256 * (t .anchors * 65536 + t .counters) < 2 ^ 63
+damage-fits : (c : tie.After-r3) → let t = c .r3 .given .0 .0 in 13 + 256 * packed (t .anchors ∷ t .counters ∷ []) < 2 ^ 63
 damage-fits c = subst (λ (r : Compaction). magnitude (compactionAnswer r) < 2 ^ 63) (c .r3 .given .1) (c .before .before .pre)
 
 mul-positive : tie.Need-mul-positive
@@ -23,7 +24,7 @@ add-positive : tie.Need-add-positive
 add-positive c = omega (arith, done-fits (c .before .before .before))
 
 positive-requires : tie.Need-positive-requires
-positive-requires c κs = done-fits (c .before .before .before)
+positive-requires c κs = omega (arith, done-fits (c .before .before .before))
 
 refused-requires : tie.Need-refused-requires
 refused-requires c κs = subst (λ (r : Compaction). magnitude (compactionAnswer r) < 2 ^ 63) (c .before .r2 .given .1) (c .before .before .before .pre)
@@ -41,7 +42,7 @@ add-negative-2 : tie.Need-add-negative-2
 add-negative-2 c = omega (arith, damage-fits (c .before .before .before))
 
 negative-requires : tie.Need-negative-requires
-negative-requires c κs = damage-fits (c .before .before .before)
+negative-requires c κs = omega (arith, damage-fits (c .before .before .before))
 
 returns : tie.Need-returns
 returns c =

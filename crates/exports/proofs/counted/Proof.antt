@@ -3,7 +3,7 @@ use Prim.Native.Nat.{_^_, _<_}
 use mathlib.Core.Path.{sym, ap, subst, _∙_}
 use Rattle.answer.specs.Answer.{counted}
 use Rattle.answer.specs.declared.Counted.{Counted}
-use Rattle.exports.specs.Encoding.{magnitude, encoded}
+use Rattle.encoding.specs.Encoding.{magnitude, encoded}
 use borrow.Author.Needs.{needs}
 use Rattle.exports.proofs.Signed.{passes}
 use Rattle.exports.proofs.counted.Statement.{statement}

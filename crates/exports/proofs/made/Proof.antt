@@ -3,7 +3,7 @@ use Prim.Native.Nat.{_^_, _<_}
 use mathlib.Core.Path.{sym, ap, subst, _∙_}
 use Rattle.answer.specs.Answer.{completion}
 use Rattle.answer.specs.declared.Completion.{Completion}
-use Rattle.exports.specs.Encoding.{magnitude, encoded, answering}
+use Rattle.encoding.specs.Encoding.{magnitude, encoded, answering}
 use borrow.Author.Needs.{needs}
 use Rattle.exports.proofs.Signed.{passes, answering-small}
 use Rattle.exports.proofs.made.Statement.{statement}

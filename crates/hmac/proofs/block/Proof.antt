@@ -42,7 +42,7 @@ same-length c = search needs
 returns : tie.Need-returns
 returns c =
     let key = c .before .before .before .before .before .before .before .args .key .now in
-    let short = used-short key (c .before .before .before .before .if1 .taken) in
+    let short = used-short key (omega arith) in
     block-is key (c .before .before .copy .last .0) (c .before .before .before .before .before .before .before .args .to .now) (length key) (c .before .before .before .before .before .before .before .pre .1) (c .before .before .copy .ensures ∙ sym short) (sym (ap length short))
 
 same-length-2 : tie.Need-same-length-2
@@ -52,7 +52,7 @@ returns-2 : tie.Need-returns-2
 unfolding Hash
 returns-2 c =
     let key = c .before .before .before .before .before .before .before .before .before .args .key .now in
-    let long = used-long key (c .before .before .before .before .before .before .if1 .left) in
+    let long = used-long key (omega arith) in
     block-is key (c .before .before .digest .last .1 .0) (c .before .before .before .before .before .before .before .before .before .args .to .now) 32 (c .before .before .before .before .before .before .before .before .before .pre .1)
     (c .before .before .digest .ensures ∙ ap Digest (c .before .before .before .before .finish .ensures ∙ ap (λ (s : List ℕ). Final s 0 key) (c .before .before .before .before .before .initial .ensures)) ∙ sym long)
     (sym (ap length long ∙ length-hash key))

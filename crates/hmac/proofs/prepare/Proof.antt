@@ -1,5 +1,5 @@
 -- Both pads of the one block.
-use Rattle.sha256.specs.Compression.{Compress}
+use Rattle.compression.specs.Compression.{Compress}
 use Rattle.sha256.specs.Constants.{H0}
 use lib.Bits.{bitXor}
 use Prim.Native.Nat.{ℕ}

@@ -3,7 +3,7 @@ use lib.ListN.{take}
 use Prim.Native.Nat.{ℕ, _+_}
 use Rattle.sha256.proofs.Laws.{block-first, block-more, block-none}
 use Rattle.sha256.specs.Hash.{Blocks}
-use Rattle.sha256.specs.Compression.{words, Compress}
+use Rattle.compression.specs.Compression.{words, Compress}
 use lib.ListN.{length, drop}
 use native.Mathlib.Omega.{arith}
 use Prim.Native.Nat.{_≤_, _-_, _/_}
@@ -13,10 +13,10 @@ use Rattle.sha256.proofs.blocks.Statement.{statement}
 use Rattle.sha256.proofs.blocks.Tie as tie
 
 abbrev Inv-loop : tie.InvT-loop
-Inv-loop m k v₀ at₀ v at = (at ≤ length m) × (Blocks ((length m - at) / 64) (words v) (drop at m) ≡ Blocks (length m / 64) (words v₀) m)
+Inv-loop m v₀ at₀ v at = (at ≤ length m) × (Blocks ((length m - at) / 64) (words v) (drop at m) ≡ Blocks (length m / 64) (words v₀) m)
 
 abbrev μ-loop : tie.MeasureT-loop
-μ-loop m k v₀ at₀ v at = length m - at
+μ-loop m v₀ at₀ v at = length m - at
 
 gap : (at : ℕ) → at + 64 - at ≡ 64
 gap at = omega arith

@@ -3,7 +3,7 @@ use Prim.Native.Nat.{ℕ}
 use Rattle.octets.specs.Number.{bytes}
 use lib.Seq.{take-all}
 use Rattle.sha256.proofs.Laws.{digest-length, digest-more}
-use Rattle.sha256.specs.Compression.{words}
+use Rattle.compression.specs.Compression.{words}
 use Rattle.sha256.specs.Hash.{Digest}
 use lib.ListN.{length, take}
 use native.Mathlib.Omega.{arith}

@@ -1,5 +1,5 @@
 -- The full blocks, and then the rest.
-use Rattle.sha256.specs.Compression.{words}
+use Rattle.compression.specs.Compression.{words}
 use mathlib.Core.Path.{ap₂}
 use Prim.Native.Nat.{ℕ}
 use mathlib.Core.List.{List}
@@ -13,9 +13,6 @@ use native.Mathlib.Omega.{arith}
 use borrow.Author.Needs.{needs}
 use Rattle.sha256.proofs.finish.Statement.{statement}
 use Rattle.sha256.proofs.finish.Tie as tie
-
-constants-requires : tie.Need-constants-requires
-constants-requires c κs = search needs
 
 blocks-requires : tie.Need-blocks-requires
 blocks-requires c κs = search needs
@@ -40,18 +37,17 @@ tail-requires c κs = search needs
 
 returns : tie.Need-returns
 returns c =
-    let m = c .before .before .before .before .before .before .before .args .m .now in
-    let n = c .before .before .before .before .before .before .before .args .n in
+    let m = c .before .before .before .before .args .m .now in
+    let n = c .before .before .before .before .args .n in
     c .tail .ensures
-    ∙ ap₂ (λ (s r : List ℕ). Tail s r (n + length m)) (c .before .before .before .blocks2 .ensures)
+    ∙ ap₂ (λ (s r : List ℕ). Tail s r (n + length m)) (c .before .before .blocks2 .ensures)
     (take-all (length m - length m / 64 * 64) (drop (length m / 64 * 64) m) (omega (arith, length-drop (length m / 64 * 64) m)))
-    ∙ sym (final-is (words (c .before .before .before .before .before .before .before .args .s)) m n (c .before .before .before .before .before .before .before .pre .0))
+    ∙ sym (final-is (words (c .before .before .before .before .args .s)) m n (c .before .before .before .before .pre .0))
 
 pub finish-spec : {M : Type 1} → statement M
 finish-spec =
     tie.close
     (tie.spec
-    constants-requires
     blocks-requires
     mul-at
     sub-tail

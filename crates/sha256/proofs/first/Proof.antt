@@ -1,10 +1,11 @@
 -- One compression from the initial value.
+use Prim.Native.Nat.{ℕ}
+use mathlib.Core.List.{List}
+use mathlib.Core.Path.{ap, _∙_}
+use Rattle.compression.specs.Compression.{Compress}
 use borrow.Author.Needs.{needs}
 use Rattle.sha256.proofs.first.Statement.{statement}
 use Rattle.sha256.proofs.first.Tie as tie
-
-constants-requires : tie.Need-constants-requires
-constants-requires c κs = search needs
 
 initial-requires : tie.Need-initial-requires
 initial-requires c κs = search needs
@@ -13,7 +14,7 @@ compress-requires : tie.Need-compress-requires
 compress-requires c κs = search needs
 
 returns : tie.Need-returns
-returns c = cc
+returns c = c .compress .ensures ∙ ap (λ (s : List ℕ). Compress s (c .before .before .before .args .block .now)) (c .before .initial .ensures)
 
 pub first-spec : {M : Type 1} → statement M
-first-spec = tie.close (tie.spec constants-requires initial-requires compress-requires returns)
+first-spec = tie.close (tie.spec initial-requires compress-requires returns)

@@ -13,7 +13,7 @@ use Rattle.sha256.proofs.hash.Tie as tie
 returns : tie.Need-returns
 unfolding hashAnswer hashDigest hashTests
 returns c =
-    let over = lt-ltb 65536 (length (c .before .before .args .message .now)) (c .if1 .taken) in (simp over, simp over)
+    let over = lt-ltb 65536 (length (c .before .before .args .message .now)) (omega arith) in (simp over, simp over)
 
 initial-requires : tie.Need-initial-requires
 initial-requires c κs = search needs
@@ -27,7 +27,7 @@ digest-requires c κs = search needs
 returns-2 : tie.Need-returns-2
 unfolding hashAnswer hashDigest hashTests Hash
 returns-2 c =
-    let within = le-ltb 65536 (length (c .before .before .before .before .before .before .args .message .now)) (c .before .before .before .before .if1 .left) in (
+    let within = le-ltb 65536 (length (c .before .before .before .before .before .before .args .message .now)) (omega arith) in (
       simp within,
       simp within
           (c .digest .ensures ∙ ap Digest (c .before .before .finish .ensures ∙ ap (λ (s : List ℕ). Final s 0 (c .before .before .before .before .before .before .args .message .now)) (c .before .before .before .initial .ensures))),

@@ -4,7 +4,7 @@ use lib.ListN.{take}
 use Prim.Native.Nat.{_%_}
 use Rattle.sha256.proofs.Laws.{padded-whole, length-padded}
 use Rattle.sha256.specs.Hash.{Blocks, Tail}
-use Rattle.sha256.specs.Compression.{words}
+use Rattle.compression.specs.Compression.{words}
 use lib.Seq.{length-take-le, take-at}
 use lib.ListN.{length, length-append, drop, replicate}
 use Prim.Native.Nat.{ℕ, _+_, _*_, _/_}
@@ -35,15 +35,15 @@ slice-aggregate-pad c = sym (length-take-le ((length (c .before .before .args .r
 
 pad-requires : tie.Need-pad-requires
 pad-requires c κs = (
-  length-take-le ((length (c .before .before .args .rest .now) + 72) / 64 * 64) (replicate {A = ℕ} 128 0) (omega arith) ∙ sym (padded-whole (length (c .before .before .args .rest .now)) (c .before .before .args .n) (c .before .before .pre .1 .0)),
-  c .before .before .pre .1 .1,
+  length-take-le ((length (c .before .before .args .rest .now) + 72) / 64 * 64) (replicate {A = ℕ} 128 0) (omega arith) ∙ sym (padded-whole (length (c .before .before .args .rest .now)) (c .before .before .args .n) (c .before .before .pre .0)),
+  c .before .before .pre .1,
 )
 
 array-share-prefix-last : tie.Need-array-share-prefix-last
-array-share-prefix-last c = omega (arith, length-append (c .before .pad .last .0) (drop ((length (c .before .before .before .before .args .rest .now) + 72) / 64 * 64) (replicate {A = ℕ} 128 0)), ap length (c .before .pad .ensures), length-padded (c .before .before .before .before .args .rest .now) (c .before .before .before .before .args .n) (c .before .before .before .before .pre .1 .0))
+array-share-prefix-last c = omega (arith, length-append (c .before .pad .last .0) (drop ((length (c .before .before .before .before .args .rest .now) + 72) / 64 * 64) (replicate {A = ℕ} 128 0)), ap length (c .before .pad .ensures), length-padded (c .before .before .before .before .args .rest .now) (c .before .before .before .before .args .n) (c .before .before .before .before .pre .0))
 
 slice-aggregate-blocks : tie.Need-slice-aggregate-blocks
-slice-aggregate-blocks c = sym (ap length (whole (c .before .before .before .before .before .args .rest .now) (c .before .before .pad .last .0) (c .before .before .before .before .before .args .n) (c .before .before .before .before .before .pre .1 .0) (c .before .before .pad .ensures)) ∙ length-padded (c .before .before .before .before .before .args .rest .now) (c .before .before .before .before .before .args .n) (c .before .before .before .before .before .pre .1 .0))
+slice-aggregate-blocks c = sym (ap length (whole (c .before .before .before .before .before .args .rest .now) (c .before .before .pad .last .0) (c .before .before .before .before .before .args .n) (c .before .before .before .before .before .pre .0) (c .before .before .pad .ensures)) ∙ length-padded (c .before .before .before .before .before .args .rest .now) (c .before .before .before .before .before .args .n) (c .before .before .before .before .before .pre .0))
 
 blocks-requires : tie.Need-blocks-requires
 blocks-requires c κs = search needs
@@ -53,7 +53,7 @@ unfolding Tail
 returns c =
     c .blocks2 .ensures
     ∙ ap (λ (x : List ℕ). Blocks (length x / 64) (words (c .before .before .before .before .before .before .args .s)) x)
-    (whole (c .before .before .before .before .before .before .args .rest .now) (c .before .before .before .pad .last .0) (c .before .before .before .before .before .before .args .n) (c .before .before .before .before .before .before .pre .1 .0) (c .before .before .before .pad .ensures))
+    (whole (c .before .before .before .before .before .before .args .rest .now) (c .before .before .before .pad .last .0) (c .before .before .before .before .before .before .args .n) (c .before .before .before .before .before .before .pre .0) (c .before .before .before .pad .ensures))
 
 pub tail-spec : {M : Type 1} → statement M
 tail-spec =
