@@ -1,10 +1,10 @@
-// What the tool writes: answers to standard output, messages to standard error, as crates/lines makes
-// them. A function that only writes promises that it gives back nothing.
+// What the tool writes: answers to standard output, messages to standard error, as crates/lines,
+// crates/messages and crates/show make them. A function that only writes promises that it gives back nothing.
 use commands::Outcome;
 use libc::STDERR_FILENO;
 use libc::STDOUT_FILENO;
 use store::Shape;
-use text::Command;
+use words::Command;
 ghost use mathlib.Core.Path.{_≡_};
 ghost use Prim.Native.Nat.{_*_, _≤_};
 ghost use lib.ListN.{length};
@@ -28,7 +28,7 @@ pub fn tell(o: Outcome, given: u64)
     let mut line = [0u8; 256];
     let n = lines::answer(o, &mut line);
     out(&line[..n]);
-    let m = lines::message(o, given, &mut line);
+    let m = messages::message(o, given, &mut line);
     err(&line[..m]);
 }
 
@@ -63,7 +63,7 @@ pub fn shape(x: Shape)
     ensures { λ r. ⌜ r ≡ tt ⌝ }
 {
     let mut text = [0u8; 1024];
-    let n = lines::shape(x, &mut text);
+    let n = show::shape(x, &mut text);
     out(&text[..n]);
 }
 
