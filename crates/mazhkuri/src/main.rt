@@ -3,8 +3,6 @@
 //
 // A command that changes the store makes STORE.lock, reads the store, makes the call, writes STORE.new,
 // syncs it, renames it to STORE and removes STORE.lock; the answer is printed after that.
-mod say;
-
 use commands::Outcome;
 use libc::STDERR_FILENO;
 use libc::STDOUT_FILENO;

@@ -2,8 +2,8 @@
 use Prim.Native.Nat.{_+_, _*_, _≤_}
 use lib.ListN.{length}
 use borrow.Author.Needs.{needs}
-use Rattle.mazhkuri.proofs.say.ids.Statement.{statement}
-use Rattle.mazhkuri.proofs.say.ids.Tie as tie
+use Rattle.say.proofs.ids.Statement.{statement}
+use Rattle.say.proofs.ids.Tie as tie
 
 abbrev Inv-loop : tie.InvT-loop
 Inv-loop found n left₀ at₀ left at = at + 16 * left ≤ length found

@@ -1,5 +1,6 @@
 // What the tool writes: answers to standard output, messages to standard error, as crates/lines,
-// crates/messages and crates/show make them. A function that only writes promises that it gives back nothing.
+// crates/messages and crates/show make them. A function that only writes promises that it gives back
+// nothing.
 use commands::Outcome;
 use libc::STDERR_FILENO;
 use libc::STDOUT_FILENO;
