@@ -1,3 +1,2 @@
 pub mod System
-pub mod Names
-pub mod Modes
+pub mod Stat

@@ -3,13 +3,12 @@
 mod rights;
 
 use libc::STDERR_FILENO;
-use rights::Rights;
+use modes::Rights;
 ghost use mathlib.Core.Path.{_≡_};
 ghost use Prim.Native.Nat.{_≤_, min};
-ghost use lib.ListN.{length, take};
+ghost use lib.ListN.{length};
 ghost use Rattle.io.specs.Counts.{Counts};
 ghost use Rattle.files.specs.System.{OfSystem, OfSystemAt};
-ghost use Rattle.files.specs.Names.{lockOf, newOf, temporaryOf};
 
 // The longest path that the system takes, its 0 among it.
 const PATH: usize = 4096;
@@ -109,35 +108,6 @@ pub fn randomize(to: &mut [u8]) -> bool
     true
 }
 
-// The name of the store's lock file. Answers its length.
-fn lock_name(path: &[u8], to: &mut [u8]) -> usize
-    requires { ⌜ (length (now path) ≤ 4096) × (length (now to) ≡ 4120) ⌝ }
-    ensures { λ r. ⌜ take r (now (to .exit)) ≡ lockOf (now (path .entry)) ⌝ }
-    ensures { λ r. ⌜ Counts r (now (to .exit)) ⌝ }
-{
-    text::beside(path, b".lock", to)
-}
-
-// The name of the file that the store's new bytes are written to. Answers its length.
-fn new_name(path: &[u8], to: &mut [u8]) -> usize
-    requires { ⌜ (length (now path) ≤ 4096) × (length (now to) ≡ 4120) ⌝ }
-    ensures { λ r. ⌜ take r (now (to .exit)) ≡ newOf (now (path .entry)) ⌝ }
-    ensures { λ r. ⌜ Counts r (now (to .exit)) ⌝ }
-    ensures { λ r. ⌜ r ≤ 4101 ⌝ }
-{
-    text::beside(path, b".new", to)
-}
-
-// The name that a file of that name is made under, in the same folder. Answers its length.
-fn temporary_name(name: &[u8], to: &mut [u8]) -> usize
-    requires { ⌜ (length (now name) ≤ 4101) × (length (now to) ≡ 4120) ⌝ }
-    ensures { λ r. ⌜ take r (now (to .exit)) ≡ temporaryOf (now (name .entry)) ⌝ }
-    ensures { λ r. ⌜ Counts r (now (to .exit)) ⌝ }
-{
-    let n = text::folder(name);
-    text::beside(&name[..n], b"mazhkuri.XXXXXX", to)
-}
-
 // Says that another tool holds the store, and what to do.
 fn report_lock(name: &[u8])
     ensures { λ r. ⌜ r ≡ tt ⌝ }
@@ -203,7 +173,7 @@ pub fn lock(path: &[u8]) -> bool
         return false;
     }
     let mut name = [0u8; NAME];
-    let n = lock_name(path, &mut name);
+    let n = paths::lock_name(path, &mut name);
     make_lock(&name[..n])
 }
 
@@ -215,7 +185,7 @@ pub fn unlock(path: &[u8])
         return;
     }
     let mut name = [0u8; NAME];
-    let n = lock_name(path, &mut name);
+    let n = paths::lock_name(path, &mut name);
     if os::unlink(&name[..n]) < 0 {
         report(b"remove", &name[..n]);
     }
@@ -266,7 +236,7 @@ fn create_closed(name: &[u8]) -> i32
     ensures { λ r. ⌜ OfSystem r ⌝ }
 {
     let mut temporary = [0u8; NAME];
-    let n = temporary_name(name, &mut temporary);
+    let n = paths::temporary_name(name, &mut temporary);
     create_renamed(&mut temporary[..n], name)
 }
 
@@ -316,7 +286,7 @@ pub fn make_private(path: &[u8], bytes: &[u8]) -> bool
         return false;
     }
     libc::close(fd);
-    if !make(path, bytes, rights::private()) {
+    if !make(path, bytes, modes::private()) {
         os::unlink(path);
         return false;
     }
@@ -343,7 +313,7 @@ fn sync_folder(folder: &[u8])
 fn sync_folder_of(path: &[u8])
     ensures { λ r. ⌜ r ≡ tt ⌝ }
 {
-    let n = text::folder(path);
+    let n = paths::folder(path);
     if n == 0 {
         sync_folder(b".");
         return;
@@ -383,7 +353,7 @@ pub fn replace(path: &[u8], bytes: &[u8]) -> bool
         return false;
     }
     let mut name = [0u8; NAME];
-    let n = new_name(path, &mut name);
+    let n = paths::new_name(path, &mut name);
     swap(path, &name[..n], bytes)
 }
 

@@ -1,32 +1,17 @@
 // Owner, group and mode: what a file made anew takes over from the one that it replaces.
 use libc::types::stat;
 use libc::types::timespec;
+use modes::Given;
+use modes::Rights;
 ghost use mathlib.Core.Path.{_≡_};
 ghost use Rattle.libc.specs.Io.{Status};
 ghost use Rattle.files.specs.System.{OfSystem};
-ghost use Rattle.files.specs.Modes.{modeOf, privateRights, blankStat};
-
-// For fchown: as it is.
-const SAME: u32 = 0xffff_ffff;
+ghost use Rattle.files.specs.Stat.{blankStat};
 
 // What the system answers of an open file, and what it tells of it where the answer is 0.
 struct Seen {
     answer: i32,
     file: stat,
-}
-
-// What a file is to have: what a new file gets by itself, or this mode, owner and group.
-pub enum Rights {
-    Fresh,
-    Of(u32, u32, u32),
-    Unknown,
-}
-
-// How far a file could be given to an owner and a group.
-enum Given {
-    Both,
-    Group,
-    Nothing,
 }
 
 // The struct that the system fills is lent to it here and nowhere else.
@@ -90,13 +75,6 @@ pub fn of(path: &[u8]) -> Rights
     r
 }
 
-// Those of a file for its maker alone.
-pub fn private() -> Rights
-    ensures { λ r. ⌜ r ≡ privateRights ⌝ }
-{
-    Rights::Of(0o600, SAME, SAME)
-}
-
 // Gives a file to an owner and a group, to the group alone where the system refuses the owner.
 fn give(fd: i32, owner: u32, group: u32) -> Given
     ensures { λ r. ⌜ OfSystem r ⌝ }
@@ -104,22 +82,10 @@ fn give(fd: i32, owner: u32, group: u32) -> Given
     if libc::fchown(fd, owner, group) == 0 {
         return Given::Both;
     }
-    if libc::fchown(fd, SAME, group) == 0 {
+    if libc::fchown(fd, modes::SAME, group) == 0 {
         return Given::Group;
     }
     Given::Nothing
-}
-
-// The mode of a file that was given so far. With another owner the set-id bits go; with another group
-// too, all go but the owner's, since one who was of the old group may be of the new one or of neither.
-fn narrowed(mode: u32, given: Given) -> u32
-    ensures { λ r. ⌜ r ≡ modeOf given mode ⌝ }
-{
-    match given {
-        Given::Both => mode & 0o7777,
-        Given::Group => mode & 0o777,
-        Given::Nothing => mode & 0o700,
-    }
 }
 
 // Sets the rights of an open file.
@@ -130,7 +96,7 @@ pub fn set(fd: i32, wanted: Rights) -> bool
         Rights::Fresh => true,
         Rights::Unknown => false,
         Rights::Of(mode, owner, group) => {
-            libc::fchmod(fd, narrowed(mode, give(fd, owner, group))) == 0
+            libc::fchmod(fd, modes::narrowed(mode, give(fd, owner, group))) == 0
         }
     }
 }

@@ -6,17 +6,17 @@ use Rattle.text.specs.Ascii.{ascii}
 use Rattle.compact.specs.declared.Tally.{Tally}
 use Rattle.commands.specs.declared.Outcome.{Outcome}
 use Rattle.commands.specs.declared.Outcome.the-variants.{Number, Compacted, Damaged, Refused, Done, Failed}
-use Rattle.lines.specs.Decimal.{counted}
+use Rattle.buffer.specs.Decimal.{counted}
 
 -- anchors written and counters freed
-abbrev pub tallyLine : Tally → List ℕ
+unfoldable pub tallyLine : Tally → List ℕ
 tallyLine t = counted (t .anchors) (ascii " ") ++ counted (t .counters) (ascii "\n")
 
 -- scripts go by the first word
-abbrev pub refusedLine : ℕ → List ℕ
+unfoldable pub refusedLine : ℕ → List ℕ
 refusedLine n = ascii "refused " ++ counted n (ascii "\n")
 
-abbrev pub answerLine : Outcome → List ℕ
+unfoldable pub answerLine : Outcome → List ℕ
 answerLine (Number n) = counted n (ascii "\n")
 answerLine (Compacted t) = tallyLine t
 answerLine (Damaged t) = refusedLine 13

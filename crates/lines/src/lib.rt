@@ -1,50 +1,19 @@
-// The lines that the command-line tool prints, as bytes at the start of a lent slice. Each function
-// answers how many bytes the line has, and which bytes these are is said by specs/.
-mod sentence;
-mod show;
-
-pub use sentence::message;
-pub use show::shape;
+// The lines that the command-line tool prints to standard output, as bytes at the start of a lent slice.
+// Each function answers how many bytes there are, and which these are is said by specs/.
+use buffer::put;
+use buffer::put_counted;
+use commands::Outcome;
+use compact::Tally;
 ghost use mathlib.Core.Path.{_≡_};
 ghost use Prim.Native.Nat.{_+_, _*_, _≤_};
 ghost use lib.ListN.{length, take};
 ghost use Rattle.io.specs.Counts.{Counts};
-ghost use Rattle.lines.specs.Put.{Put};
-ghost use Rattle.lines.specs.Decimal.{decimalText, counted};
+ghost use Rattle.buffer.specs.Put.{Put};
 ghost use Rattle.lines.specs.Answer.{tallyLine, refusedLine, answerLine};
 ghost use Rattle.lines.specs.Ids.{idLine, idLines};
-use commands::Outcome;
-use compact::Tally;
 
-// Puts a text after the first `at` bytes.
-fn put(to: &mut [u8], at: usize, words: &[u8]) -> usize
-    requires { ⌜ at + length (now words) ≤ length (now to) ⌝ }
-    ensures { λ r. ⌜ Put (now (to .entry)) at (now (words .entry)) (now (to .exit)) r ⌝ }
-{
-    octets::copy_at(to, at, words);
-    at + words.len()
-}
-
-// Puts a number's decimal digits.
-fn put_number(to: &mut [u8], at: usize, n: u64) -> usize
-    requires { ⌜ at + 20 ≤ length (now to) ⌝ }
-    ensures { λ r. ⌜ (Put (now (to .entry)) at (decimalText n) (now (to .exit)) r) × (r ≤ at + 20) ⌝ }
-{
-    let mut digits = [0u8; 20];
-    let k = io::decimal(n, &mut digits);
-    put(to, at, &digits[..k])
-}
-
-// Puts a number and a text.
-fn put_counted(to: &mut [u8], at: usize, n: u64, words: &[u8]) -> usize
-    requires { ⌜ at + 20 + length (now words) ≤ length (now to) ⌝ }
-    ensures { λ r. ⌜ (Put (now (to .entry)) at (counted n (now (words .entry))) (now (to .exit)) r) × (r ≤ at + 20 + length (now (words .entry))) ⌝ }
-{
-    let e = put_number(to, at, n);
-    put(to, e, words)
-}
-
-fn put_tally(to: &mut [u8], at: usize, t: Tally) -> usize
+// Puts what a compaction has done.
+pub fn put_tally(to: &mut [u8], at: usize, t: Tally) -> usize
     requires { ⌜ at + 42 ≤ length (now to) ⌝ }
     ensures { λ r. ⌜ (Put (now (to .entry)) at (tallyLine t) (now (to .exit)) r) × (r ≤ at + 42) ⌝ }
 {

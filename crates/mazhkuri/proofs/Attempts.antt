@@ -1,6 +1,6 @@
 -- What holds of an outcome unless it is Failed goes over to what follows from it.
 use mathlib.Core.Path.{_≡_, refl, sym, ap, subst, _∙_}
-use mathlib.Core.Bool.{Bool, true, false, not, cond}
+use mathlib.Core.Bool.{true, cond}
 use mathlib.Core.List.{List, []}
 use Prim.Native.Nat.{ℕ, _-_, min}
 use lib.ListN.{length}
@@ -10,15 +10,15 @@ use Rattle.scheme.specs.Store.{make}
 use Rattle.suite.specs.Program.{program}
 use Rattle.client.specs.Making.{fieldOf}
 use Rattle.store.specs.Check.{checkedOf}
-use Rattle.text.specs.Decimal.{decimalOf}
+use Rattle.words.specs.Decimal.{decimalOf}
 use Rattle.text.specs.Hex.{unhexOf}
-use Rattle.text.specs.declared.Parsed.the-variants.{Number as Number₀}
-use Rattle.text.specs.declared.Command.{Command}
+use Rattle.words.specs.declared.Parsed.the-variants.{Number as Number₀}
+use Rattle.words.specs.declared.Command.{Command}
 use Rattle.advice.specs.Advise.{noRoom, lengthOf}
 use Rattle.commands.specs.Told.{told, withRoom, Roomed, insertTold}
 use Rattle.commands.specs.declared.Outcome.{Outcome}
 use Rattle.commands.specs.declared.Outcome.the-variants.{Number, Compacted, Damaged, Refused, Done, Failed}
-use Rattle.mazhkuri.specs.Words.{OfWord, IdRead, Ids}
+use Rattle.arguments.specs.Words.{OfWord, IdRead, Ids}
 use Rattle.mazhkuri.specs.Ran.{unlessFailed, Attempted, OrFailed, InsertedWith, InsertedInto, Inserted, ErasedIn, Erased, CompactedWith, Compacted as Compacted₀, ReadIn, ReadBy, MadeAs, Made}
 
 over : (P Q : Outcome → Type 0) → ((o : Outcome) → P o → Q o) → (r : Outcome) → unlessFailed P r → unlessFailed Q r
@@ -88,8 +88,3 @@ made-as lent l = attempted (λ o m. record { lent = lent; sized = l; made = m .0
 pub made : {r : Outcome} {p m c s : ℕ} → OfWord decimalOf (Number₀ p) → OfWord decimalOf (Number₀ m) → OfWord decimalOf (Number₀ c)
     → OfWord decimalOf (Number₀ s) → Attempted (MadeAs p m c s) r → Attempted Made r
 made {p} {m} {c} {s} a b d e = attempted (λ o x. record { p = p; m = m; c = c; s = s; words = (a, (b, (d, e))); made = x })
-
--- a test that was passed
-pub passed : (b : Bool) → not b ≡ false → b ≡ true
-passed true e = refl
-passed false e = sym e

@@ -4,9 +4,9 @@ use mathlib.Core.List.{List, [], _∷_}
 use Prim.Native.Nat.{ℕ}
 use denote.Enum.Declared.{tagOf}
 use types.Run.{OneOf, miss}
-use Rattle.text.proofs.Command.{the-type as command}
-use Rattle.text.specs.declared.Command.{Command}
-use Rattle.text.specs.declared.Command.the-variants.{New, Key, Insert, Find, Count, Erase, Compact, Show, Help, Unknown}
+use Rattle.words.proofs.Command.{the-type as command}
+use Rattle.words.specs.declared.Command.{Command}
+use Rattle.words.specs.declared.Command.the-variants.{New, Key, Insert, Find, Count, Erase, Compact, Show, Help, Unknown}
 use Rattle.commands.proofs.Outcome.{the-type as outcome}
 use Rattle.commands.specs.declared.Outcome.{Outcome}
 use Rattle.commands.specs.declared.Outcome.the-variants.{Number, Compacted, Damaged, Refused, Done, Failed}

@@ -13,16 +13,16 @@ use Rattle.client.specs.Making.{fieldOf}
 use Rattle.store.specs.Check.{checkedOf}
 use Rattle.store.specs.declared.Checked.{Checked}
 use Rattle.store.specs.declared.Checked.the-variants.{Fit, Refused as Refused₀}
-use Rattle.text.specs.Decimal.{decimalOf}
+use Rattle.words.specs.Decimal.{decimalOf}
 use Rattle.text.specs.Hex.{isIdOf, unhexOf}
-use Rattle.text.specs.declared.Parsed.the-variants.{Number as Number₀}
-use Rattle.text.specs.declared.Command.{Command}
-use Rattle.text.specs.declared.Command.the-variants.{New, Key, Insert, Find, Count, Erase, Compact, Show, Help, Unknown}
+use Rattle.words.specs.declared.Parsed.the-variants.{Number as Number₀}
+use Rattle.words.specs.declared.Command.{Command}
+use Rattle.words.specs.declared.Command.the-variants.{New, Key, Insert, Find, Count, Erase, Compact, Show, Help, Unknown}
 use Rattle.advice.specs.Advise.{isWrongKey, noRoom, roomOf, lengthOf}
 use Rattle.commands.specs.Told.{told, withRoom, Roomed, insertTold}
 use Rattle.commands.specs.declared.Outcome.{Outcome}
 use Rattle.commands.specs.declared.Outcome.the-variants.{Number, Compacted as Compacted₀, Damaged, Refused, Done, Failed}
-use Rattle.mazhkuri.specs.Words.{OfWord, Ids}
+use Rattle.arguments.specs.Words.{OfWord, Ids}
 
 abbrev pub unlessFailed : (Outcome → Type 0) → Outcome → Type 0
 unlessFailed P (Number n) = P (Number n)

@@ -1,33 +1,27 @@
 // The command-line tool: a store in a file, a key in a file. The words of the command line are read by
-// crates/text, the calls are those of crates/calls, and what a refusal says is chosen by crates/advice.
+// crates/arguments, the calls are those of crates/calls, and what a refusal says is chosen by crates/advice.
 //
 // A command that changes the store makes STORE.lock, reads the store, makes the call, writes STORE.new,
 // syncs it, renames it to STORE and removes STORE.lock; the answer is printed after that.
-mod say;
-
 use commands::Outcome;
-use files::Loaded;
 use libc::STDERR_FILENO;
 use libc::STDOUT_FILENO;
 use store::Checked;
-use text::Command;
-use text::Parsed;
+use words::Command;
+use words::Parsed;
 ghost use mathlib.Core.Path.{_≡_};
 ghost use mathlib.Core.List.{[]};
 ghost use Prim.Native.Nat.{_≤_};
 ghost use lib.ListN.{length};
-ghost use Rattle.io.specs.Counts.{Counts};
 ghost use Rattle.scheme.specs.Call.{Call};
 ghost use Rattle.scheme.specs.Run.{Step};
 ghost use Rattle.scheme.specs.Store.{make as makeOf};
 ghost use Rattle.suite.specs.Program.{program};
 ghost use Rattle.client.specs.Making.{fieldOf};
 ghost use Rattle.store.specs.Check.{checkedOf};
-ghost use Rattle.text.specs.Decimal.{decimalOf};
+ghost use Rattle.words.specs.Decimal.{decimalOf};
 ghost use Rattle.advice.specs.Advise.{noRoom};
 ghost use Rattle.commands.specs.Told.{told, withRoom, Roomed, insertTold};
-ghost use Rattle.files.specs.System.{OfSystem};
-ghost use Rattle.mazhkuri.specs.Words.{OfWord, IdRead, Gathered};
 ghost use Rattle.mazhkuri.specs.Ran.{OrFailed, Attempted, Ran, hasWrongKey, showOf, InsertedWith, InsertedInto, Inserted, ErasedIn, Erased, CompactedWith, Compacted, FoundIn, CountedIn, ReadBy, MadeAs, Made};
 
 // The longest store, 884,744 bytes, and one byte more: a longer file is refused by its length.
@@ -44,69 +38,6 @@ fn space() -> [u8; SPACE]
     ensures { λ r. ⌜ 884745 ≡ length r ⌝ }
 {
     [0; SPACE]
-}
-
-// A number of the command line.
-fn number_at(i: usize) -> Parsed
-    ensures { λ r. ⌜ OfWord decimalOf r ⌝ }
-{
-    let mut word = io::buffer();
-    let n = os::arg(i, &mut word);
-    let got = text::decimal(&word[..n]);
-    if let Parsed::Bad = got {
-        say::err(b"not a number below 1000000000: ");
-        say::err(&word[..n]);
-        say::err(b"\n");
-    }
-    got
-}
-
-// An id of the command line.
-fn id_at(i: usize, to: &mut [u8]) -> bool
-    requires { ⌜ length (now to) ≡ 16 ⌝ }
-    ensures { λ r. ⌜ IdRead (now (to .entry)) (now (to .exit)) r ⌝ }
-    ensures { λ _. ⌜ length (now (to .exit)) ≡ length (now (to .entry)) ⌝ }
-{
-    let mut word = io::buffer();
-    let n = os::arg(i, &mut word);
-    if text::is_id(&word[..n]) {
-        text::unhex(&word[..n], to);
-        return true;
-    }
-    say::err(b"not an id, which is 32 hex digits: ");
-    say::err(&word[..n]);
-    say::err(b"\n");
-    false
-}
-
-// The ids of the command line, as many as there is room for.
-fn gather(count: usize, to: &mut [u8]) -> Loaded
-    ensures { λ r. ⌜ Gathered count (length (now (to .entry))) (now (to .exit)) (r .n) (r .whole) ⌝ }
-    ensures { λ r. ⌜ Counts (r .n) (now (to .exit)) ⌝ }
-{
-    let mut i = 7;
-    let mut at = 0;
-    while i < count {
-        if to.len() < at + 16 {
-            break;
-        }
-        let e = at + 16;
-        if !id_at(i, &mut to[at..e]) {
-            return Loaded { n: 0, whole: false };
-        }
-        at = e;
-        i += 1;
-    }
-    Loaded { n: at, whole: true }
-}
-
-// The key file's bytes, as far as there is room.
-fn key_at(i: usize, to: &mut [u8]) -> Loaded
-    ensures { λ r. ⌜ Counts (r .n) (now (to .exit)) ⌝ }
-{
-    let mut path = io::buffer();
-    let n = os::arg(i, &mut path);
-    files::load(&path[..n], to)
 }
 
 // Keeps what a call left in the store, unless it was refused.
@@ -182,7 +113,7 @@ fn insert_into(path: &[u8], u: u64, ids: &[u8]) -> Outcome
         return Outcome::Failed;
     }
     let mut key = [0u8; 64];
-    let given = key_at(3, &mut key);
+    let given = arguments::key_at(3, &mut key);
     let k = given.n;
     if !given.whole {
         return Outcome::Failed;
@@ -193,11 +124,11 @@ fn insert_into(path: &[u8], u: u64, ids: &[u8]) -> Outcome
 fn insert(count: usize) -> Outcome
     ensures { λ r. ⌜ Attempted (Inserted count) r ⌝ }
 {
-    let Parsed::Number(u) = number_at(6) else {
+    let Parsed::Number(u) = arguments::number_at(6) else {
         return Outcome::Failed;
     };
     let mut ids = [0u8; IDS];
-    let got = gather(count, &mut ids);
+    let got = arguments::gather(count, &mut ids);
     let n = got.n;
     if !got.whole {
         return Outcome::Failed;
@@ -235,7 +166,7 @@ fn erase() -> Outcome
     ensures { λ r. ⌜ Attempted Erased r ⌝ }
 {
     let mut id = [0u8; 16];
-    if !id_at(3, &mut id) {
+    if !arguments::id_at(3, &mut id) {
         return Outcome::Failed;
     }
     let mut path = io::buffer();
@@ -320,7 +251,7 @@ fn compact_into(path: &[u8]) -> Outcome
         return Outcome::Failed;
     }
     let mut key = [0u8; 64];
-    let given = key_at(3, &mut key);
+    let given = arguments::key_at(3, &mut key);
     let k = given.n;
     if !given.whole {
         return Outcome::Failed;
@@ -396,7 +327,7 @@ fn read(c: Command) -> Outcome
         return show_loaded(&store[..n]);
     }
     let mut key = [0u8; 64];
-    let given = key_at(3, &mut key);
+    let given = arguments::key_at(3, &mut key);
     let k = given.n;
     if !given.whole {
         return Outcome::Failed;
@@ -430,16 +361,16 @@ fn make_sized(path: &[u8], p: u64, m: u64, c: u64, s: u64) -> Outcome
 fn make() -> Outcome
     ensures { λ r. ⌜ Attempted Made r ⌝ }
 {
-    let Parsed::Number(p) = number_at(3) else {
+    let Parsed::Number(p) = arguments::number_at(3) else {
         return Outcome::Failed;
     };
-    let Parsed::Number(m) = number_at(4) else {
+    let Parsed::Number(m) = arguments::number_at(4) else {
         return Outcome::Failed;
     };
-    let Parsed::Number(c) = number_at(5) else {
+    let Parsed::Number(c) = arguments::number_at(5) else {
         return Outcome::Failed;
     };
-    let Parsed::Number(s) = number_at(6) else {
+    let Parsed::Number(s) = arguments::number_at(6) else {
         return Outcome::Failed;
     };
     let mut path = io::buffer();
@@ -472,7 +403,7 @@ fn help() -> Outcome
 {
     let mut word = io::buffer();
     let n = os::arg(2, &mut word);
-    match text::command_of(&word[..n]) {
+    match words::command_of(&word[..n]) {
         Command::Unknown => say::help(),
         c => say::usage(STDOUT_FILENO, c),
     }
@@ -494,44 +425,18 @@ fn run(c: Command, count: usize) -> Outcome
     }
 }
 
-// Whether a word of the command line is short enough to be read whole.
-fn word_fits(i: usize) -> bool
-    ensures { λ r. ⌜ OfSystem r ⌝ }
-{
-    let mut word = io::buffer();
-    os::arg(i, &mut word);
-    if os::errno() != 0 {
-        os::fail(b"a word of the command line");
-        return false;
-    }
-    true
-}
-
-fn words_fit(count: usize) -> bool
-    ensures { λ r. ⌜ OfSystem r ⌝ }
-{
-    let mut i = 1;
-    while i < count {
-        if !word_fits(i) {
-            return false;
-        }
-        i += 1;
-    }
-    true
-}
-
 fn main() {
     let mut word = io::buffer();
     let n = os::arg(1, &mut word);
-    let c = text::command_of(&word[..n]);
+    let c = words::command_of(&word[..n]);
     let count = os::arg_count();
-    if !text::fit(c, advice::above(count, 2)) {
+    if !words::fit(c, advice::above(count, 2)) {
         say::err(b"expected: ");
         say::usage(STDERR_FILENO, c);
         say::tell(Outcome::Failed, 0);
         return;
     }
-    if !words_fit(count) {
+    if !arguments::words_fit(count) {
         say::tell(Outcome::Failed, 0);
         return;
     }

@@ -1,6 +1,6 @@
 -- The digits and the line's end.
 use native.Mathlib.Omega.{arith}
-use Rattle.lines.proofs.Laws.{then, said}
+use Rattle.buffer.proofs.Laws.{then, said}
 use borrow.Author.Needs.{needs}
 use Rattle.lines.proofs.put_id.Statement.{statement}
 use Rattle.lines.proofs.put_id.Tie as tie

@@ -1,11 +1,13 @@
 -- Two pieces.
 use native.Mathlib.Omega.{arith}
-use Rattle.lines.proofs.Laws.{then}
+use Rattle.buffer.proofs.Laws.{then}
+use Rattle.lines.specs.Answer.{refusedLine}
 use borrow.Author.Needs.{needs}
 use Rattle.lines.proofs.put_refused.Statement.{statement}
 use Rattle.lines.proofs.put_refused.Tie as tie
 
 returns : tie.Need-returns
+unfolding refusedLine
 returns c =
     let p = c .before .before .before .before .before .before .before .put in
     let q = c .before .before .put-counted in

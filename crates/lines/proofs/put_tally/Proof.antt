@@ -1,11 +1,13 @@
 -- Two pieces.
 use native.Mathlib.Omega.{arith}
-use Rattle.lines.proofs.Laws.{then}
+use Rattle.buffer.proofs.Laws.{then}
+use Rattle.lines.specs.Answer.{tallyLine}
 use borrow.Author.Needs.{needs}
 use Rattle.lines.proofs.put_tally.Statement.{statement}
 use Rattle.lines.proofs.put_tally.Tie as tie
 
 returns : tie.Need-returns
+unfolding tallyLine
 returns c =
     let p = c .before .before .before .before .before .before .before .put-counted in
     let q = c .before .before .put-counted2 in

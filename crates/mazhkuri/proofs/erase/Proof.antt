@@ -1,7 +1,8 @@
 -- The word is an id.
 use mathlib.Core.Path.{subst}
-use Rattle.mazhkuri.proofs.Attempts.{erased, passed}
-use Rattle.mazhkuri.specs.Words.{IdRead}
+use Rattle.arguments.proofs.Laws.{passed}
+use Rattle.mazhkuri.proofs.Attempts.{erased}
+use Rattle.arguments.specs.Words.{IdRead}
 use borrow.Author.Needs.{needs}
 use Rattle.mazhkuri.proofs.erase.Statement.{statement}
 use Rattle.mazhkuri.proofs.erase.Tie as tie

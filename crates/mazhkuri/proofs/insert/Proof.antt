@@ -2,9 +2,10 @@
 use mathlib.Core.Bool.{true≢false}
 use mathlib.Core.Path.{subst, sym, _∙_}
 use mathlib.Core.Logic.{⊎-elim}
-use Rattle.mazhkuri.proofs.Attempts.{inserted, passed}
-use Rattle.mazhkuri.specs.Words.{OfWord}
-use Rattle.text.specs.Decimal.{decimalOf}
+use Rattle.arguments.proofs.Laws.{passed}
+use Rattle.mazhkuri.proofs.Attempts.{inserted}
+use Rattle.arguments.specs.Words.{OfWord}
+use Rattle.words.specs.Decimal.{decimalOf}
 use borrow.Author.Needs.{needs}
 use Rattle.mazhkuri.proofs.insert.Statement.{statement}
 use Rattle.mazhkuri.proofs.insert.Tie as tie

@@ -1,8 +1,8 @@
 -- The sizes are what the words gave.
 use mathlib.Core.Path.{subst}
 use Rattle.mazhkuri.proofs.Attempts.{made}
-use Rattle.mazhkuri.specs.Words.{OfWord}
-use Rattle.text.specs.Decimal.{decimalOf}
+use Rattle.arguments.specs.Words.{OfWord}
+use Rattle.words.specs.Decimal.{decimalOf}
 use borrow.Author.Needs.{needs}
 use Rattle.mazhkuri.proofs.make.Statement.{statement}
 use Rattle.mazhkuri.proofs.make.Tie as tie

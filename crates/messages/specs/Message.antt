@@ -1,0 +1,57 @@
+-- What standard error gets of a command's outcome: of a refusal, its number and what to do.
+use Prim.Native.Nat.{ℕ}
+use mathlib.Core.Bool.{cond}
+use mathlib.Core.List.{List, [], _++_}
+use lib.Dec.{eqb}
+use Rattle.answer.specs.Answer.{numberOf}
+use Rattle.text.specs.Ascii.{ascii}
+use Rattle.advice.specs.Advise.{adviceOf}
+use Rattle.advice.specs.declared.Advice.{Advice}
+use Rattle.advice.specs.declared.Advice.the-variants.{Key, Field, Share, Ids, Sizes, NoStore, Marks, Damage, Count, Entries, Compact, Larger, Log, Output, Fault}
+use Rattle.commands.specs.declared.Outcome.{Outcome}
+use Rattle.commands.specs.declared.Outcome.the-variants.{Number, Compacted, Damaged, Refused, Done, Failed}
+use Rattle.buffer.specs.Decimal.{counted}
+use Rattle.lines.specs.Answer.{tallyLine}
+
+-- a number with the words for one, or for another number
+unfoldable pub plural : ℕ → List ℕ → List ℕ → List ℕ
+plural n one many = counted n (cond (eqb n 1) one many)
+
+-- room for n entries, of which others were given
+unfoldable pub entriesSentence : ℕ → ℕ → List ℕ
+entriesSentence n given =
+    ascii "the store has room for "
+    ++ (plural n (ascii " more entry, ") (ascii " more entries, ")
+    ++ (plural given (ascii " was given") (ascii " were given")
+    ++ ascii ": compact does not help, erase ids or make a larger store\n"))
+
+-- what is wrong, and what to do
+unfoldable pub sentenceOf : Advice → ℕ → List ℕ
+sentenceOf Key given = ascii "the key file must hold 32 bytes: make one with mazhkuri key KEYFILE\n"
+sentenceOf Field given = ascii "FIELD must be 1 to 255 bytes long and VALUE at most 1024: shorten them\n"
+sentenceOf (Share p) given = ascii "SHARE must be 0 to " ++ counted p (ascii " in this store: give one of these\n")
+sentenceOf Ids given = ascii "an insert takes 1 to 64 ids: give more or fewer\n"
+sentenceOf Sizes given = ascii "P must be 0 to 15, and M, C and S 1 to 4096 each: choose other sizes\n"
+sentenceOf NoStore given =
+    ascii "the file is no store, or not whole: its header or its length is wrong: check the name, or take a copy that is whole\n"
+sentenceOf Marks given = ascii "a row of the file is marked neither free nor used: it was damaged: take a copy that is whole\n"
+sentenceOf Damage given = ascii "a counter in the file does not hold what was written: it was damaged: take a copy that is whole\n"
+sentenceOf Count given = ascii "the count of this share would pass 4294967295: use another share\n"
+sentenceOf (Entries n) given = entriesSentence n given
+sentenceOf Compact given = ascii "no counter row is free: compact the store, then insert again\n"
+sentenceOf Larger given = ascii "no counter row is free: compact does not help, make a larger store\n"
+sentenceOf Log given = ascii "no log row is free: compact the store, then insert again\n"
+sentenceOf (Output n) given = counted n (ascii " ids were found, more than a store of this form holds: it was made by something else\n")
+sentenceOf Fault given = ascii "the tool made a wrong call: please report this\n"
+
+-- the ids given stand in what 15 says; a compaction that met damage says what it had done
+unfoldable pub messageLine : Outcome → ℕ → List ℕ
+messageLine (Number n) given = []
+messageLine (Compacted t) given = []
+messageLine (Damaged t) given =
+    ascii "13: a counter in the file does not hold what was written: it was damaged; anchors written and counters freed before it: "
+    ++ tallyLine t
+messageLine (Refused r room) given =
+    counted (numberOf r) (ascii ": ") ++ sentenceOf (adviceOf r (room .p) (room .entries) (room .logged)) given
+messageLine Done given = []
+messageLine Failed given = []

@@ -1,0 +1,2 @@
+pub mod Folder
+pub mod Names

@@ -1,0 +1,29 @@
+-- What `show` prints of a store.
+use Prim.Native.Nat.{ℕ, _-_}
+use mathlib.Core.List.{List, _++_}
+use Rattle.text.specs.Ascii.{ascii}
+use Rattle.text.specs.Bar.{barOf}
+use Rattle.store.specs.declared.Shape.{Shape}
+use Rattle.buffer.specs.Decimal.{counted}
+
+-- a bar of 20 marks
+unfoldable pub barText : ℕ → ℕ → List ℕ
+barText used total = ascii " [" ++ (barOf used total 20 20 ++ ascii "] ")
+
+-- how full a table is, by its rows and the free ones
+unfoldable pub tableLine : List ℕ → ℕ → ℕ → List ℕ
+tableLine name total free =
+    name
+    ++ (barText (total - free) total
+    ++ (counted (total - free) (ascii " of ") ++ (counted total (ascii " rows used, ") ++ counted free (ascii " free\n"))))
+
+unfoldable pub sharesLine : ℕ → List ℕ
+sharesLine p = ascii "a store for shares 0 to " ++ counted p (ascii "\n")
+
+-- the shares, then the four tables
+unfoldable pub shapeLines : Shape → List ℕ
+shapeLines x =
+    sharesLine (x .p)
+    ++ (tableLine (ascii "entries  (M)") (x .m) (x .free .m)
+    ++ (tableLine (ascii "reverse  (V)") (x .m) (x .free .v)
+    ++ (tableLine (ascii "counters (C)") (x .c) (x .free .c) ++ tableLine (ascii "log      (S)") (x .s) (x .free .s))))

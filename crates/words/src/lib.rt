@@ -1,0 +1,129 @@
+// The words of the command line: commands by their names, and decimals.
+ghost use mathlib.Core.Path.{_≡_};
+ghost use Rattle.octets.specs.Compare.{same as sameBytes};
+ghost use Rattle.words.specs.Decimal.{decimalOf, stepOf};
+ghost use Rattle.words.specs.Words.{commandOf, readerOf, wordsFit};
+
+// What a word is as a decimal.
+pub enum Parsed {
+    Number(u64),
+    Bad,
+}
+
+// What a word is as a command.
+pub enum Command {
+    New,
+    Key,
+    Insert,
+    Find,
+    Count,
+    Erase,
+    Compact,
+    Show,
+    Help,
+    Unknown,
+}
+
+// The number that a further digit makes of the number so far.
+fn step(n: u64, b: u8) -> Parsed
+    ensures { λ r. ⌜ r ≡ stepOf n b ⌝ }
+{
+    if 99999999 < n {
+        return Parsed::Bad;
+    }
+    if b < 48 {
+        return Parsed::Bad;
+    }
+    if 57 < b {
+        return Parsed::Bad;
+    }
+    Parsed::Number(n * 10 + (octets::wide(b) - 48))
+}
+
+// A word as a decimal below 1,000,000,000.
+pub fn decimal(word: &[u8]) -> Parsed
+    ensures { λ r. ⌜ r ≡ decimalOf (now (word .entry)) ⌝ }
+{
+    if word.len() < 1 {
+        return Parsed::Bad;
+    }
+    let mut n: u64 = 0;
+    let mut i = 0;
+    while i < word.len() {
+        let Parsed::Number(m) = step(n, word[i]) else {
+            return Parsed::Bad;
+        };
+        n = m;
+        i += 1;
+    }
+    Parsed::Number(n)
+}
+
+// Whether a word is a name.
+fn is(word: &[u8], name: &[u8]) -> bool
+    ensures { λ r. ⌜ r ≡ sameBytes (now (word .entry)) (now (name .entry)) ⌝ }
+{
+    if word.len() != name.len() {
+        return false;
+    }
+    octets::same(word, name)
+}
+
+// The command that a word names, of those that change nothing.
+fn reader_of(word: &[u8]) -> Command
+    ensures { λ r. ⌜ r ≡ readerOf (now (word .entry)) ⌝ }
+{
+    if is(word, b"find") {
+        return Command::Find;
+    }
+    if is(word, b"count") {
+        return Command::Count;
+    }
+    if is(word, b"show") {
+        return Command::Show;
+    }
+    if is(word, b"help") {
+        return Command::Help;
+    }
+    Command::Unknown
+}
+
+// The command that a word names.
+pub fn command_of(word: &[u8]) -> Command
+    ensures { λ r. ⌜ r ≡ commandOf (now (word .entry)) ⌝ }
+{
+    if is(word, b"new") {
+        return Command::New;
+    }
+    if is(word, b"key") {
+        return Command::Key;
+    }
+    if is(word, b"insert") {
+        return Command::Insert;
+    }
+    if is(word, b"erase") {
+        return Command::Erase;
+    }
+    if is(word, b"compact") {
+        return Command::Compact;
+    }
+    reader_of(word)
+}
+
+// Whether a command takes so many words after it.
+pub fn fit(c: Command, n: usize) -> bool
+    ensures { λ r. ⌜ r ≡ wordsFit c n ⌝ }
+{
+    match c {
+        Command::New => n == 5,
+        Command::Key => n == 1,
+        Command::Insert => 5 <= n,
+        Command::Find => n == 4,
+        Command::Count => n == 4,
+        Command::Erase => n == 2,
+        Command::Compact => n == 2,
+        Command::Show => n == 1,
+        Command::Help => true,
+        Command::Unknown => false,
+    }
+}
