@@ -1,6 +1,6 @@
 -- The four tables lent one after the other: each comes back with its rows placed, and the store is laid out as before.
 use Prim.Native.Nat.{ℕ, _-_, _*_, _≤_}
-use mathlib.Core.Path.{_≡_, subst}
+use mathlib.Core.Path.{_≡_, sym, subst, _∙_}
 use mathlib.Core.List.{List, [], _∷_}
 use native.Mathlib.Omega.{arith}
 use lib.Dec.{lit≤}
@@ -9,11 +9,12 @@ use lib.Seq.{take-all}
 use Rattle.octets.specs.Part.{back}
 use Rattle.table.specs.Table.{Row, Table, rows, freeRows, Placed, PlacedAll}
 use Rattle.table.proofs.Placing.{placed-only}
-use Rattle.scheme.specs.Store.{Store, cut}
+use Rattle.scheme.specs.Store.{Store, Which, tableM, tableV, tableC, tableS, widthOf, cut, putIn}
+use Rattle.scheme.specs.Layout.{Laid}
 use Rattle.scheme.specs.Insert.{insertedStore}
 use Rattle.store.specs.declared.Shape.{Shape}
-use Rattle.store.specs.Layout.{Which, tableM, tableV, tableC, tableS, widthOf, rowsOf, startOf, endOf, tableIn, putIn, Laid}
-use Rattle.store.proofs.Tables.{laid-long, laid-rows, laid-back, laid-placed}
+use Rattle.store.specs.Check.{partIn, spanIn}
+use Rattle.scheme.proofs.Plan.{laid-inside, laid-long, laid-rows, laid-back, laid-placed, laid-length}
 use Rattle.insert.specs.Writing.{Written}
 
 some-width : (k : Which) → 1 ≤ widthOf k
@@ -22,60 +23,60 @@ some-width tableV = lit≤ tt
 some-width tableC = lit≤ tt
 some-width tableS = lit≤ tt
 
--- the bytes of a store with these sizes
+-- the bytes of a store with these tables
 pub record LaidStore (z : Shape) : Type 0 where
   pub bytes : List ℕ
   pub store : Store
-  pub laid : Laid (z .m) (z .c) (z .s) bytes store
+  pub laid : Laid (spanIn z) bytes store
 
 module _ (z : Shape) (g : LaidStore z) (k : Which) where
-  abbrev start : ℕ
-  start = startOf (z .m) (z .c) (z .s) k
-
-  abbrev end : ℕ
-  end = endOf (z .m) (z .c) (z .s) k
-
-  abbrev number : ℕ
-  number = rowsOf (z .m) (z .c) (z .s) k
-
   -- the part that is lent
   abbrev part : List ℕ
-  part = take (end - start) (drop start (g .bytes))
+  part = take (partIn z k .end - partIn z k .start) (drop (partIn z k .start) (g .bytes))
 
   -- it came back
   abbrev pub put : (ys : List ℕ) → length ys ≡ length part → LaidStore z
   put ys h = record {
-    bytes = back (g .bytes) start end ys;
-    store = putIn k (rows (widthOf k) number ys) (g .store);
-    laid = laid-back (z .m) (z .c) (z .s) (g .bytes) (g .store) (g .laid) k ys h;
+    bytes = back (g .bytes) (partIn z k .start) (partIn z k .end) ys;
+    store = putIn k (rows (widthOf k) (partIn z k .rows) ys) (g .store);
+    laid = laid-back (spanIn z) (g .bytes) (g .store) (g .laid) k ys h;
   }
 
-  -- there is room in it
-  pub may-put : (new : List ℕ) (n : ℕ) → length new ≡ widthOf k * n → n ≤ freeRows (tableIn k (g .store))
-      → (1 ≤ widthOf k) × ((length part ≡ widthOf k * number) × ((length new ≡ widthOf k * n) × (n ≤ freeRows (rows (widthOf k) number part))))
-  may-put new n e h =
-      (some-width k, (laid-long (z .m) (z .c) (z .s) (g .bytes) (g .store) (g .laid) k, (e, rw (laid-rows (z .m) (z .c) (z .s) (g .bytes) (g .store) (g .laid) k) h)))
+  pub put-end : partIn z k .end ≤ length (g .bytes)
+  put-end = laid-inside (spanIn z) (g .bytes) (g .store) (g .laid) k
 
-  pub put-placed : (new : List Row) (ys : List ℕ) → PlacedAll (rows (widthOf k) number part) new (rows (widthOf k) number ys) → PlacedAll (tableIn k (g .store)) new (rows (widthOf k) number ys)
-  put-placed = laid-placed (z .m) (z .c) (z .s) (g .bytes) (g .store) (g .laid) k
+  -- there is room in it
+  pub may-put : (new : List ℕ) (n : ℕ) → length new ≡ widthOf k * n → n ≤ freeRows (g .store .table k)
+      → (1 ≤ widthOf k) × ((length part ≡ widthOf k * partIn z k .rows) × ((length new ≡ widthOf k * n) × (n ≤ freeRows (rows (widthOf k) (partIn z k .rows) part))))
+  may-put new n e h =
+      (some-width k, (laid-long (spanIn z) (g .bytes) (g .store) (g .laid) k, (e, rw (laid-rows (spanIn z) (g .bytes) (g .store) (g .laid) k) h)))
+
+  pub put-placed : (new : List Row) (ys : List ℕ) → PlacedAll (rows (widthOf k) (partIn z k .rows) part) new (rows (widthOf k) (partIn z k .rows) ys) → PlacedAll (g .store .table k) new (rows (widthOf k) (partIn z k .rows) ys)
+  put-placed = laid-placed (spanIn z) (g .bytes) (g .store) (g .laid) k
+
+-- two stores with these tables are as long
+pub same-long : (z : Shape) (g h : LaidStore z) → length (g .bytes) ≡ length (h .bytes)
+same-long z g h = laid-length (spanIn z) (g .bytes) (g .store) (g .laid) ∙ sym (laid-length (spanIn z) (h .bytes) (h .store) (h .laid))
 
 -- one row as a list of rows
 only : (w : ℕ) (t : Table) (row : Row) (t′ : Table) → length row ≡ w → PlacedAll t (rows w 1 row) t′ → Placed t row t′
 only w t row t′ h p = placed-only t row t′ (subst (λ (r : Row). PlacedAll t (r ∷ []) t′) (take-all w row (omega arith)) p)
 
-pub all-written : (b : List ℕ) (m c s : ℕ) (newM newV : List Row) (newC newS : Row) (ysM ysV ysC ysS after : List ℕ) → length newC ≡ 61 → length newS ≡ 45
-    → PlacedAll (cut b .tM) newM (rows 61 m ysM) → PlacedAll (cut b .tV) newV (rows 49 m ysV) → PlacedAll (cut b .tC) (rows 61 1 newC) (rows 61 c ysC) → PlacedAll (cut b .tS) (rows 45 1 newS) (rows 45 s ysS)
-    → Laid m c s after (putIn tableS (rows 45 s ysS) (putIn tableC (rows 61 c ysC) (putIn tableV (rows 49 m ysV) (putIn tableM (rows 61 m ysM) (cut b))))) → Written b newM newV newC newS after
+pub all-written : (b : List ℕ) (z : Shape) (newM newV : List Row) (newC newS : Row) (ysM ysV ysC ysS after : List ℕ) → length newC ≡ widthOf tableC → length newS ≡ widthOf tableS
+    → PlacedAll (cut b .table tableM) newM (rows (widthOf tableM) (z .m .rows) ysM) → PlacedAll (cut b .table tableV) newV (rows (widthOf tableV) (z .v .rows) ysV)
+    → PlacedAll (cut b .table tableC) (rows (widthOf tableC) 1 newC) (rows (widthOf tableC) (z .c .rows) ysC) → PlacedAll (cut b .table tableS) (rows (widthOf tableS) 1 newS) (rows (widthOf tableS) (z .s .rows) ysS)
+    → Laid (spanIn z) after (putIn tableS (rows (widthOf tableS) (z .s .rows) ysS) (putIn tableC (rows (widthOf tableC) (z .c .rows) ysC) (putIn tableV (rows (widthOf tableV) (z .v .rows) ysV) (putIn tableM (rows (widthOf tableM) (z .m .rows) ysM) (cut b)))))
+    → Written b newM newV newC newS after
 unfolding insertedStore
-all-written b m c s newM newV newC newS ysM ysV ysC ysS after hC hS pM pV pC pS l = record {
-  tM′ = rows 61 m ysM;
-  tV′ = rows 49 m ysV;
-  tC′ = rows 61 c ysC;
-  tS′ = rows 45 s ysS;
+all-written b z newM newV newC newS ysM ysV ysC ysS after hC hS pM pV pC pS l = record {
+  tM′ = rows (widthOf tableM) (z .m .rows) ysM;
+  tV′ = rows (widthOf tableV) (z .v .rows) ysV;
+  tC′ = rows (widthOf tableC) (z .c .rows) ysC;
+  tS′ = rows (widthOf tableS) (z .s .rows) ysS;
   entries = pM;
   reverses = pV;
-  counter = only 61 (cut b .tC) newC (rows 61 c ysC) hC pC;
-  log = only 45 (cut b .tS) newS (rows 45 s ysS) hS pS;
+  counter = only (widthOf tableC) (cut b .table tableC) newC (rows (widthOf tableC) (z .c .rows) ysC) hC pC;
+  log = only (widthOf tableS) (cut b .table tableS) newS (rows (widthOf tableS) (z .s .rows) ysS) hS pS;
   written = l .bytes;
 }
 

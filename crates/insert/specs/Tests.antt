@@ -9,10 +9,9 @@ use lib.Dec.{ltb}
 use lib.ListN.{length}
 use Rattle.answer.specs.Answer.{Answer, refusal}
 use Rattle.answer.specs.Verdict.{Test, _⇒_, verdict}
-use Rattle.scheme.specs.Keys.{tokenP}
+use Rattle.scheme.specs.Keys.{insertTokenLength, tokenP}
 use Rattle.scheme.specs.Reading.{limit}
 use Rattle.scheme.specs.Refusals.{idCount, insertInputTests, tokenTests}
-use Rattle.store.specs.declared.Free.{Free}
 use Rattle.store.specs.declared.Shape.{Shape}
 use Rattle.store.specs.declared.Checked.the-variants.{Fit}
 use Rattle.store.specs.Check.{checkedOf}
@@ -24,13 +23,13 @@ testedOf Passed = none
 testedOf (Refused r) = some (refusal r)
 
 -- 14 to 17, for a new count and n ids [01:RS7 RS8 RS9 RS10]
-unfoldable pub roomTests : Free → ℕ → ℕ → List Test
-roomTests free count n =
-    (ltb limit count ⇒ 14) ∷ (ltb (free .m) n || ltb (free .v) n ⇒ 15) ∷ (ltb (free .c) 1 ⇒ 16) ∷ (ltb (free .s) 1 ⇒ 17) ∷ []
+unfoldable pub roomTests : Shape → ℕ → ℕ → List Test
+roomTests z count n =
+    (ltb limit count ⇒ 14) ∷ (ltb (z .m .free) n || ltb (z .v .free) n ⇒ 15) ∷ (ltb (z .c .free) 1 ⇒ 16) ∷ (ltb (z .s .free) 1 ⇒ 17) ∷ []
 
 -- 4, 5 and 6 don't refuse the call
 pub record Accepted (ids nonces token : List ℕ) : Type 0 where
-  pub passes : verdict (insertInputTests ids nonces ++ tokenTests 141 token) ≡ none
+  pub passes : verdict (insertInputTests ids nonces ++ tokenTests insertTokenLength token) ≡ none
 
 -- 10, 11 and 12 don't refuse it, and the store has these sizes and free rows
 pub record Matching (before token : List ℕ) (z : Shape) : Type 0 where
@@ -42,11 +41,11 @@ pub record Lengths (ids nonces token : List ℕ) : Type 0 where
   pub id-bytes : length ids ≡ 16 * idCount ids
   pub most : idCount ids ≤ 64
   pub nonce-bytes : length nonces ≡ 12 * (idCount ids + 1)
-  pub token-bytes : length token ≡ 141
+  pub token-bytes : length token ≡ insertTokenLength
 
 -- the free rows that 15, 16 and 17 let pass
-pub record Room (free : Free) (n : ℕ) : Type 0 where
-  pub entries : n ≤ free .m
-  pub reverses : n ≤ free .v
-  pub counter : 1 ≤ free .c
-  pub log : 1 ≤ free .s
+pub record Room (z : Shape) (n : ℕ) : Type 0 where
+  pub entries : n ≤ z .m .free
+  pub reverses : n ≤ z .v .free
+  pub counter : 1 ≤ z .c .free
+  pub log : 1 ≤ z .s .free

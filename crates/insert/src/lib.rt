@@ -9,10 +9,10 @@ ghost use lib.ListN.{length, replicate};
 ghost use Rattle.table.specs.Table.{rows};
 ghost use Rattle.answer.specs.Answer.{counted};
 ghost use Rattle.answer.specs.Verdict.{verdict};
-ghost use Rattle.scheme.specs.Store.{logRow};
+ghost use Rattle.scheme.specs.Store.{tableM, tableV, tableC, tableS, widthOf, logRow};
 ghost use Rattle.scheme.specs.Reading.{limit};
 ghost use Rattle.scheme.specs.Refusals.{idCount, idsIn, insertInputTests, tokenTests};
-ghost use Rattle.scheme.specs.Keys.{tokenMT, tokenME, tokenCL, tokenLog};
+ghost use Rattle.scheme.specs.Keys.{insertTokenLength, tokenMT, tokenME, tokenCL, tokenLog};
 ghost use Rattle.scheme.specs.Insert.{entryRows, reverseRows, insertReading, Insert};
 ghost use Rattle.suite.specs.Program.{program};
 ghost use Rattle.store.specs.Check.{checkedOf};
@@ -34,7 +34,6 @@ use format::Position;
 use format::row;
 use store::C_WIDTH;
 use store::Checked;
-use store::Free;
 use store::M_WIDTH;
 use store::S_WIDTH;
 use store::Shape;
@@ -61,7 +60,7 @@ fn bad_ids(n: usize) -> bool
 
 // 4, 5 and 6. [01:RI5 RI6 RI7]
 fn input(ids: &[u8], nonces: &[u8], token: &[u8]) -> Tested
-    ensures { λ r. ⌜ testedOf r ≡ verdict (insertInputTests (now (ids .entry)) (now (nonces .entry)) ++ tokenTests 141 (now (token .entry))) ⌝ }
+    ensures { λ r. ⌜ testedOf r ≡ verdict (insertInputTests (now (ids .entry)) (now (nonces .entry)) ++ tokenTests insertTokenLength (now (token .entry))) ⌝ }
 {
     let n = ids.len() / ID;
     if nonces.len() != NONCE * (n + 1) {
@@ -77,26 +76,26 @@ fn input(ids: &[u8], nonces: &[u8], token: &[u8]) -> Tested
 }
 
 // Whether the free rows of M or of V are fewer than the ids. [01:RS8]
-fn crowded(free: Free, n: usize) -> bool
-    ensures { λ r. ⌜ r ≡ (ltb (free .m) n || ltb (free .v) n) ⌝ }
+fn crowded(z: Shape, n: usize) -> bool
+    ensures { λ r. ⌜ r ≡ (ltb (z .m .free) n || ltb (z .v .free) n) ⌝ }
 {
-    if free.m < n { true } else { free.v < n }
+    if z.m.free < n { true } else { z.v.free < n }
 }
 
 // 14 to 17, for a new count and the number of ids. [01:RS7 RS8 RS9 RS10]
-fn room(free: Free, count: u64, n: usize) -> Tested
-    ensures { λ r. ⌜ testedOf r ≡ verdict (roomTests free count n) ⌝ }
+fn room(z: Shape, count: u64, n: usize) -> Tested
+    ensures { λ r. ⌜ testedOf r ≡ verdict (roomTests z count n) ⌝ }
 {
     if GREATEST < count {
         return Tested::Refused(Refusal::CountRange);
     }
-    if crowded(free, n) {
+    if crowded(z, n) {
         return Tested::Refused(Refusal::EntryRows);
     }
-    if free.c < 1 {
+    if z.c.free < 1 {
         return Tested::Refused(Refusal::CounterRows);
     }
-    if free.s < 1 {
+    if z.s.free < 1 {
         return Tested::Refused(Refusal::LogRows);
     }
     Tested::Passed
@@ -115,9 +114,9 @@ fn new_rows(
     reverses: &mut [u8],
 )
     requires { ⌜ ((length (now mt) ≡ 32) × (length (now me) ≡ 32)) × ((g ≤ limit) × (n ≤ 64)) ⌝ }
-    requires { ⌜ ((12 * n ≤ length (now nonces)) × (length (now ids) ≡ 16 * n)) × ((length (now entries) ≡ 61 * n) × (length (now reverses) ≡ 49 * n)) ⌝ }
-    ensures { λ _. ⌜ rows 61 n (now (entries .exit)) ≡ entryRows program (now (mt .entry)) (now (me .entry)) g (rows 16 n (now (ids .entry))) (now (nonces .entry)) ⌝ }
-    ensures { λ _. ⌜ rows 49 n (now (reverses .exit)) ≡ reverseRows program (now (mt .entry)) g (rows 16 n (now (ids .entry))) ⌝ }
+    requires { ⌜ ((12 * n ≤ length (now nonces)) × (length (now ids) ≡ 16 * n)) × ((length (now entries) ≡ widthOf tableM * n) × (length (now reverses) ≡ widthOf tableV * n)) ⌝ }
+    ensures { λ _. ⌜ rows (widthOf tableM) n (now (entries .exit)) ≡ entryRows program (now (mt .entry)) (now (me .entry)) g (rows 16 n (now (ids .entry))) (now (nonces .entry)) ⌝ }
+    ensures { λ _. ⌜ rows (widthOf tableV) n (now (reverses .exit)) ≡ reverseRows program (now (mt .entry)) g (rows 16 n (now (ids .entry))) ⌝ }
 {
     let k = hmac::prepare(mt);
     let mut i = 0;
@@ -152,33 +151,38 @@ fn place(
     counter: &[u8],
     log: &[u8],
 )
-    requires { ⌜ (checkedOf (now store) ≡ Checked.Fit z) × Room (z .free) n ⌝ }
-    requires { ⌜ ((length (now entries) ≡ 61 * n) × (length (now reverses) ≡ 49 * n)) × ((length (now counter) ≡ 61) × (length (now log) ≡ 45)) ⌝ }
-    ensures { λ _. ⌜ Written (now (store .entry)) (rows 61 n (now (entries .entry))) (rows 49 n (now (reverses .entry))) (now (counter .entry)) (now (log .entry)) (now (store .exit)) ⌝ }
+    requires { ⌜ (checkedOf (now store) ≡ Checked.Fit z) × Room z n ⌝ }
+    requires { ⌜ ((length (now entries) ≡ widthOf tableM * n) × (length (now reverses) ≡ widthOf tableV * n)) × ((length (now counter) ≡ widthOf tableC) × (length (now log) ≡ widthOf tableS)) ⌝ }
+    ensures { λ _. ⌜ Written (now (store .entry)) (rows (widthOf tableM) n (now (entries .entry))) (rows (widthOf tableV) n (now (reverses .entry))) (now (counter .entry)) (now (log .entry)) (now (store .exit)) ⌝ }
 {
     let m = z.m;
+    let v = z.v;
     let c = z.c;
     let s = z.s;
-    let v = HEADER + M_WIDTH * m;
-    let a = HEADER + MV_WIDTH * m;
-    let b = a + C_WIDTH * c;
-    let e = b + S_WIDTH * s;
-    table::put_rows(&mut store[HEADER..v], M_WIDTH, m, entries, n);
-    table::put_rows(&mut store[v..a], V_WIDTH, m, reverses, n);
-    table::put_rows(&mut store[a..b], C_WIDTH, c, counter, 1);
-    table::put_rows(&mut store[b..e], S_WIDTH, s, log, 1);
+    let a = m.start;
+    let e = m.end;
+    table::put_rows(&mut store[a..e], M_WIDTH, m.rows, entries, n);
+    let a = v.start;
+    let e = v.end;
+    table::put_rows(&mut store[a..e], V_WIDTH, v.rows, reverses, n);
+    let a = c.start;
+    let e = c.end;
+    table::put_rows(&mut store[a..e], C_WIDTH, c.rows, counter, 1);
+    let a = s.start;
+    let e = s.end;
+    table::put_rows(&mut store[a..e], S_WIDTH, s.rows, log, 1);
 }
 
 // Room for 64 rows of M.
 fn blank_entries() -> [u8; 64 * M_WIDTH]
-    ensures { λ r. ⌜ r ≡ replicate 3904 0 ⌝ }
+    ensures { λ r. ⌜ r ≡ replicate (64 * widthOf tableM) 0 ⌝ }
 {
     [0u8; 64 * M_WIDTH]
 }
 
 // Room for 64 rows of V.
 fn blank_reverses() -> [u8; 64 * V_WIDTH]
-    ensures { λ r. ⌜ r ≡ replicate 3136 0 ⌝ }
+    ensures { λ r. ⌜ r ≡ replicate (64 * widthOf tableV) 0 ⌝ }
 {
     [0u8; 64 * V_WIDTH]
 }
@@ -194,8 +198,8 @@ fn write(
     token: &[u8],
     counter: &[u8],
 )
-    requires { ⌜ (checkedOf (now store) ≡ Checked.Fit z) × Room (z .free) (idCount (now ids)) ⌝ }
-    requires { ⌜ Lengths (now ids) (now nonces) (now token) × ((g ≤ limit) × (length (now counter) ≡ 61)) ⌝ }
+    requires { ⌜ (checkedOf (now store) ≡ Checked.Fit z) × Room z (idCount (now ids)) ⌝ }
+    requires { ⌜ Lengths (now ids) (now nonces) (now token) × ((g ≤ limit) × (length (now counter) ≡ widthOf tableC)) ⌝ }
     ensures { λ _. ⌜ Written (now (store .entry)) (entryRows program (tokenMT (now (token .entry))) (tokenME (now (token .entry))) g (idsIn (now (ids .entry))) (now (nonces .entry))) (reverseRows program (tokenMT (now (token .entry))) g (idsIn (now (ids .entry)))) (now (counter .entry)) (logRow (tokenLog (now (token .entry)))) (now (store .exit)) ⌝ }
 {
     let n = ids.len() / ID;
@@ -234,8 +238,7 @@ fn insert_read(
 {
     let n = ids.len() / ID;
     let count = x.count + n as u64;
-    let free = z.free;
-    match room(free, count, n) {
+    match room(z, count, n) {
         Tested::Refused(r) => Counted::Refused(r),
         Tested::Passed => {
             let e = NONCE * n;
@@ -257,14 +260,13 @@ fn insert_checked(store: &mut [u8], z: Shape, ids: &[u8], nonces: &[u8], token: 
     if octets::wide(token[0]) != p {
         return Counted::Refused(Refusal::TokenShares);
     }
-    let m = z.m;
     let c = z.c;
-    let a = HEADER + MV_WIDTH * m;
-    let b = a + C_WIDTH * c;
+    let a = c.start;
+    let e = c.end;
     let mut cl = [0u8; 32];
     octets::copy(&mut cl, &token[65..97]);
     let keys = format::keys_of(&cl);
-    let Reading::Counter(x) = counter::read_keyed(&store[a..b], c, &cl, keys) else {
+    let Reading::Counter(x) = counter::read_keyed(&store[a..e], c.rows, &cl, keys) else {
         return Counted::Refused(Refusal::Damage);
     };
     insert_read(store, z, x, keys, &cl, ids, nonces, token)

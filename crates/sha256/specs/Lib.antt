@@ -1,4 +1,3 @@
 pub mod Constants
-pub mod Compression
 pub mod Padding
 pub mod Hash

@@ -22,32 +22,32 @@ long s = lengths (s .args .ids .now) (s .args .nonces .now) (s .args .token .now
 sums : (s : tie.Start) → let x = s .args .x in (x .start .0 ≤ limit) × ((x .k ≤ 4096) × (x .count ≤ limit))
 sums s = let x = s .args .x in reading-sums (s .args .store .now) (s .args .token .now) (s .args .z) (s .pre .0 .1 .fits) (x .b .0) (x .start .0) (x .k) (x .count) (s .pre .1 .0)
 
-roomy-here : (c : tie.After-enum-told) → let a = c .before .before .before .before .before .before .before .before .before .args in Roomy (a .z .free) (a .x .count + length (a .ids .now) / 16) (length (a .ids .now) / 16)
+roomy-here : (c : tie.After-enum-told) → let a = c .before .before .before .before .before .before .before .before .args in Roomy (a .z) (a .x .count + length (a .ids .now) / 16) (length (a .ids .now) / 16)
 roomy-here c =
-    let a = c .before .before .before .before .before .before .before .before .before .args in
-    roomy (a .z .free) (a .x .count + length (a .ids .now) / 16) (length (a .ids .now) / 16) (sym (c .before .before .room .ensures) ∙ ap testedOf (c .enum-told .given .1))
+    let a = c .before .before .before .before .before .before .before .before .args in
+    roomy (a .z) (a .x .count + length (a .ids .now) / 16) (length (a .ids .now) / 16) (sym (c .before .before .room .ensures) ∙ ap testedOf (c .enum-told .given .1))
 
 add-count : tie.Need-add-count
 add-count c = omega (arith, sums (c .before .before .before .before .before), long (c .before .before .before .before .before) .most)
 
 mul-e : tie.Need-mul-e
-mul-e c = omega (arith, long (c .before .before .before .before .before .before .before .before .before) .most)
+mul-e c = omega (arith, long (c .before .before .before .before .before .before .before .before) .most)
+
+add-t20 : tie.Need-add-t20
+add-t20 c = omega (arith, sums (c .before .before .before .before .before .before .before .before .before .before .before))
 
 add-t21 : tie.Need-add-t21
-add-t21 c = omega (arith, sums (c .before .before .before .before .before .before .before .before .before .before .before .before))
-
-add-t22 : tie.Need-add-t22
-add-t22 c = omega (arith, sums (c .before .before .before .before .before .before .before .before .before .before .before .before))
+add-t21 c = omega (arith, sums (c .before .before .before .before .before .before .before .before .before .before .before))
 
 sub-counter-row : tie.Need-sub-counter-row
-sub-counter-row c = omega (arith, long (c .before .before .before .before .before .before .before .before .before .before .before .before) .nonce-bytes)
+sub-counter-row c = omega (arith, long (c .before .before .before .before .before .before .before .before .before .before .before) .nonce-bytes)
 
 part-counter-row-start : tie.Need-part-counter-row-start
-part-counter-row-start c = omega (arith, long (c .before .before .before .before .before .before .before .before .before .before .before .before) .nonce-bytes)
+part-counter-row-start c = omega (arith, long (c .before .before .before .before .before .before .before .before .before .before .before) .nonce-bytes)
 
 counter-row-requires : tie.Need-counter-row-requires
 counter-row-requires c κs =
-    let s = c .before .before .before .before .before .before .before .before .before .before .before .before .before in
+    let s = c .before .before .before .before .before .before .before .before .before .before .before .before in
     let l = long s .nonce-bytes in
     let n = s .args .nonces .now in
     (s .pre .1 .1 .0, length-part n (12 * (length (s .args .ids .now) / 16)) (length n) (omega arith) ∙ omega arith)
@@ -57,13 +57,13 @@ slice-aggregate-write c = search needs
 
 write-requires : tie.Need-write-requires
 write-requires c κs =
-    let s = c .before .before .before .before .before .before .before .before .before .before .before .before .before .before .before .before in
+    let s = c .before .before .before .before .before .before .before .before .before .before .before .before .before .before .before in
     let r = roomy-here (c .before .before .before .before .before .before .before) in
     ((s .pre .0 .1 .fits, r .rows), (long s, (sums s .1 .1, sym (slice-aggregate-write c))))
 
 returns : tie.Need-returns
 returns c =
-    let s = c .before .before .before .before .before .before .before .before .before .before in
+    let s = c .before .before .before .before .before .before .before .before .before in
     let a = s .args in
     let x = a .x in
     let r = c .before .r .given in
@@ -74,7 +74,7 @@ returns-2 : tie.Need-returns-2
 returns-2 c =
     let q = c .before .before .before .before .before in
     let t = q .before .before .before .before .before in
-    let s = t .before .before .before .before .before .before .before .before .before in
+    let s = t .before .before .before .before .before .before .before .before in
     let a = s .args in
     let x = a .x in
     let n = a .nonces .now in
@@ -89,5 +89,5 @@ returns-2 c =
 pub insert-read-spec : {M : Type 1} → statement M
 insert-read-spec =
     tie.close
-    (tie.spec add-count (λ c κs. search needs) (λ c. search needs) (λ c. search needs) mul-e add-t21 add-t22 sub-counter-row part-counter-row-start (λ c. search needs)
+    (tie.spec add-count (λ c κs. search needs) (λ c. search needs) (λ c. search needs) mul-e add-t20 add-t21 sub-counter-row part-counter-row-start (λ c. search needs)
     counter-row-requires slice-aggregate-write write-requires returns (λ c. search needs) returns-2)

@@ -3,6 +3,7 @@ use Prim.Native.Nat.{_+_, _-_, _≤_}
 use mathlib.Core.Path.{_≡_, refl, sym, ap, _∙_}
 use native.Mathlib.Omega.{arith}
 use lib.ListN.{length, take}
+use Rattle.scheme.specs.Store.{tableM, tableV, widthOf}
 use Rattle.table.specs.Table.{Table, rows}
 use Rattle.table.proofs.Rows.{rows-length}
 use Rattle.scheme.specs.Insert.{entryRows, reverseRows}
@@ -15,8 +16,8 @@ use Rattle.insert.proofs.new_rows.Tie as tie
 abbrev Inv-loop : tie.InvT-loop
 Inv-loop mt me g n nonces ids entries₀ reverses₀ k i₀ entries reverses i =
     (i ≤ n) × (length entries ≡ length entries₀) × (length reverses ≡ length reverses₀)
-    × (take i (rows 61 n entries) ≡ take i (entryRows program mt me g (rows 16 n ids) nonces))
-    × (take i (rows 49 n reverses) ≡ take i (reverseRows program mt g (rows 16 n ids)))
+    × (take i (rows (widthOf tableM) n entries) ≡ take i (entryRows program mt me g (rows 16 n ids) nonces))
+    × (take i (rows (widthOf tableV) n reverses) ≡ take i (reverseRows program mt g (rows 16 n ids)))
 
 abbrev μ-loop : tie.MeasureT-loop
 μ-loop mt me g n nonces ids entries₀ reverses₀ k i₀ entries reverses i = n - i
@@ -74,11 +75,11 @@ loop-again c =
       a .put-row .kept .0 ∙ l .inv .1,
       b .put-row2 .kept .0 ∙ l .inv .2,
       ap (take (l .i + 1)) (a .put-row .ensures)
-          ∙ take-more (rows 61 (x .n) (l .entries)) es (l .i) (r .rows-for .result .entry) (rw (rows-length 61 (x .n) (l .entries)) h)
+          ∙ take-more (rows (widthOf tableM) (x .n) (l .entries)) es (l .i) (r .rows-for .result .entry) (rw (rows-length (widthOf tableM) (x .n) (l .entries)) h)
           (rw (length-entries (x .mt .now) (x .me .now) (x .g) (rows 16 (x .n) (x .ids .now)) (x .nonces .now), rows-length 16 (x .n) (x .ids .now)) h) (l .inv .3)
           (made-entry (x .mt .now) (x .g) (x .n) (l .i) (x .ids .now) h (x .me .now) (x .nonces .now) (r .rows-for .result .entry) (r .rows-for .ensures .0)),
       ap (take (l .i + 1)) (b .put-row2 .ensures)
-          ∙ take-more (rows 49 (x .n) (l .reverses)) vs (l .i) (r .rows-for .result .reverse) (rw (rows-length 49 (x .n) (l .reverses)) h)
+          ∙ take-more (rows (widthOf tableV) (x .n) (l .reverses)) vs (l .i) (r .rows-for .result .reverse) (rw (rows-length (widthOf tableV) (x .n) (l .reverses)) h)
           (rw (length-reverses (x .mt .now) (x .g) (rows 16 (x .n) (x .ids .now)), rows-length 16 (x .n) (x .ids .now)) h) (l .inv .4)
           (made-reverse (x .mt .now) (x .g) (x .n) (l .i) (x .ids .now) h (r .rows-for .result .reverse) (r .rows-for .ensures .1)),
     )
@@ -90,9 +91,9 @@ returns c =
     let x = c .before .before .before .before .before .before .before .before .before .args in
     let es : Table = entryRows program (x .mt .now) (x .me .now) (x .g) (rows 16 (x .n) (x .ids .now)) (x .nonces .now) in
     let vs : Table = reverseRows program (x .mt .now) (x .g) (rows 16 (x .n) (x .ids .now)) in (
-      take-done (rows 61 (x .n) (l .entries)) es (l .i) (rw (rows-length 61 (x .n) (l .entries)) h)
+      take-done (rows (widthOf tableM) (x .n) (l .entries)) es (l .i) (rw (rows-length (widthOf tableM) (x .n) (l .entries)) h)
           (rw (length-entries (x .mt .now) (x .me .now) (x .g) (rows 16 (x .n) (x .ids .now)) (x .nonces .now), rows-length 16 (x .n) (x .ids .now)) h) (l .inv .3),
-      take-done (rows 49 (x .n) (l .reverses)) vs (l .i) (rw (rows-length 49 (x .n) (l .reverses)) h)
+      take-done (rows (widthOf tableV) (x .n) (l .reverses)) vs (l .i) (rw (rows-length (widthOf tableV) (x .n) (l .reverses)) h)
           (rw (length-reverses (x .mt .now) (x .g) (rows 16 (x .n) (x .ids .now)), rows-length 16 (x .n) (x .ids .now)) h) (l .inv .4),
     )
 

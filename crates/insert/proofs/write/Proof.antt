@@ -7,7 +7,7 @@ use lib.Seq.{take-all, length-take-le}
 use Rattle.octets.proofs.Parts.{front-le, front-is}
 use Rattle.table.specs.Table.{rows}
 use Rattle.scheme.specs.Keys.{tokenMT, tokenME, tokenLog}
-use Rattle.scheme.specs.Store.{logRow}
+use Rattle.scheme.specs.Store.{tableM, tableV, widthOf, logRow}
 use Rattle.insert.proofs.Stores.{written-as}
 use borrow.Author.Needs.{needs}
 use Rattle.insert.proofs.write.Statement.{statement}
@@ -20,12 +20,12 @@ short c = c .before .before .before .before .before .pre .1 .0 .most
 slice-aggregate-new-rows : tie.Need-slice-aggregate-new-rows
 slice-aggregate-new-rows c =
     let b = c .before .before .before .before .blank-entries in
-    sym (length-take-le _ (b .result) (omega (arith, short (c .before .before .before .before .before), ap length (b .ensures) ∙ length-replicate {A = ℕ} 3904 0)))
+    sym (length-take-le _ (b .result) (omega (arith, short (c .before .before .before .before .before), ap length (b .ensures) ∙ length-replicate {A = ℕ} (64 * widthOf tableM) 0)))
 
 slice-aggregate-new-rows-2 : tie.Need-slice-aggregate-new-rows-2
 slice-aggregate-new-rows-2 c =
     let b = c .before .before .before .before .blank-reverses in
-    sym (length-take-le _ (b .result) (omega (arith, short (c .before .before .before .before .before .before), ap length (b .ensures) ∙ length-replicate {A = ℕ} 3136 0)))
+    sym (length-take-le _ (b .result) (omega (arith, short (c .before .before .before .before .before .before), ap length (b .ensures) ∙ length-replicate {A = ℕ} (64 * widthOf tableV) 0)))
 
 new-rows-requires : tie.Need-new-rows-requires
 new-rows-requires c κs =
@@ -40,10 +40,10 @@ log-row-requires : tie.Need-log-row-requires
 log-row-requires c κs = let s = c .before .before .before .before .before .before .before .before .before .before .before .before .before .before .before in let t = s .args .token .now in length-take-le 44 (drop 97 t) (omega (arith, length-drop 97 t))
 
 -- the parts that came back are as long
-long-entries : (c : tie.After-new-rows) → length (c .new-rows .last .1 .1 .1 .1 .1 .1 .0) ≡ 61 * (length (c .before .before .before .before .before .before .before .before .before .before .before .before .args .ids .now) / 16)
+long-entries : (c : tie.After-new-rows) → length (c .new-rows .last .1 .1 .1 .1 .1 .1 .0) ≡ widthOf tableM * (length (c .before .before .before .before .before .before .before .before .before .before .before .before .args .ids .now) / 16)
 long-entries c = c .new-rows .kept .1 .1 .1 .1 .1 .1 .0 ∙ sym (slice-aggregate-new-rows (c .before .before))
 
-long-reverses : (c : tie.After-new-rows) → length (c .new-rows .last .1 .1 .1 .1 .1 .1 .1 .0) ≡ 49 * (length (c .before .before .before .before .before .before .before .before .before .before .before .before .args .ids .now) / 16)
+long-reverses : (c : tie.After-new-rows) → length (c .new-rows .last .1 .1 .1 .1 .1 .1 .1 .0) ≡ widthOf tableV * (length (c .before .before .before .before .before .before .before .before .before .before .before .before .args .ids .now) / 16)
 long-reverses c = c .new-rows .kept .1 .1 .1 .1 .1 .1 .1 .0 ∙ sym (slice-aggregate-new-rows-2 (c .before))
 
 array-share-prefix-entries : tie.Need-array-share-prefix-entries
@@ -79,8 +79,8 @@ returns c =
     let n = length (s .args .ids .now) / 16 in
     let t = s .args .token .now in
     written-as _ _ _ _ _ _ _ _ _
-    (ap (rows 61 n) (front-is _ (o .new-rows .last .1 .1 .1 .1 .1 .1 .0) _ _ (sym (long-entries o)) refl) ∙ o .new-rows .ensures .0)
-    (ap (rows 49 n) (front-is _ (o .new-rows .last .1 .1 .1 .1 .1 .1 .1 .0) _ _ (sym (long-reverses o)) refl) ∙ o .new-rows .ensures .1)
+    (ap (rows (widthOf tableM) n) (front-is _ (o .new-rows .last .1 .1 .1 .1 .1 .1 .0) _ _ (sym (long-entries o)) refl) ∙ o .new-rows .ensures .0)
+    (ap (rows (widthOf tableV) n) (front-is _ (o .new-rows .last .1 .1 .1 .1 .1 .1 .1 .0) _ _ (sym (long-reverses o)) refl) ∙ o .new-rows .ensures .1)
     (r .before .before .before .before .before .log-row .ensures ∙ ap logRow (take-all 44 (drop 97 t) (omega (arith, length-drop 97 t, s .pre .1 .0 .token-bytes)))) (r .place .ensures)
 
 pub write-spec : {M : Type 1} → statement M
