@@ -18,7 +18,7 @@ noRoom = record { p = 0; entries = 0; logged = 0 }
 
 -- entries take a row of M and one of V; a row of S is used for each insert since the last compaction
 abbrev pub roomOf : Checked → Room
-roomOf (Fit x) = record { p = x .p; entries = min (x .free .m) (x .free .v); logged = x .s - x .free .s }
+roomOf (Fit x) = record { p = x .p; entries = min (x .m .free) (x .v .free); logged = x .s .rows - x .s .free }
 roomOf (Refused r) = noRoom
 
 abbrev pub pickAdvice : Bool → Advice → Advice → Advice

@@ -41,12 +41,6 @@ pub fn above(a: usize, b: usize) -> usize
     if b < a { a - b } else { 0 }
 }
 
-pub fn least(a: usize, b: usize) -> usize
-    ensures { λ r. ⌜ r ≡ min a b ⌝ }
-{
-    if a < b { a } else { b }
-}
-
 // The room of a store; of what is no store, none.
 pub fn room_in(store: &[u8]) -> Room
     ensures { λ r. ⌜ r ≡ roomOf (checkedOf (now (store .entry))) ⌝ }
@@ -58,11 +52,11 @@ pub fn room_in(store: &[u8]) -> Room
             logged: 0,
         },
         Checked::Fit(shape) => {
-            let free = shape.free;
+            let s = shape.s;
             Room {
                 p: shape.p,
-                entries: least(free.m, free.v),
-                logged: above(shape.s, free.s),
+                entries: octets::least(shape.m.free, shape.v.free),
+                logged: above(s.rows, s.free),
             }
         }
     }
@@ -129,5 +123,5 @@ pub fn length(m: u64, c: u64, s: u64) -> usize
     if 4096 < s {
         return 0;
     }
-    (8 + 110 * m + 61 * c + 45 * s) as usize
+    store::length_for(m as usize, c as usize, s as usize)
 }

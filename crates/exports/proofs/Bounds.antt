@@ -21,8 +21,8 @@ use Rattle.hmac.specs.Hmac.{macTests, macAnswer}
 use Rattle.chacha20.specs.Call.{cipherTests, cipherAnswer}
 use Rattle.client.specs.Making.{makingAnswer}
 use Rattle.scheme.specs.Labels.{Field}
-use Rattle.scheme.specs.Keys.{tokenCL, findCL}
-use Rattle.scheme.specs.Store.{Sizes, makeTests, make, cut, sizesOf, headerBad, marksBad, entryTag, clIn}
+use Rattle.scheme.specs.Keys.{insertTokenLength, findTokenLength, countTokenLength, compactionTokenLength, tokenCL, findCL}
+use Rattle.scheme.specs.Store.{Sizes, Which, tableV, tableC, tableS, widthOf, rowsOf, startOf, makeTests, make, cut, sizesOf, headerBad, marksBad, stateTests, entryTag, clIn}
 use Rattle.scheme.specs.Reading.{Reading, damage, counter, limit, countOf, damaged, reading}
 use Rattle.scheme.specs.Refusals.{lengthNot, tokenTests, eraseInputTests, insertInputTests, compactionInputTests, insertTokenTests, fieldTokenTests, keyTests}
 use Rattle.scheme.specs.Insert.{insertReading, newCount, insertStateTests, insertVerdict}
@@ -83,35 +83,32 @@ length-up-to : (p : ℕ) → length (upTo p) ≡ p + 1
 length-up-to zero = refl
 length-up-to (suc p) = simp length-append (omega (arith, length-up-to p))
 
--- the tables' rows
-module _ (before : List ℕ) where
-  used-V : length (used (cut before .tV)) ≤ sizesOf before .m
-  unfolding cut
-  used-V = let z = sizesOf before in omega (arith, free-used (cut before .tV), rows-length 49 (z .m) (drop (8 + 61 * z .m) before))
-
-  used-S : length (used (cut before .tS)) ≤ sizesOf before .s
-  unfolding cut
-  used-S = let z = sizesOf before in omega (arith, free-used (cut before .tS), rows-length 45 (z .s) (drop (8 + 110 * z .m + 61 * z .c) before))
+-- a table's used rows are at most its rows
+used-most : (before : List ℕ) (k : Which) → length (used (cut before .table k)) ≤ rowsOf (sizesOf before) k
+unfolding cut
+used-most before k =
+    let z = sizesOf before in
+    omega (arith, free-used (cut before .table k), rows-length (widthOf k) (rowsOf z k) (drop (startOf z k) before))
 
 -- the calls' answers
 pub insert-fits : (before ids nonces token : List ℕ) → length ids < 2 ^ 64
     → Fits 1 (answerOr (insertVerdict program before ids nonces token) (done (newCount program before ids token ∷ [])))
-unfolding insertVerdict insertInputTests tokenTests insertStateTests newCount insertReading
+unfolding insertVerdict insertInputTests tokenTests stateTests insertStateTests newCount insertReading
 insert-fits before ids nonces token h =
-    let n = count-small (sizesOf before .c) (tokenCL token) (cut before .tC) in
-    bounded (insertInputTests ids nonces ++ (tokenTests 141 token ++ insertStateTests program before ids nonces token)) (done (newCount program before ids token ∷ []))
+    let n = count-small (sizesOf before .c) (tokenCL token) (cut before .table tableC) in
+    bounded (insertInputTests ids nonces ++ (tokenTests insertTokenLength token ++ (stateTests before ++ insertStateTests program before ids nonces token))) (done (newCount program before ids token ∷ []))
     (tt, λ _. (tt, λ _. (tt, λ _. (tt, λ _. (tt, λ _. (tt, λ _. (tt, λ _. (tt, λ _. (tt, λ _. (tt, λ _. (tt, λ _. record { small = omega (arith, n, h); gives = one })))))))))))
 
 pub erase-fits : (before id : List ℕ) → Fits 1 (erase before id .answer)
-unfolding erase eraseVerdict eraseInputTests
+unfolding erase eraseVerdict eraseInputTests stateTests
 erase-fits before id =
-    bounded (eraseInputTests id ++ ((headerBad before ⇒ 10) ∷ (marksBad (cut before) ⇒ 11) ∷ [])) _
-    (tt, λ _. (tt, λ h. (tt, λ _. record { small = omega (arith, good-header before h .range .m-most, used-V before, count-le (isReverse before id) (used (cut before .tV))); gives = one })))
+    bounded (eraseInputTests id ++ stateTests before) _
+    (tt, λ _. (tt, λ h. (tt, λ _. record { small = omega (arith, good-header before h .range .m-most, used-most before tableV, count-le (isReverse before id) (used (cut before .table tableV))); gives = one })))
 
 pub count-answer-fits : (before token : List ℕ) → Fits 1 (count program before token .answer)
-unfolding count countVerdict tokenTests sumOfCounts
+unfolding count countVerdict tokenTests stateTests sumOfCounts
 count-answer-fits before token =
-    bounded (tokenTests 32 token ++ ((headerBad before ⇒ 10) ∷ (marksBad (cut before) ⇒ 11) ∷ (anyOf (λ u. damaged (shareReading program before token u)) (upTo (sizesOf before .p)) ⇒ 13) ∷ [])) _ (
+    bounded (tokenTests countTokenLength token ++ (stateTests before ++ ((anyOf (λ u. damaged (shareReading program before token u)) (upTo (sizesOf before .p)) ⇒ 13) ∷ []))) _ (
       tt,
       λ _. (
         tt,
@@ -152,11 +149,10 @@ found-few before token h =
     )
 
 pub find-fits : (before token output : List ℕ) → Fits 1 (find program before token output .answer)
-unfolding find findVerdict tokenTests
+unfolding find findVerdict tokenTests stateTests
 find-fits before token output =
     let n = length (idsFound program before token) in
-    bounded (tokenTests 96 token ++ ((headerBad before ⇒ 10) ∷ (marksBad (cut before) ⇒ 11)
-    ∷ (anyOf (λ u. damaged (shareReading program before (findCL token) u)) (upTo (sizesOf before .p)) ⇒ 13) ∷ (ltb (length output) (16 * n) ⇒ 18 carrying (n ∷ [])) ∷ [])) _
+    bounded (tokenTests findTokenLength token ++ (stateTests before ++ ((anyOf (λ u. damaged (shareReading program before (findCL token) u)) (upTo (sizesOf before .p)) ⇒ 13) ∷ (ltb (length output) (16 * n) ⇒ 18 carrying (n ∷ [])) ∷ []))) _
     (tt, λ _. (tt, λ h. (tt, λ _. (tt, λ _. (record { small = omega (arith, found-few before token h); gives = (omega arith, omega arith, one) }, λ _. record { small = omega (arith, found-few before token h); gives = one })))))
 
 distinct-few : (l : List (List ℕ)) → length (distinct l) ≤ length l
@@ -188,22 +184,22 @@ third false false false n m k ts e = refl
 
 module _ (before nonces token : List ℕ) where
   header-good : compactVerdict program before nonces token ≡ none → headerBad before ≡ false
-  unfolding compactVerdict compactionInputTests tokenTests
+  unfolding compactVerdict compactionInputTests tokenTests stateTests
   header-good e =
-      third (not (eqb (length nonces % 12) 0)) (lengthNot 32 token) (headerBad before) 4 6 10
-      ((marksBad (cut before) ⇒ 11) ∷ (ltb (length nonces / 12) (length (used (cut before .tS))) ⇒ 19) ∷ []) e
+      third (not (eqb (length nonces % 12) 0)) (lengthNot compactionTokenLength token) (headerBad before) 4 6 10
+      ((marksBad (cut before) ⇒ 11) ∷ (ltb (length nonces / 12) (length (used (cut before .table tableS))) ⇒ 19) ∷ []) e
 
   compact-refused : (r : Answer) → compactVerdict program before nonces token ≡ some r → Fits 2 r
-  unfolding compactVerdict compactionInputTests tokenTests
+  unfolding compactVerdict compactionInputTests tokenTests stateTests
   compact-refused r e =
       subst (λ (o : Option Answer). Fits 2 (answerOr o (done (0 ∷ 0 ∷ [])))) e
-      (bounded (compactionInputTests nonces ++ (tokenTests 32 token ++
-      ((headerBad before ⇒ 10) ∷ (marksBad (cut before) ⇒ 11) ∷ (ltb (length nonces / 12) (length (used (cut before .tS))) ⇒ 19) ∷ []))) (done (0 ∷ 0 ∷ []))
+      (bounded (compactionInputTests nonces ++ (tokenTests compactionTokenLength token ++ (stateTests before ++
+      ((ltb (length nonces / 12) (length (used (cut before .table tableS))) ⇒ 19) ∷ [])))) (done (0 ∷ 0 ∷ []))
       (tt, λ _. (tt, λ _. (tt, λ _. (tt, λ _. (tt, λ _. record { small = omega arith; gives = two (omega arith) }))))))
 
   logged-few : length (logged program before token) ≤ sizesOf before .s
   unfolding logged logOf
-  logged-few = omega (arith, distinct-few (map (clIn program token) (used (cut before .tS))), length-map (used (cut before .tS)) (clIn program token), used-S before)
+  logged-few = omega (arith, distinct-few (map (clIn program token) (used (cut before .table tableS))), length-map (used (cut before .table tableS)) (clIn program token), used-most before tableS)
 
   pub compact-fits : (a : Answer) (after : List ℕ) → Compact program before nonces token a after → Fits 2 a
   compact-fits a after k = go (compactVerdict program before nonces token) refl

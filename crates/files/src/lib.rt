@@ -22,12 +22,6 @@ pub struct Loaded {
     pub whole: bool,
 }
 
-fn least(a: usize, b: usize) -> usize
-    ensures { λ r. ⌜ r ≡ min a b ⌝ }
-{
-    if a < b { a } else { b }
-}
-
 // Says what could not be done with a file, and why.
 pub fn report(what: &[u8], path: &[u8])
     ensures { λ r. ⌜ r ≡ tt ⌝ }
@@ -99,7 +93,7 @@ pub fn randomize(to: &mut [u8]) -> bool
 {
     let mut at = 0;
     while at < to.len() {
-        let e = least(at + 256, to.len());
+        let e = octets::least(at + 256, to.len());
         if !draw(&mut to[at..e]) {
             return false;
         }

@@ -236,7 +236,7 @@ fn compact_loaded(path: &[u8], store: &mut [u8], key: &[u8]) -> Outcome
 {
     let mut nonces = io::large_buffer();
     let room = advice::room_in(store);
-    let logged = advice::least(room.logged, 4096);
+    let logged = octets::least(room.logged, 4096);
     let n = 12 * logged;
     compact_fresh(path, store, key, &mut nonces[..n], logged)
 }

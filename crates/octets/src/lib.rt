@@ -1,7 +1,7 @@
 // Bytes: compare, copy, zero, and numbers big-endian (document 01, "Keyed function and cipher":
 // a number inside a message or plaintext is 8 bytes, big-endian; "Store": the header's are 2).
 ghost use mathlib.Core.Path.{_≡_};
-ghost use Prim.Native.Nat.{_≤_, _<_, _+_};
+ghost use Prim.Native.Nat.{_≤_, _<_, _+_, min};
 ghost use lib.ListN.{length, replicate};
 ghost use Rattle.octets.specs.Compare.{same as sameBytes};
 ghost use Rattle.octets.specs.Number.{bytes, number};
@@ -18,6 +18,13 @@ pub fn put(to: &mut [u8], x: u64)
         to[i] = (rest % 256) as u8;
         rest /= 256;
     }
+}
+
+// The lesser of two numbers.
+pub fn least(a: usize, b: usize) -> usize
+    ensures { λ r. ⌜ r ≡ min a b ⌝ }
+{
+    if a < b { a } else { b }
 }
 
 // A byte as a wider number.

@@ -47,10 +47,10 @@ fn block(found: &[u8], n: usize)
 pub fn ids(found: &[u8], n: u64)
     ensures { λ r. ⌜ r ≡ tt ⌝ }
 {
-    let mut left = advice::least(n as usize, found.len() / 16);
+    let mut left = octets::least(n as usize, found.len() / 16);
     let mut at = 0;
     while 0 < left {
-        let k = advice::least(left, 64);
+        let k = octets::least(left, 64);
         let e = at + 16 * k;
         block(&found[at..e], k);
         at = e;

@@ -95,7 +95,7 @@ fn bad_sizes(p: u64, m: u64, c: u64, s: u64) -> bool
 }
 
 // The length of a store with these sizes. [01:ST3]
-fn length_for(m: usize, c: usize, s: usize) -> usize
+pub fn length_for(m: usize, c: usize, s: usize) -> usize
     requires { ⌜ (m ≤ 65535) × ((c ≤ 65535) × (s ≤ 65535)) ⌝ }
     ensures { λ r. ⌜ r ≡ lengthFor (record { p = 0; m = m; c = c; s = s }) ⌝ }
 {

@@ -32,7 +32,7 @@ returns-2 : tie.Need-returns-2
 returns-2 c =
     let x = c .before .before .before .before .shape .given in
     ap (λ (e : ℕ). made (x .0 .0 .p) e (c .above .result)) (c .before .least .ensures)
-    ∙ ap (made (x .0 .0 .p) (min (x .0 .0 .free .m) (x .0 .0 .free .v))) (c .above .ensures)
+    ∙ ap (made (x .0 .0 .p) (min (x .0 .0 .m .free) (x .0 .0 .v .free))) (c .above .ensures)
     ∙ sym (ap roomOf (x .1))
     ∙ ap roomOf (c .before .before .before .before .before .before .sizes .ensures)
 
