@@ -10,7 +10,7 @@ use lib.ListN.{length, getD, set}
 use Rattle.table.specs.Lists.{same}
 use Rattle.table.specs.Table.{Row, Table, rows, isFree, body, zeroRow, freeWhere}
 use Rattle.table.proofs.Rows.{zero-free}
-use Rattle.scheme.specs.Store.{clIn}
+use Rattle.scheme.specs.Store.{tableS, widthOf, clIn}
 use Rattle.scheme.specs.Compaction.{freeLog}
 use Rattle.suite.specs.Program.{program}
 use Rattle.compact.specs.Log.{zipped, opened, freeLogged}
@@ -98,13 +98,13 @@ module _ (ks : List ℕ) where
   opened-at (r ∷ rs) (l ∷ ls) (suc i) o h e = opened-at rs ls i (o .1) (le-of-suc-le-suc h) e
 
   -- rows that are freed leave the log of the others
-  pub opened-freed : (q : List ℕ → Bool) (t : Table) (log : List (List ℕ)) → Opened ks t log → Opened ks (freeWhere 45 q t) log
+  pub opened-freed : (q : List ℕ → Bool) (t : Table) (log : List (List ℕ)) → Opened ks t log → Opened ks (freeWhere (widthOf tableS) q t) log
   opened-freed q [] log o = tt
   opened-freed q (r ∷ rs) [] o = o
   opened-freed q (r ∷ rs) (l ∷ ls) o = (go (not (isFree r) && q (body r)), opened-freed q rs ls (o .1))
     where
-      go : (b : Bool) → isFree (cond b (zeroRow 45) r) ≡ false → l ≡ clIn program ks (body (cond b (zeroRow 45) r))
-      go true e = absurd (true≢false (sym (zero-free 45) ∙ e))
+      go : (b : Bool) → isFree (cond b (zeroRow (widthOf tableS)) r) ≡ false → l ≡ clIn program ks (body (cond b (zeroRow (widthOf tableS)) r))
+      go true e = absurd (true≢false (sym (zero-free (widthOf tableS)) ∙ e))
       go false e = o .0 e
 
   -- freeing by the log is freeing by CL [01:OP12]
@@ -112,11 +112,11 @@ module _ (ks : List ℕ) where
   unfolding freeLog
   free-logged cl t log o = go t log o
     where
-      row : (b : Bool) (r l : List ℕ) → isFree r ≡ b → (isFree r ≡ false → l ≡ clIn program ks (body r)) → cond (not b && same l cl) (zeroRow 45) r ≡ cond (not b && same (clIn program ks (body r)) cl) (zeroRow 45) r
+      row : (b : Bool) (r l : List ℕ) → isFree r ≡ b → (isFree r ≡ false → l ≡ clIn program ks (body r)) → cond (not b && same l cl) (zeroRow (widthOf tableS)) r ≡ cond (not b && same (clIn program ks (body r)) cl) (zeroRow (widthOf tableS)) r
       row true r l e h = refl
-      row false r l e h = ap (λ (x : List ℕ). cond (same x cl) (zeroRow 45) r) (h e)
+      row false r l e h = ap (λ (x : List ℕ). cond (same x cl) (zeroRow (widthOf tableS)) r) (h e)
 
-      go : (t : Table) (log : List (List ℕ)) → Opened ks t log → freeLogged cl log t ≡ freeWhere 45 (λ b. same (clIn program ks b) cl) t
+      go : (t : Table) (log : List (List ℕ)) → Opened ks t log → freeLogged cl log t ≡ freeWhere (widthOf tableS) (λ b. same (clIn program ks b) cl) t
       go [] log o = refl
       go (r ∷ rs) [] o = absurd (omega arith)
       go (r ∷ rs) (l ∷ ls) o = ap₂ (λ (x : Row) (xs : Table). x ∷ xs) (row (isFree r) r l refl (o .0)) (go rs ls (o .1))

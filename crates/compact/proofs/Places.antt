@@ -12,7 +12,7 @@ use Rattle.octets.proofs.Parts.{front-is}
 use Rattle.table.specs.Lists.{All}
 use Rattle.table.specs.Table.{Row, Table, isFree, holds, zeroRow, freeAt}
 use Rattle.table.proofs.Rows.{zero-free, place-held, free-at-length}
-use Rattle.scheme.specs.Store.{counterTag}
+use Rattle.scheme.specs.Store.{tableC, widthOf, counterTag}
 use Rattle.scheme.specs.Reading.{walk, isDamage, anchorsHeld, startOf, countersHeld, counterNumbers, reading}
 use Rattle.scheme.specs.Reading.Reading.{counter, damage}
 use Rattle.scheme.specs.Compaction.{heldPlaces, freedCounters, nextAnchor, Anchored}
@@ -116,27 +116,27 @@ module _ (c : ℕ) (cl : List ℕ) (t : Table) (z : Counter) (places : List ℕ)
   noted-inside n l = rw (h .held, ← l) (held-inside cl t c (z .b .0) (z .start .0) (z .k) (z .count) (h .read))
 
   pub noted-first : (n : ℕ) → length t ≡ n → getD places 0 0 < n
-  noted-first n l = place-at 61 places (z .k) 0 (h .long) n (h .some) (noted-inside n l)
+  noted-first n l = place-at (widthOf tableC) places (z .k) 0 (h .long) n (h .some) (noted-inside n l)
 
   first-freed : isFree (getD (freedCounters program cl t (z .start .0) (z .k)) (getD places 0 0) []) ≡ true
   unfolding freedCounters
   first-freed =
-      ap (λ (l : List ℕ). isFree (getD (freeAt 61 l t) (getD places 0 0) [])) (sym (h .held)) ∙ go (z .k) places (h .some) (h .long) (noted-first (length t) refl)
+      ap (λ (l : List ℕ). isFree (getD (freeAt (widthOf tableC) l t) (getD places 0 0) [])) (sym (h .held)) ∙ go (z .k) places (h .some) (h .long) (noted-first (length t) refl)
     where
-      go : (k : ℕ) (l : List ℕ) → 0 < k → k ≤ length l → getD l 0 0 < length t → isFree (getD (freeAt 61 (take k l) t) (getD l 0 0) []) ≡ true
+      go : (k : ℕ) (l : List ℕ) → 0 < k → k ≤ length l → getD l 0 0 < length t → isFree (getD (freeAt (widthOf tableC) (take k l) t) (getD l 0 0) []) ≡ true
       go zero l s m i = absurd (not-suc-le-zero s)
       go (suc k) [] s m i = absurd (not-suc-le-zero m)
-      go (suc k) (x ∷ xs) s m i = freed-free 61 x (take k xs) t i
+      go (suc k) (x ∷ xs) s m i = freed-free (widthOf tableC) x (take k xs) t i
 
   -- the counters freed, then the anchor put where the first of them stood [01:OP11]
-  pub anchored-is : (nonce : List ℕ) (freed after : Table) (row : Row) → freed ≡ freeAt 61 (take (z .k) places) t → row ≡ nextAnchor program cl nonce (z .b .0) (z .start .0) (z .k) (z .count)
+  pub anchored-is : (nonce : List ℕ) (freed after : Table) (row : Row) → freed ≡ freeAt (widthOf tableC) (take (z .k) places) t → row ≡ nextAnchor program cl nonce (z .b .0) (z .start .0) (z .k) (z .count)
       → after ≡ set freed (getD places 0 0) row → Anchored program cl nonce t (z .b .0) (z .start .0) (z .k) (z .count) after
   unfolding freedCounters
   anchored-is nonce freed after row f r p = record {
     placed = record {
       at = getD places 0 0;
-      inside = rw (free-at-length 61 (heldPlaces program cl t (z .start .0) (z .k)) t) (noted-first (length t) refl);
+      inside = rw (free-at-length (widthOf tableC) (heldPlaces program cl t (z .start .0) (z .k)) t) (noted-first (length t) refl);
       free = first-freed;
-      put = p ∙ ap₂ (λ (l : Table) (x : Row). set l (getD places 0 0) x) (f ∙ ap (λ (l : List ℕ). freeAt 61 l t) (h .held)) r;
+      put = p ∙ ap₂ (λ (l : Table) (x : Row). set l (getD places 0 0) x) (f ∙ ap (λ (l : List ℕ). freeAt (widthOf tableC) l t) (h .held)) r;
     };
   }

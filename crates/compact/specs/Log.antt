@@ -5,7 +5,7 @@ use mathlib.Core.Bool.{Bool, cond, not, _&&_}
 use mathlib.Core.List.{List, [], _∷_}
 use Rattle.table.specs.Lists.{same}
 use Rattle.table.specs.Table.{Row, Table, isFree, body, zeroRow}
-use Rattle.scheme.specs.Store.{clIn}
+use Rattle.scheme.specs.Store.{tableS, widthOf, clIn}
 use Rattle.suite.specs.Program.{program}
 
 -- each element changed by the element at its index in a second list
@@ -27,7 +27,7 @@ logs cl r l = not (isFree r) && same l cl
 
 -- free the used rows whose CL is the one given [01:OP12]
 abbrev pub freeRow : List ℕ → Row → List ℕ → Row
-freeRow cl r l = cond (logs cl r l) (zeroRow 45) r
+freeRow cl r l = cond (logs cl r l) (zeroRow (widthOf tableS)) r
 
 abbrev pub freeLogged : List ℕ → List (List ℕ) → Table → Table
 freeLogged cl log t = zipped (freeRow cl) t log

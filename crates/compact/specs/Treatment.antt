@@ -8,9 +8,9 @@ use Rattle.table.specs.Table.{Table}
 use Rattle.scheme.specs.Reading.{reading}
 use Rattle.scheme.specs.Reading.Reading.{counter, damage}
 use Rattle.scheme.specs.Compaction.{Anchored, heldPlaces}
-use Rattle.scheme.specs.Store.{Store}
+use Rattle.scheme.specs.Store.{Which, Store, tableC, tableS, putIn}
+use Rattle.scheme.specs.Layout.{Span, Laid}
 use Rattle.suite.specs.Program.{program}
-use Rattle.store.specs.Layout.{Laid, putIn, tableC, tableS}
 use Rattle.counter.specs.declared.Counter.{Counter}
 use Rattle.compact.specs.declared.Tally.{Tally}
 use Rattle.compact.specs.declared.Treated.{Treated}
@@ -76,8 +76,13 @@ tallyAfter t r = record { anchors = t .anchors + anchorsIn r; counters = t .coun
 abbrev pub withTables : Store → Table → Table → Store
 withTables st tC tS = putIn tableS tS (putIn tableC tC st)
 
+-- the bytes are some store, whose tables stand at these places
+pub record Standing (at : Which → Span) (b : List ℕ) : Type 0 where
+  pub store : Store
+  pub laid : Laid at b store
+
 -- one CL treated in the store st: its table C, and the bytes after it; all rows of the CL are freed unless damage stopped it [01:OP12 RS13]
-pub record Stepped (m c s : ℕ) (cl nonce : List ℕ) (log : List (List ℕ)) (st : Store) (r : Treated) (after : List ℕ) : Type 0 where
+pub record Stepped (at : Which → Span) (cl nonce : List ℕ) (log : List (List ℕ)) (st : Store) (r : Treated) (after : List ℕ) : Type 0 where
   pub tC′ : Table
-  pub treated : Treatment c cl nonce (st .tC) tC′ r
-  pub laid : Laid m c s after (withTables st tC′ (cond (stops r) (st .tS) (freeLogged cl log (st .tS))))
+  pub treated : Treatment (at tableC .rows) cl nonce (st .table tableC) tC′ r
+  pub laid : Laid at after (withTables st tC′ (cond (stops r) (st .table tableS) (freeLogged cl log (st .table tableS))))

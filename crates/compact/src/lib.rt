@@ -6,17 +6,18 @@ ghost use Prim.Native.Nat.{_+_, _*_, _/_, _≤_, _<_};
 ghost use lib.ListN.{length, getD, take};
 ghost use Rattle.table.specs.Lists.{All};
 ghost use Rattle.table.specs.Table.{rows, used, freeAt};
-ghost use Rattle.scheme.specs.Store.{Store, cut};
+ghost use Rattle.scheme.specs.Keys.{compactionTokenLength};
+ghost use Rattle.scheme.specs.Store.{tableC, tableS, widthOf, Store, cut};
+ghost use Rattle.scheme.specs.Layout.{Laid};
 ghost use Rattle.scheme.specs.Reading.{limit};
 ghost use Rattle.scheme.specs.Compaction.{Anchored, Compacted, Compact};
 ghost use Rattle.suite.specs.Program.{program};
-ghost use Rattle.store.specs.Check.{checkedOf};
-ghost use Rattle.store.specs.Layout.{Laid};
+ghost use Rattle.store.specs.Check.{spanIn, checkedOf};
 ghost use Rattle.format.specs.Tags.{KeysOf};
 ghost use Rattle.counter.specs.Outcome.{placesNoted};
 ghost use Rattle.compact.specs.Log.{opened, logs, freeLogged};
 ghost use Rattle.compact.specs.Outcome.{compactionAnswer};
-ghost use Rattle.compact.specs.Treatment.{Noted, Treatment, Stepped, stops, countersIn, tallyAfter};
+ghost use Rattle.compact.specs.Treatment.{Noted, Treatment, Standing, Stepped, stops, countersIn, tallyAfter};
 use answer::Refusal;
 use counter::Counter;
 use counter::Reading;
@@ -55,8 +56,8 @@ pub enum Treated {
 
 // Decrypts every used row of S, once, into a log of 32 bytes per row.
 fn open_log(t: &[u8], s: usize, ks: &[u8], log: &mut [u8])
-    requires { ⌜ (length (now t) ≡ 45 * s) × ((length (now ks) ≡ 32) × (length (now log) ≡ 32 * s)) ⌝ }
-    ensures { λ _. ⌜ rows 32 s (now (log .exit)) ≡ opened (now (ks .entry)) (rows 45 s (now (t .entry))) (rows 32 s (now (log .entry))) ⌝ }
+    requires { ⌜ (length (now t) ≡ widthOf tableS * s) × ((length (now ks) ≡ 32) × (length (now log) ≡ 32 * s)) ⌝ }
+    ensures { λ _. ⌜ rows 32 s (now (log .exit)) ≡ opened (now (ks .entry)) (rows (widthOf tableS) s (now (t .entry))) (rows 32 s (now (log .entry))) ⌝ }
 {
     let mut i = 0;
     while i < s {
@@ -71,8 +72,8 @@ fn open_log(t: &[u8], s: usize, ks: &[u8], log: &mut [u8])
 
 // Whether the row of S at an index is used and its CL is the one given.
 fn is_logged(t: &[u8], s: usize, log: &[u8], i: usize, cl: &[u8; 32]) -> bool
-    requires { ⌜ (i < s) × ((length (now t) ≡ 45 * s) × (length (now log) ≡ 32 * s)) ⌝ }
-    ensures { λ r. ⌜ r ≡ logs (now (cl .entry)) (getD (rows 45 s (now (t .entry))) i []) (getD (rows 32 s (now (log .entry))) i []) ⌝ }
+    requires { ⌜ (i < s) × ((length (now t) ≡ widthOf tableS * s) × (length (now log) ≡ 32 * s)) ⌝ }
+    ensures { λ r. ⌜ r ≡ logs (now (cl .entry)) (getD (rows (widthOf tableS) s (now (t .entry))) i []) (getD (rows 32 s (now (log .entry))) i []) ⌝ }
 {
     let at = 32 * i;
     let e = at + 32;
@@ -85,8 +86,8 @@ fn is_logged(t: &[u8], s: usize, log: &[u8], i: usize, cl: &[u8; 32]) -> bool
 
 // Frees all rows of S of a CL. [01:OP12]
 fn free_log(t: &mut [u8], s: usize, log: &[u8], cl: &[u8; 32])
-    requires { ⌜ (length (now t) ≡ 45 * s) × (length (now log) ≡ 32 * s) ⌝ }
-    ensures { λ _. ⌜ rows 45 s (now (t .exit)) ≡ freeLogged (now (cl .entry)) (rows 32 s (now (log .entry))) (rows 45 s (now (t .entry))) ⌝ }
+    requires { ⌜ (length (now t) ≡ widthOf tableS * s) × (length (now log) ≡ 32 * s) ⌝ }
+    ensures { λ _. ⌜ rows (widthOf tableS) s (now (t .exit)) ≡ freeLogged (now (cl .entry)) (rows 32 s (now (log .entry))) (rows (widthOf tableS) s (now (t .entry))) ⌝ }
 {
     let mut i = 0;
     while i < s {
@@ -111,8 +112,8 @@ fn cl_at(log: &[u8], s: usize, i: usize) -> [u8; 32]
 
 // Frees the rows of C at the first k places.
 fn free_places(t: &mut [u8], c: usize, places: &[u16], k: usize)
-    requires { ⌜ (length (now t) ≡ 61 * c) × ((k ≤ length (now places)) × All (λ i. i < c) (take k (now places))) ⌝ }
-    ensures { λ _. ⌜ rows 61 c (now (t .exit)) ≡ freeAt 61 (take k (now (places .entry))) (rows 61 c (now (t .entry))) ⌝ }
+    requires { ⌜ (length (now t) ≡ widthOf tableC * c) × ((k ≤ length (now places)) × All (λ i. i < c) (take k (now places))) ⌝ }
+    ensures { λ _. ⌜ rows (widthOf tableC) c (now (t .exit)) ≡ freeAt (widthOf tableC) (take k (now (places .entry))) (rows (widthOf tableC) c (now (t .entry))) ⌝ }
 {
     let mut j = 0;
     while j < k {
@@ -151,8 +152,8 @@ fn anchor(
     z: Counter,
     places: &[u16],
 )
-    requires { ⌜ ((length (now t) ≡ 61 * c) × (c ≤ 4096)) × ((KeysOf keys (now cl) × (length (now nonce) ≡ 12)) × Noted c (now cl) (rows 61 c (now t)) z (now places)) ⌝ }
-    ensures { λ _. ⌜ Anchored program (now (cl .entry)) (now (nonce .entry)) (rows 61 c (now (t .entry))) (z .b .0) (z .start .0) (z .k) (z .count) (rows 61 c (now (t .exit))) ⌝ }
+    requires { ⌜ ((length (now t) ≡ widthOf tableC * c) × (c ≤ 4096)) × ((KeysOf keys (now cl) × (length (now nonce) ≡ 12)) × Noted c (now cl) (rows (widthOf tableC) c (now t)) z (now places)) ⌝ }
+    ensures { λ _. ⌜ Anchored program (now (cl .entry)) (now (nonce .entry)) (rows (widthOf tableC) c (now (t .entry))) (z .b .0) (z .start .0) (z .k) (z .count) (rows (widthOf tableC) c (now (t .exit))) ⌝ }
 {
     free_places(t, c, places, z.k as usize);
     let next = next_anchor(z);
@@ -164,9 +165,9 @@ fn anchor(
 // nothing is written. The keys of the CL are made once, and each counter's tag once: the reading notes
 // the places of the counters in the room lent for them. [01:OP11]
 pub fn treat(t: &mut [u8], c: usize, cl: &[u8; 32], nonce: &[u8], places: &mut [u16]) -> Treated
-    requires { ⌜ ((length (now t) ≡ 61 * c) × (c ≤ length (now places))) × ((c ≤ 4096) × (length (now nonce) ≡ 12)) ⌝ }
-    ensures { λ r. ⌜ Treatment c (now (cl .entry)) (now (nonce .entry)) (rows 61 c (now (t .entry))) (rows 61 c (now (t .exit))) r ⌝ }
-    ensures { λ _. ⌜ now (places .exit) ≡ placesNoted c (now (cl .entry)) (rows 61 c (now (t .entry))) (now (places .entry)) ⌝ }
+    requires { ⌜ ((length (now t) ≡ widthOf tableC * c) × (c ≤ length (now places))) × ((c ≤ 4096) × (length (now nonce) ≡ 12)) ⌝ }
+    ensures { λ r. ⌜ Treatment c (now (cl .entry)) (now (nonce .entry)) (rows (widthOf tableC) c (now (t .entry))) (rows (widthOf tableC) c (now (t .exit))) r ⌝ }
+    ensures { λ _. ⌜ now (places .exit) ≡ placesNoted c (now (cl .entry)) (rows (widthOf tableC) c (now (t .entry))) (now (places .entry)) ⌝ }
 {
     let keys = format::keys_of(cl);
     let Reading::Counter(z) = counter::read_by(t, c, cl, keys, places) else {
@@ -207,28 +208,23 @@ fn added(t: Tally, r: Treated) -> Tally
 
 // Treats the CL of a row in the log: its counters in table C, then its rows in table S, unless damage
 // stops it. [01:OP11 OP12]
-fn step(
-    store: &mut [u8],
-    m: usize,
-    c: usize,
-    s: usize,
-    log: &[u8],
-    i: usize,
-    nonce: &[u8],
-) -> Treated
-    requires { ⌜ ((length (now store) ≡ 8 + 110 * m + 61 * c + 45 * s) × (c ≤ 4096)) × ((i < s) × ((length (now log) ≡ 32 * s) × (length (now nonce) ≡ 12))) ⌝ }
-    ensures { λ r. ⌜ ((st : Store) → Laid m c s (now (store .entry)) st → Stepped m c s (getD (rows 32 s (now (log .entry))) i []) (now (nonce .entry)) (rows 32 s (now (log .entry))) st r (now (store .exit))) ⌝ }
+fn step(store: &mut [u8], z: Shape, log: &[u8], i: usize, nonce: &[u8]) -> Treated
+    requires { ⌜ (Standing (spanIn z) (now store) × (z .c .rows ≤ 4096)) × ((i < z .s .rows) × ((length (now log) ≡ 32 * z .s .rows) × (length (now nonce) ≡ 12))) ⌝ }
+    ensures { λ r. ⌜ ((st : Store) → Laid (spanIn z) (now (store .entry)) st → Stepped (spanIn z) (getD (rows 32 (z .s .rows) (now (log .entry))) i []) (now (nonce .entry)) (rows 32 (z .s .rows) (now (log .entry))) st r (now (store .exit))) ⌝ }
 {
-    let a = HEADER + MV_WIDTH * m;
-    let b = a + C_WIDTH * c;
-    let e = b + S_WIDTH * s;
-    let cl = cl_at(log, s, i);
+    let c = z.c;
+    let a = c.start;
+    let e = c.end;
+    let s = z.s;
+    let b = s.start;
+    let f = s.end;
+    let cl = cl_at(log, s.rows, i);
     let mut places = [0u16; 4096];
-    let r = treat(&mut store[a..b], c, &cl, nonce, &mut places);
+    let r = treat(&mut store[a..e], c.rows, &cl, nonce, &mut places);
     if stopped(r) {
         return r;
     }
-    free_log(&mut store[b..e], s, log, &cl);
+    free_log(&mut store[b..f], s.rows, log, &cl);
     r
 }
 
@@ -236,24 +232,25 @@ fn step(
 // CL are freed with it, so that a row that is still used when its turn comes has the next one. Damage
 // stops it. [01:OP10 OP13 RS13]
 fn treat_all(store: &mut [u8], z: Shape, nonces: &[u8], token: &[u8], log: &mut [u8]) -> Compaction
-    requires { ⌜ ((checkedOf (now store) ≡ Checked.Fit z) × (length (used (cut (now store) .tS)) ≤ length (now nonces) / 12)) × ((length (now token) ≡ 32) × (length (now log) ≡ 32 * z .s)) ⌝ }
+    requires { ⌜ ((checkedOf (now store) ≡ Checked.Fit z) × (length (used (cut (now store) .table tableS)) ≤ length (now nonces) / 12)) × ((length (now token) ≡ compactionTokenLength) × (length (now log) ≡ 32 * z .s .rows)) ⌝ }
     ensures { λ r. ⌜ Compacted program (now (store .entry)) (now (nonces .entry)) (now (token .entry)) (compactionAnswer r) (now (store .exit)) ⌝ }
-    ensures { λ _. ⌜ rows 32 (z .s) (now (log .exit)) ≡ opened (now (token .entry)) (cut (now (store .entry)) .tS) (rows 32 (z .s) (now (log .entry))) ⌝ }
+    ensures { λ _. ⌜ rows 32 (z .s .rows) (now (log .exit)) ≡ opened (now (token .entry)) (cut (now (store .entry)) .table tableS) (rows 32 (z .s .rows) (now (log .entry))) ⌝ }
 {
     let s = z.s;
-    let b = HEADER + MV_WIDTH * z.m + C_WIDTH * z.c;
-    let e = b + S_WIDTH * s;
-    open_log(&store[b..e], s, token, log);
+    let b = s.start;
+    let e = s.end;
+    let n = s.rows;
+    open_log(&store[b..e], n, token, log);
     let mut t = Tally {
         anchors: 0,
         counters: 0,
     };
     let mut i = 0;
-    while i < s {
-        if row::is_used(&store[b..e], s, i) {
+    while i < n {
+        if row::is_used(&store[b..e], n, i) {
             let from = NONCE * t.anchors as usize;
             let to = from + NONCE;
-            let r = step(store, z.m, z.c, s, log, i, &nonces[from..to]);
+            let r = step(store, z, log, i, &nonces[from..to]);
             if stopped(r) {
                 return Compaction::Damage(t);
             }
@@ -266,11 +263,12 @@ fn treat_all(store: &mut [u8], z: Shape, nonces: &[u8], token: &[u8], log: &mut 
 
 // Treats all CL, with room for the log of as many rows as a store can have.
 fn treat_logged(store: &mut [u8], z: Shape, nonces: &[u8], token: &[u8]) -> Compaction
-    requires { ⌜ ((checkedOf (now store) ≡ Checked.Fit z) × (length (used (cut (now store) .tS)) ≤ length (now nonces) / 12)) × (length (now token) ≡ 32) ⌝ }
+    requires { ⌜ ((checkedOf (now store) ≡ Checked.Fit z) × (length (used (cut (now store) .table tableS)) ≤ length (now nonces) / 12)) × (length (now token) ≡ compactionTokenLength) ⌝ }
     ensures { λ r. ⌜ Compacted program (now (store .entry)) (now (nonces .entry)) (now (token .entry)) (compactionAnswer r) (now (store .exit)) ⌝ }
 {
     let mut log = [0u8; 131072];
-    let n = 32 * z.s;
+    let s = z.s;
+    let n = 32 * s.rows;
     treat_all(store, z, nonces, token, &mut log[0..n])
 }
 
@@ -289,7 +287,8 @@ pub fn compact(store: &mut [u8], nonces: &[u8], token: &[u8]) -> Compaction
     match checked {
         Checked::Refused(r) => Compaction::Refused(r),
         Checked::Fit(z) => {
-            if nonces.len() / NONCE < z.s - z.free.s {
+            let s = z.s;
+            if nonces.len() / NONCE < s.rows - s.free {
                 return Compaction::Refused(Refusal::NonceCount);
             }
             treat_logged(store, z, nonces, token)

@@ -24,7 +24,7 @@ fits c = sym (c .before .before .before .sizes .ensures) ∙ c .before .checked2
 
 returns-3 : tie.Need-returns-3
 returns-3 c =
-    let k = c .before .before in
+    let k = c .before .before .before in
     let e = k .before .before .before .before .before in
     let a = e .before .before .before .before .before .args in
     refuses (a .store .now) (a .nonces .now) (a .token .now) _ _ _
@@ -32,7 +32,7 @@ returns-3 c =
 
 treat-logged-requires : tie.Need-treat-logged-requires
 treat-logged-requires c κs =
-    let k = c .before .before .before in
+    let k = c .before .before .before .before in
     let e = k .before .before .before .before .before in
     let a = e .before .before .before .before .before .args in
     ((fits k, enough (a .store .now) (a .nonces .now) (a .token .now) (e .before .if1 .left) (e .if2 .left) (k .before .checked2 .given .0 .0) (fits k) (c .before .if3 .left)), e .if2 .left)
@@ -47,7 +47,7 @@ returns-4 c =
 returns-5 : tie.Need-returns-5
 returns-5 c =
     let r = c .before .before in
-    let k = r .before .before .before .before in
+    let k = r .before .before .before .before .before in
     let e = k .before .before .before .before .before in
     let a = e .before .before .before .before .before .args in
     goes (a .store .now) (a .nonces .now) (a .token .now) _ _
@@ -57,5 +57,5 @@ pub compact-spec : {M : Type 1} → statement M
 compact-spec =
     tie.close
     (tie.spec returns returns-2 (λ c κs. search needs) (λ c. search needs) (λ c. search needs)
-    (λ c. omega (arith, rows-left (c .before .before .before .before .before .before .before .before .before .before .before .args .store .now) (c .before .before .checked2 .given .0 .0) (fits (c .before))))
+    (λ c. omega (arith, rows-left (c .before .before .before .before .before .before .before .before .before .before .before .before .args .store .now) (c .before .before .before .checked2 .given .0 .0) (fits (c .before .before))))
     (λ c. search needs) returns-3 treat-logged-requires (λ c. search needs) returns-4 (λ c. search needs) returns-5)

@@ -3,6 +3,7 @@ use Prim.Native.Nat.{_-_, _≤_}
 use mathlib.Core.Path.{_≡_, refl, sym, _∙_}
 use native.Mathlib.Omega.{arith}
 use lib.ListN.{length, take, drop}
+use Rattle.scheme.specs.Store.{tableC, widthOf}
 use Rattle.table.specs.Table.{rows, freeAt}
 use Rattle.compact.proofs.Places.{place-at, free-turn, free-end}
 use borrow.Author.Needs.{needs}
@@ -10,7 +11,7 @@ use Rattle.compact.proofs.free_places.Statement.{statement}
 use Rattle.compact.proofs.free_places.Tie as tie
 
 abbrev Inv-loop : tie.InvT-loop
-Inv-loop t₀ c places k j₀ t j = (j ≤ k) × (length t ≡ length t₀) × (freeAt 61 (drop j (take k places)) (rows 61 c t) ≡ freeAt 61 (take k places) (rows 61 c t₀))
+Inv-loop t₀ c places k j₀ t j = (j ≤ k) × (length t ≡ length t₀) × (freeAt (widthOf tableC) (drop j (take k places)) (rows (widthOf tableC) c t) ≡ freeAt (widthOf tableC) (take k places) (rows (widthOf tableC) c t₀))
 
 abbrev μ-loop : tie.MeasureT-loop
 μ-loop t₀ c places k j₀ t j = k - j
@@ -26,7 +27,7 @@ clear-row-requires c κs =
     let l = c .before .before .before .loop in
     let b = c .before .before .before .before .before .before in
     let a = b .args in
-    (place-at 61 (a .places .now) (a .k) (l .j) (b .pre .1 .0) (a .c) (c .before .before .loop-test .taken) (b .pre .1 .1), l .inv .1 ∙ b .pre .0)
+    (place-at (widthOf tableC) (a .places .now) (a .k) (l .j) (b .pre .1 .0) (a .c) (c .before .before .loop-test .taken) (b .pre .1 .1), l .inv .1 ∙ b .pre .0)
 
 loop-again : tie.Need-loop-again Inv-loop μ-loop
 loop-again c =
@@ -36,7 +37,7 @@ loop-again c =
     let a = b .args in (
       omega arith,
       r .clear-row .kept .0 ∙ l .inv .1,
-      free-turn 61 (a .places .now) (a .k) (l .j) (b .pre .1 .0) (rows 61 (a .c) (l .t)) _ (r .before .before .before .loop-test .taken) (r .clear-row .ensures) ∙ l .inv .2,
+      free-turn (widthOf tableC) (a .places .now) (a .k) (l .j) (b .pre .1 .0) (rows (widthOf tableC) (a .c) (l .t)) _ (r .before .before .before .loop-test .taken) (r .clear-row .ensures) ∙ l .inv .2,
     )
 
 returns : tie.Need-returns Inv-loop μ-loop
@@ -44,7 +45,7 @@ returns c =
     let l = c .before .loop in
     let b = c .before .before .before .before in
     let a = b .args in
-    sym (free-end 61 (a .places .now) (a .k) (l .j) (b .pre .1 .0) (rows 61 (a .c) (l .t)) (c .loop-test .left)) ∙ l .inv .2
+    sym (free-end (widthOf tableC) (a .places .now) (a .k) (l .j) (b .pre .1 .0) (rows (widthOf tableC) (a .c) (l .t)) (c .loop-test .left)) ∙ l .inv .2
 
 pub free-places-spec : {M : Type 1} → statement M
 free-places-spec =

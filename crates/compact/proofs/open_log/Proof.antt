@@ -11,7 +11,7 @@ use Rattle.octets.proofs.Parts.{length-back}
 use Rattle.table.specs.Table.{Table, rows, isFree, body}
 use Rattle.table.proofs.Rows.{rows-length}
 use Rattle.table.proofs.Walk.{rows-back, row-length}
-use Rattle.scheme.specs.Store.{clIn}
+use Rattle.scheme.specs.Store.{tableS, widthOf, clIn}
 use Rattle.suite.specs.Program.{program}
 use Rattle.compact.specs.Log.{openRow}
 use Rattle.compact.proofs.Logs.{Zipping, zipping-none, zipping-set, zipping-keep, zipping-all}
@@ -20,7 +20,7 @@ use Rattle.compact.proofs.open_log.Statement.{statement}
 use Rattle.compact.proofs.open_log.Tie as tie
 
 abbrev Inv-loop : tie.InvT-loop
-Inv-loop t s ks log₀ i₀ log i = (i ≤ s) × (length log ≡ length log₀) × Zipping (openRow ks) (rows 32 s log₀) (rows 45 s t) i (rows 32 s log)
+Inv-loop t s ks log₀ i₀ log i = (i ≤ s) × (length log ≡ length log₀) × Zipping (openRow ks) (rows 32 s log₀) (rows (widthOf tableS) s t) i (rows 32 s log)
 
 abbrev μ-loop : tie.MeasureT-loop
 μ-loop t s ks log₀ i₀ log i = s - i
@@ -35,11 +35,11 @@ loop-again c =
     let a = b .args in
     let h = c .before .before .loop-test .taken in
     let xs = rows 32 (a .s) (a .log .now) in
-    let t : Table = rows 45 (a .s) (a .t .now) in
+    let t : Table = rows (widthOf tableS) (a .s) (a .t .now) in
     let r = getD t (l .i) [] in
     let old : List ℕ = getD xs (l .i) [] in
     let inL : l .i < length xs = rw (rows-length 32 (a .s) (a .log .now)) h in
-    let inT : l .i < length t = rw (rows-length 45 (a .s) (a .t .now)) h in
+    let inT : l .i < length t = rw (rows-length (widthOf tableS) (a .s) (a .t .now)) h in
     ⊎-elim (λ w.
     let ys : List ℕ = w .2 .last .1 .1 .1 .1 .0 in
     let e = w .2 .ensures in
@@ -61,7 +61,7 @@ returns : tie.Need-returns Inv-loop μ-loop
 returns c =
     let l = c .before .loop in
     let a = c .before .before .before .before .before .args in
-    zipping-all (openRow (a .ks .now)) (rows 32 (a .s) (a .log .now)) (rows 45 (a .s) (a .t .now)) (l .i) (rows 32 (a .s) (l .log)) (l .inv .2)
+    zipping-all (openRow (a .ks .now)) (rows 32 (a .s) (a .log .now)) (rows (widthOf tableS) (a .s) (a .t .now)) (l .i) (rows 32 (a .s) (l .log)) (l .inv .2)
     (rw (rows-length 32 (a .s) (a .log .now)) (c .loop-test .left))
 
 pub open-log-spec : {M : Type 1} → statement M

@@ -3,6 +3,7 @@ use Prim.Native.Nat.{ℕ, zero, suc, _<_}
 use mathlib.Core.Path.{_≡_, refl, sym, ap, _∙_}
 use native.Mathlib.Omega.{arith}
 use lib.ListN.{length}
+use Rattle.scheme.specs.Store.{tableC, widthOf}
 use Rattle.table.specs.Table.{rows}
 use Rattle.scheme.specs.Reading.{reading}
 use Rattle.scheme.specs.Reading.Reading.{counter}
@@ -28,7 +29,7 @@ positive (suc k) h = omega arith
 read : (c : tie.After-known-told) →
     let a = c .before .before .before .before .before .before .before .before .before .before .before .before .args in
     let z : Counter = c .before .z .given .0 .0 in
-    reading program (a .c) (a .cl .now) (rows 61 (a .c) (a .t .now)) ≡ counter (z .b .0) (z .start .0) (z .k) (z .count)
+    reading program (a .c) (a .cl .now) (rows (widthOf tableC) (a .c) (a .t .now)) ≡ counter (z .b .0) (z .start .0) (z .k) (z .count)
 read c = sym (c .before .before .before .before .before .read-by .ensures .0) ∙ ap readingOf (c .before .z .given .1)
 
 returns-2 : tie.Need-returns-2
@@ -44,7 +45,7 @@ anchor-requires c κs =
     let r = k .before .before .before .before .before in
     let s = r .before .before .before .before .before .before .before in
     let a = s .args in
-    let t = rows 61 (a .c) (a .t .now) in
+    let t = rows (widthOf tableC) (a .c) (a .t .now) in
     let bound = reading-bounds (a .c) (a .cl .now) t (z .b .0) (z .start .0) (z .k) (z .count) (sym (read k)) .counters in
     let long : length (r .read-by .last .1 .1 .1 .1 .0) ≡ length (a .places .now) = r .read-by .kept .1 .1 .1 .1 .0 in (
       (s .pre .0 .0, s .pre .1 .0),

@@ -12,36 +12,56 @@ use Rattle.table.proofs.Rows.{rows-length}
 use Rattle.scheme.specs.Store.{cut}
 use Rattle.scheme.specs.Compaction.{compactedStore}
 use Rattle.compact.specs.Log.{opened}
-use Rattle.store.proofs.Laws.{FitLength, fit-length}
-use Rattle.compact.proofs.Running.{Running, log-is, log-opened, running-start, running-is-used, running-is-free, running-nonce, running-bounds, running-to, running-free, running-few, running-stop, running-on, running-end}
+use Rattle.store.proofs.Laws.{tableS, Fits, fit-range, fits, InRange}
+use Rattle.store.specs.Check.{spanIn, sizesIn}
+use Rattle.compact.proofs.Turns.{Inside}
+use Rattle.compact.proofs.Running.{Running, running-in, running-stands, log-is, log-opened, running-start, running-is-used, running-is-free, running-nonce, running-bounds, running-to, running-free, running-few, running-stop, running-on, running-end}
 use borrow.Author.Needs.{needs}
 use Rattle.compact.proofs.treat_all.Statement.{statement}
 use Rattle.compact.proofs.treat_all.Tie as tie
 
 abbrev Inv-loop : tie.InvT-loop
-Inv-loop store₀ z nonces token log s b e t₀ i₀ store t i = (i ≤ s) × (length store ≡ length store₀) × Running store₀ nonces token z (rows 32 (z .s) log) store t i
+Inv-loop store₀ z nonces token log b e n t₀ i₀ store t i = (i ≤ n) × (length store ≡ length store₀) × Running store₀ nonces token z (rows 32 (z .s .rows) log) store t i
 
 abbrev μ-loop : tie.MeasureT-loop
-μ-loop store₀ z nonces token log s b e t₀ i₀ store t i = s - i
+μ-loop store₀ z nonces token log b e n t₀ i₀ store t i = n - i
 
--- the range of the sizes, and the length
-sized : (s : tie.Start Inv-loop μ-loop) → FitLength (s .args .store .now) (s .args .z)
-sized s = fit-length (s .args .store .now) (s .args .z) (s .pre .0 .0)
+-- the range of the sizes, and the part that holds table S
+range : (s : tie.Start Inv-loop μ-loop) → InRange (sizesIn (s .args .z))
+range s = fit-range (s .args .store .now) (s .args .z) (s .pre .0 .0)
+
+part-S : (s : tie.Start Inv-loop μ-loop) → Fits (s .args .store .now) (s .args .z) tableS
+part-S s = fits (s .args .store .now) (s .args .z) (s .pre .0 .0) tableS
 
 abbrev start : tie.At-loop Inv-loop μ-loop → tie.Start Inv-loop μ-loop
-start l = l .before .before .before .before .before .before .before .before .before .before .before .before .before
+start l = l .before .before .before .before .before .before .before .before .before .before .before .before
+
+-- the part that holds table S, in the bytes as they are
+part-now : (h : tie.At-loop Inv-loop μ-loop) → Inside (spanIn (start h .args .z)) (h .loop .store) tableS
+part-now h =
+    let l = h .loop in
+    let a = start h .args in
+    running-in (a .store .now) (a .nonces .now) (a .token .now) (a .z) _ (l .store) (l .t) (l .i) (l .inv .2)
+
+open-log-requires : tie.Need-open-log-requires Inv-loop μ-loop
+open-log-requires c κs =
+    let s = c .before .before .before .before .before .before .before .before in
+    (part-S s .long, s .pre .1)
+
+is-used-requires : tie.Need-is-used-requires Inv-loop μ-loop
+is-used-requires c κs = (c .before .before .loop-test .taken, part-now (c .before .before .before) .long)
 
 loop-holds : tie.Need-loop-holds Inv-loop μ-loop
 loop-holds c =
     let o = c .before .before in
-    let s = o .before .before .before .before .before .before .before .before .before .before in
+    let s = o .before .before .before .before .before .before .before .before .before in
     let a = s .args in
-    let old = rows 32 (a .z .s) (a .log .now) in
-    let new = rows 32 (a .z .s) (o .open-log .last .1 .1 .1 .0) in (
+    let old = rows 32 (a .z .s .rows) (a .log .now) in
+    let new = rows 32 (a .z .s .rows) (o .open-log .last .1 .1 .1 .0) in (
       omega arith,
       refl,
       running-start (a .store .now) (a .nonces .now) (a .token .now) (a .z) new (s .pre .0 .0)
-          (log-opened (a .store .now) (a .token .now) (a .z) (s .pre .0 .0) old new (o .open-log .ensures) (rows-length 32 (a .z .s) (a .log .now))),
+          (log-opened (a .store .now) (a .token .now) (a .z) (s .pre .0 .0) old new (o .open-log .ensures) (rows-length 32 (a .z .s .rows) (a .log .now))),
     )
 
 -- a used row, for which a nonce is left
@@ -66,19 +86,20 @@ nonce c =
 -- the log is table S decrypted
 logged : (h : tie.At-loop Inv-loop μ-loop) →
     let a = start h .args in
-    rows 32 (a .z .s) (h .before .before .before .open-log .last .1 .1 .1 .0) ≡ opened (a .token .now) (cut (a .store .now) .tS) (rows 32 (a .z .s) (a .log .now))
+    rows 32 (a .z .s .rows) (h .before .before .before .open-log .last .1 .1 .1 .0) ≡ opened (a .token .now) (cut (a .store .now) .table tableS) (rows 32 (a .z .s .rows) (a .log .now))
 logged h =
     let g = start h in
     let a = g .args in
-    log-is (a .store .now) (a .token .now) (a .z) (g .pre .0 .0) (rows 32 (a .z .s) (a .log .now)) _ (h .before .before .before .open-log .ensures)
+    log-is (a .store .now) (a .token .now) (a .z) (g .pre .0 .0) (rows 32 (a .z .s .rows) (a .log .now)) _ (h .before .before .before .open-log .ensures)
 
 step-requires : tie.Need-step-requires Inv-loop μ-loop
 step-requires c κs =
     let n = c .before .before .before in
     let h = n .before .before .before .before .before in
     let g = start h in
-    let z = sized g in (
-      (h .loop .inv .1 ∙ z .whole, z .range .c-most),
+    let l = h .loop in
+    let a = g .args in (
+      (running-stands (a .store .now) (a .nonces .now) (a .token .now) (a .z) _ (l .store) (l .t) (l .i) (l .inv .2), range g .c-most),
       (
         n .before .before .before .before .loop-test .taken,
         (
@@ -108,7 +129,7 @@ added-requires c κs =
     let l = h .loop in
     let g = start h in
     let a = g .args in
-    let z = sized g .range in
+    let z = range g in
     let k = running-bounds (a .store .now) (a .nonces .now) (a .token .now) (a .z) _ (l .store) (l .t) (l .i) (l .inv .2) (g .pre .0 .0) (z .s-most) in
     let few = running-few (a .store .now) (a .nonces .now) (a .token .now) (a .z) _ (l .store) (l .t) (l .i) (l .inv .2) (p .step .result) (p .step .last .0) (n .before .before .before .before .loop-test .taken) (taken n)
     (p .step .ensures (compactedStore (a .store .now) (l .inv .2 .tC) (l .inv .2 .tS)) (l .inv .2 .laid)) in
@@ -121,7 +142,7 @@ loop-again c =
     let l = h .loop in
     let g = start h in
     let a = g .args in
-    let z = sized g .range in
+    let z = range g in
     let in-loop = u .before .before .before .loop-test .taken in
     ⊎-elim (λ w.
     let used = taken (record { before = u; if1 = w .0 }) in
@@ -150,14 +171,10 @@ returns-2 c =
 pub treat-all-spec : {M : Type 1} → statement M
 treat-all-spec =
     tie.close
-    (tie.spec Inv-loop μ-loop (λ c. omega (arith, sized (c .before .before .before .before .before)))
-    (λ c. omega (arith, sized (c .before .before .before .before .before)))
-    (λ c. omega (arith, sized (c .before .before .before .before .before .before)))
-    (λ c. omega (arith, sized (c .before .before .before .before .before .before)))
-    (λ c. omega (arith, sized (c .before .before .before .before .before .before)))
-    (λ c. omega (arith, sized (c .before .before .before .before .before .before))) (λ c. search needs) (λ c. search needs)
-    (λ c. omega (arith, sized (c .before .before .before .before .before .before .before))) (λ c κs. search needs) loop-holds (λ c. search needs)
-    (λ c. search needs) (λ c. omega (arith, sized (start (c .before .before)), c .before .before .loop .inv .1)) (λ c κs. search needs)
+    (tie.spec Inv-loop μ-loop (λ c. omega (arith, part-S (c .before .before .before .before .before)))
+    (λ c. omega (arith, part-S (c .before .before .before .before .before .before)))
+    (λ c. omega (arith, part-S (c .before .before .before .before .before .before))) open-log-requires loop-holds (λ c. omega (arith, part-now (c .before)))
+    (λ c. omega (arith, part-now (c .before .before))) (λ c. omega (arith, part-now (c .before .before))) is-used-requires
     (λ c. omega (arith, nonce c, start (c .before .before .before .before .before) .good))
     (λ c. omega (arith, nonce c, start (c .before .before .before .before .before) .good)) (λ c. search needs) (λ c. search needs)
     (λ c. omega (arith, nonce (c .before .before))) step-requires (λ c κs. search needs)
