@@ -60,7 +60,7 @@ pub fn ids(found: &[u8], n: u64)
 
 // How full a store is.
 pub fn shape(x: Shape)
-    requires { ⌜ (x .m ≤ 4096) × ((x .c ≤ 4096) × (x .s ≤ 4096)) ⌝ }
+    requires { ⌜ ((x .m .rows ≤ 4096) × (x .v .rows ≤ 4096)) × ((x .c .rows ≤ 4096) × (x .s .rows ≤ 4096)) ⌝ }
     ensures { λ r. ⌜ r ≡ tt ⌝ }
 {
     let mut text = [0u8; 1024];

@@ -24,6 +24,6 @@ sharesLine p = ascii "a store for shares 0 to " ++ counted p (ascii "\n")
 unfoldable pub shapeLines : Shape → List ℕ
 shapeLines x =
     sharesLine (x .p)
-    ++ (tableLine (ascii "entries  (M)") (x .m) (x .free .m)
-    ++ (tableLine (ascii "reverse  (V)") (x .m) (x .free .v)
-    ++ (tableLine (ascii "counters (C)") (x .c) (x .free .c) ++ tableLine (ascii "log      (S)") (x .s) (x .free .s))))
+    ++ (tableLine (ascii "entries  (M)") (x .m .rows) (x .m .free)
+    ++ (tableLine (ascii "reverse  (V)") (x .v .rows) (x .v .free)
+    ++ (tableLine (ascii "counters (C)") (x .c .rows) (x .c .free) ++ tableLine (ascii "log      (S)") (x .s .rows) (x .s .free))))

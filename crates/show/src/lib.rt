@@ -43,14 +43,13 @@ fn put_shares(to: &mut [u8], p: u64) -> usize
 
 // What `show` prints of a store.
 pub fn shape(x: Shape, to: &mut [u8]) -> usize
-    requires { ⌜ ((x .m ≤ 4096) × ((x .c ≤ 4096) × (x .s ≤ 4096))) × (1024 ≤ length (now to)) ⌝ }
+    requires { ⌜ (((x .m .rows ≤ 4096) × (x .v .rows ≤ 4096)) × ((x .c .rows ≤ 4096) × (x .s .rows ≤ 4096))) × (1024 ≤ length (now to)) ⌝ }
     ensures { λ r. ⌜ take r (now (to .exit)) ≡ shapeLines x ⌝ }
     ensures { λ r. ⌜ Counts r (now (to .exit)) ⌝ }
 {
-    let free = x.free;
     let m = put_shares(to, x.p);
-    let v = put_table(to, m, b"entries  (M)", x.m, free.m);
-    let c = put_table(to, v, b"reverse  (V)", x.m, free.v);
-    let s = put_table(to, c, b"counters (C)", x.c, free.c);
-    put_table(to, s, b"log      (S)", x.s, free.s)
+    let v = put_table(to, m, b"entries  (M)", x.m.rows, x.m.free);
+    let c = put_table(to, v, b"reverse  (V)", x.v.rows, x.v.free);
+    let s = put_table(to, c, b"counters (C)", x.c.rows, x.c.free);
+    put_table(to, s, b"log      (S)", x.s.rows, x.s.free)
 }

@@ -1,6 +1,6 @@
 -- Each arm knows what the checks gave, the sizes' range among it.
 use mathlib.Core.Path.{sym, _∙_}
-use Rattle.store.proofs.Laws.{fit-length}
+use Rattle.store.proofs.Laws.{tableM, tableV, tableC, tableS, fits}
 use Rattle.mazhkuri.proofs.Dispatch.{shown-refused, shown-fit}
 use borrow.Author.Needs.{needs}
 use Rattle.mazhkuri.proofs.show_loaded.Statement.{statement}
@@ -8,8 +8,8 @@ use Rattle.mazhkuri.proofs.show_loaded.Tie as tie
 
 shape-requires : tie.Need-shape-requires
 shape-requires c κs =
-    let range = fit-length _ _ (sym (c .before .before .before .sizes .ensures) ∙ c .before .x .given .1) .range in
-    (range .m-most, (range .c-most, range .s-most))
+    let in-part = fits _ _ (sym (c .before .before .before .sizes .ensures) ∙ c .before .x .given .1) in
+    ((in-part tableM .most, in-part tableV .most), (in-part tableC .most, in-part tableS .most))
 
 returns : tie.Need-returns
 returns c = shown-refused _ _ _ (sym (c .before .before .before .before .sizes .ensures) ∙ c .before .before .r .given .1) (c .room-in .ensures)
