@@ -1,8 +1,8 @@
+-- The check tells the sizes.
 use Prim.Native.Nat.{ℕ, min}
 use mathlib.Core.Path.{sym, ap, _∙_}
 use Rattle.advice.specs.Advise.{roomOf}
 use Rattle.advice.specs.declared.Room.{Room}
--- The check tells the sizes.
 use borrow.Author.Needs.{needs}
 use Rattle.advice.proofs.room_in.Statement.{statement}
 use Rattle.advice.proofs.room_in.Tie as tie

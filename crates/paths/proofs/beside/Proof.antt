@@ -1,7 +1,7 @@
+-- Two copies, one after the other.
 use Prim.Native.Nat.{ℕ, _+_, _≤_}
 use lib.Seq.{length-take-le}
 use native.Mathlib.Omega.{arith}
--- Two copies, one after the other.
 use mathlib.Core.List.{List}
 use mathlib.Core.Path.{refl, sym, ap, _∙_}
 use lib.ListN.{length, take}

@@ -1,5 +1,5 @@
-use mathlib.Core.Path.{ap, _∙_}
 -- The places written so far are right.
+use mathlib.Core.Path.{ap, _∙_}
 use Prim.Native.Nat.{ℕ, _≤_, _-_}
 use mathlib.Core.Path.{_≡_, refl}
 use lib.ListN.{length, take, drop, length-set}

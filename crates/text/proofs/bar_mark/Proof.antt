@@ -1,6 +1,6 @@
+-- The test decides which mark.
 use native.Mathlib.Nat.{mul-le-mul}
 use native.Mathlib.Omega.{arith}
--- The test decides which mark.
 use borrow.Author.Tests.{lt-ltb, le-ltb, eq-eqb, ne-eqb, le-leb, lt-leb}
 use borrow.Author.Needs.{needs}
 use Rattle.text.proofs.bar_mark.Statement.{statement}

@@ -1,6 +1,6 @@
+-- What is left of the word decides.
 use mathlib.Core.Path.{sym, ap, _∙_}
 use lib.Dec.{ltb}
--- What is left of the word decides.
 use Prim.Native.Nat.{_≤_, _-_}
 use mathlib.Core.Path.{_≡_, refl}
 use lib.ListN.{length, take, drop, length-set}

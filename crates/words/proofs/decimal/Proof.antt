@@ -1,5 +1,5 @@
-use mathlib.Core.Path.{sym, _∙_}
 -- What is left of the word decides.
+use mathlib.Core.Path.{sym, _∙_}
 use Prim.Native.Nat.{_≤_, _-_}
 use mathlib.Core.Path.{_≡_, refl}
 use lib.ListN.{length, take, drop, length-set}
