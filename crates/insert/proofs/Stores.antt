@@ -3,7 +3,6 @@ use Prim.Native.Nat.{ℕ, _-_, _*_, _≤_}
 use mathlib.Core.Path.{_≡_, sym, subst, _∙_}
 use mathlib.Core.List.{List, [], _∷_}
 use native.Mathlib.Omega.{arith}
-use lib.Dec.{lit≤}
 use lib.ListN.{length, take, drop}
 use lib.Seq.{take-all}
 use Rattle.octets.specs.Part.{back}
@@ -16,12 +15,6 @@ use Rattle.store.specs.declared.Shape.{Shape}
 use Rattle.store.specs.Check.{partIn, spanIn}
 use Rattle.scheme.proofs.Plan.{laid-inside, laid-long, laid-rows, laid-back, laid-placed, laid-length}
 use Rattle.insert.specs.Writing.{Written}
-
-some-width : (k : Which) → 1 ≤ widthOf k
-some-width tableM = lit≤ tt
-some-width tableV = lit≤ tt
-some-width tableC = lit≤ tt
-some-width tableS = lit≤ tt
 
 -- the bytes of a store with these tables
 pub record LaidStore (z : Shape) : Type 0 where
@@ -46,10 +39,10 @@ module _ (z : Shape) (g : LaidStore z) (k : Which) where
   put-end = laid-inside (spanIn z) (g .bytes) (g .store) (g .laid) k
 
   -- there is room in it
-  pub may-put : (new : List ℕ) (n : ℕ) → length new ≡ widthOf k * n → n ≤ freeRows (g .store .table k)
+  pub may-put : (new : List ℕ) (n : ℕ) → 1 ≤ widthOf k → length new ≡ widthOf k * n → n ≤ freeRows (g .store .table k)
       → (1 ≤ widthOf k) × ((length part ≡ widthOf k * partIn z k .rows) × ((length new ≡ widthOf k * n) × (n ≤ freeRows (rows (widthOf k) (partIn z k .rows) part))))
-  may-put new n e h =
-      (some-width k, (laid-long (spanIn z) (g .bytes) (g .store) (g .laid) k, (e, rw (laid-rows (spanIn z) (g .bytes) (g .store) (g .laid) k) h)))
+  may-put new n w e h =
+      (w, (laid-long (spanIn z) (g .bytes) (g .store) (g .laid) k, (e, rw (laid-rows (spanIn z) (g .bytes) (g .store) (g .laid) k) h)))
 
   pub put-placed : (new : List Row) (ys : List ℕ) → PlacedAll (rows (widthOf k) (partIn z k .rows) part) new (rows (widthOf k) (partIn z k .rows) ys) → PlacedAll (g .store .table k) new (rows (widthOf k) (partIn z k .rows) ys)
   put-placed = laid-placed (spanIn z) (g .bytes) (g .store) (g .laid) k

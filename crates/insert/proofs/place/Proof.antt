@@ -2,6 +2,7 @@
 use Prim.Native.Nat.{_≤_}
 use mathlib.Core.Path.{_≡_, sym, _∙_}
 use native.Mathlib.Omega.{arith}
+use lib.Dec.{lit≤}
 use Rattle.table.specs.Table.{rows, freeRows}
 use Rattle.scheme.specs.Store.{Which, widthOf, cut}
 use Rattle.store.specs.Check.{partIn}
@@ -42,7 +43,7 @@ free s k = free-rows (s .args .store .now) (s .args .z) (s .pre .0 .0) k
 put-rows-requires : tie.Need-put-rows-requires
 put-rows-requires c κs =
     let s = c .before .before .before .before .before .before .before .before .before .before in
-    may-put (s .args .z) (store₀ s) tableM (s .args .entries .now) (s .args .n) (s .pre .1 .0 .0) (omega (arith, free s tableM, s .pre .0 .1 .entries))
+    may-put (s .args .z) (store₀ s) tableM (s .args .entries .now) (s .args .n) (lit≤ tt) (s .pre .1 .0 .0) (omega (arith, free s tableM, s .pre .0 .1 .entries))
 
 part-put-rows-end-2 : tie.Need-part-put-rows-end-2
 part-put-rows-end-2 c = omega (arith, put-end _ (store₁ (c .before .before)) tableV)
@@ -50,7 +51,7 @@ part-put-rows-end-2 c = omega (arith, put-end _ (store₁ (c .before .before)) t
 put-rows-requires-2 : tie.Need-put-rows-requires-2
 put-rows-requires-2 c κs =
     let s = c .before .before .before .before .before .before .before .before .before .before .before .before .before .before in
-    may-put (s .args .z) (store₁ (c .before .before .before)) tableV (s .args .reverses .now) (s .args .n) (s .pre .1 .0 .1) (omega (arith, free s tableV, s .pre .0 .1 .reverses))
+    may-put (s .args .z) (store₁ (c .before .before .before)) tableV (s .args .reverses .now) (s .args .n) (lit≤ tt) (s .pre .1 .0 .1) (omega (arith, free s tableV, s .pre .0 .1 .reverses))
 
 part-put-rows-end-3 : tie.Need-part-put-rows-end-3
 part-put-rows-end-3 c = omega (arith, put-end _ (store₂ (c .before .before)) tableC)
@@ -58,7 +59,7 @@ part-put-rows-end-3 c = omega (arith, put-end _ (store₂ (c .before .before)) t
 put-rows-requires-3 : tie.Need-put-rows-requires-3
 put-rows-requires-3 c κs =
     let s = c .before .before .before .before .before .before .before .before .before .before .before .before .before .before .before .before .before .before in
-    may-put (s .args .z) (store₂ (c .before .before .before)) tableC (s .args .counter .now) 1 (s .pre .1 .1 .0 ∙ omega arith) (omega (arith, free s tableC, s .pre .0 .1 .counter))
+    may-put (s .args .z) (store₂ (c .before .before .before)) tableC (s .args .counter .now) 1 (lit≤ tt) (s .pre .1 .1 .0 ∙ omega arith) (omega (arith, free s tableC, s .pre .0 .1 .counter))
 
 part-put-rows-end-4 : tie.Need-part-put-rows-end-4
 part-put-rows-end-4 c = omega (arith, put-end _ (store₃ (c .before .before)) tableS)
@@ -66,7 +67,7 @@ part-put-rows-end-4 c = omega (arith, put-end _ (store₃ (c .before .before)) t
 put-rows-requires-4 : tie.Need-put-rows-requires-4
 put-rows-requires-4 c κs =
     let s = c .before .before .before .before .before .before .before .before .before .before .before .before .before .before .before .before .before .before .before .before .before .before in
-    may-put (s .args .z) (store₃ (c .before .before .before)) tableS (s .args .log .now) 1 (s .pre .1 .1 .1 ∙ omega arith) (omega (arith, free s tableS, s .pre .0 .1 .log))
+    may-put (s .args .z) (store₃ (c .before .before .before)) tableS (s .args .log .now) 1 (lit≤ tt) (s .pre .1 .1 .1 ∙ omega arith) (omega (arith, free s tableS, s .pre .0 .1 .log))
 
 same-length : tie.Need-same-length
 same-length c = same-long _ (store₄ (c .before .before)) (store₀ (c .before .before .before .before .before .before .before .before .before .before .before .before .before .before .before .before .before .before .before .before .before .before .before .before .before))
