@@ -293,7 +293,7 @@ pub fn apply_checked(key: &[u8], nonce: &[u8], text: &mut [u8])
     }
 }
 
-// E: refused by 1, 4 and 9, and the text is then as it was lent. [01:KF3 KF7 RI2 RI5 RI10]
+// E: refused by 1, 4 and 9, and the text is then as it was lent. [01:KF3 KF7]
 pub fn apply(key: &[u8], nonce: &[u8], text: &mut [u8]) -> Completion
     ensures { λ r. ⌜ completion r ≡ cipherAnswer (now (key .entry)) (now (nonce .entry)) (now (text .entry)) ⌝ }
     ensures { λ r. ⌜ now (text .exit) ≡ cipherText (now (key .entry)) (now (nonce .entry)) (now (text .entry)) ⌝ }

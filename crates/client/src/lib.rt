@@ -162,7 +162,7 @@ fn shares_outside(p: u64, u: u64) -> bool
     p < u
 }
 
-// The insert token: refused by 1, 2, 3 and 4. [01:KT7 RI2 RI3 RI4 RI5]
+// The insert token: refused by 1, 2, 3 and 4. [01:KT7]
 pub fn insert_token(
     key: &[u8],
     name: &[u8],

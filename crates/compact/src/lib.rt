@@ -273,7 +273,7 @@ fn treat_logged(store: &mut [u8], z: Shape, nonces: &[u8], token: &[u8]) -> Comp
 }
 
 // Compaction, refused by 4, 6, 10, 11 and 19, which leave the store as it was; or stopped by 13, with
-// the CL before it treated. [01:OP10 OP11 OP12 OP13 RI5 RI7 RS2 RS3 RS5 RS13]
+// the CL before it treated. [01:OP10 OP13 RS13]
 pub fn compact(store: &mut [u8], nonces: &[u8], token: &[u8]) -> Compaction
     ensures { λ r. ⌜ Compact program (now (store .entry)) (now (nonces .entry)) (now (token .entry)) (compactionAnswer r) (now (store .exit)) ⌝ }
 {

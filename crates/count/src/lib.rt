@@ -35,7 +35,7 @@ fn sum_of_counts(t: &[u8], c: usize, clx: Keyed, p: u64) -> Counted
     Counted::Number(sum)
 }
 
-// The sum over the shares, erased entries included: refused by 6, 10, 11 and 13. [01:OP9 RI7 RS2 RS3 RS6]
+// The sum over the shares, erased entries included: refused by 6, 10, 11 and 13. [01:OP9]
 pub fn count(store: &[u8], token: &[u8]) -> Counted
     ensures { λ r. ⌜ counted r ≡ countOf program (now (store .entry)) (now (token .entry)) .answer ⌝ }
 {

@@ -257,7 +257,7 @@ fn find_in(store: &[u8], z: Shape, token: &[u8], output: &mut [u8]) -> Counted
 }
 
 // The ids of all shares at the start of the output, and how many: refused by 6, 10, 11, 13 and 18, with
-// the output as lent. [01:OP6 OP7 OP8 RI7 RS2 RS3 RS6 RS11]
+// the output as lent. [01:OP6 OP7 OP8]
 pub fn find(store: &[u8], token: &[u8], output: &mut [u8]) -> Counted
     ensures { λ r. ⌜ counted r ≡ findOf program (now (store .entry)) (now (token .entry)) (now (output .entry)) .answer ⌝ }
     ensures { λ _. ⌜ now (output .exit) ≡ findOf program (now (store .entry)) (now (token .entry)) (now (output .entry)) .output ⌝ }
