@@ -118,7 +118,7 @@ erase-rows-spec =
     (λ c. omega (arith, inV (start (c .before .before .before .before)), c .before .before .before .before .before .loop .inv .0))
     (λ c. omega (arith, inV (start (c .before .before .before .before .before)), c .before .before .before .before .before .before .loop .inv .0))
     (λ c. omega (arith, inV (start (c .before .before .before .before .before)), c .before .before .before .before .before .before .loop .inv .0))
-    (λ c κs. (c .before .before .before .before .before .before .loop-test .taken, long (c .before .before .before .before .before .before) tableV))
+    (λ c κs. (omega (arith, c .before .before .before .before .before .before .loop-test .taken), long (c .before .before .before .before .before .before) tableV))
     (λ c. omega (arith, inM (start (c .before .before .before .before .before .before .before)), c .before .before .before .before .before .before .before .before .loop .inv .0))
     (λ c. omega (arith, inM (start (c .before .before .before .before .before .before .before)), c .before .before .before .before .before .before .before .before .loop .inv .0))
     (λ c. omega (arith, inM (start (c .before .before .before .before .before .before .before)), c .before .before .before .before .before .before .before .before .loop .inv .0))
