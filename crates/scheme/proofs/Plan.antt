@@ -1,12 +1,12 @@
 -- Laws of the plan of tables, by going through it: what stands before and after a table, cutting, joining, and a table that came back.
-use Prim.Native.Nat.{ℕ, zero, suc, _+_, _*_, _-_, _≤_, _<_}
+use Prim.Native.Nat.{ℕ, zero, suc, _+_, _*_, _-_, _≤_}
 use mathlib.Core.Path.{_≡_, refl, sym, ap, ap₂, subst, _∙_, fun-ext}
 use mathlib.Core.Bool.{Bool, true, false, cond, true≢false}
 use mathlib.Core.List.{List, [], _∷_, _++_, append-assoc, append-nil}
 use native.Mathlib.Omega.{arith}
-use native.Mathlib.Nat.{add-zero, add-sub-cancel-left}
+use native.Mathlib.Nat.{add-zero}
 use lib.Dec.{eqb}
-use lib.ListN.{length, getD, take, drop, length-append, length-drop, take-append-drop, drop-of-length-le}
+use lib.ListN.{length, take, drop, length-append, length-drop, take-append-drop, drop-of-length-le}
 use lib.Seq.{take-at, drop-at, drop-drop, length-take-le}
 use borrow.Author.Tests.{eqb-true, eq-eqb}
 use Rattle.octets.specs.Part.{back}
@@ -14,7 +14,7 @@ use Rattle.octets.proofs.Parts.{back-next}
 use Rattle.table.specs.Lists.{flat}
 use Rattle.table.specs.Table.{Row, Table, rows, PlacedAll}
 use Rattle.table.proofs.Rows.{flat-length, rows-flat, rows-length, rows-wide}
-use Rattle.table.proofs.Walk.{flat-rows, rows-take, row-at}
+use Rattle.table.proofs.Walk.{flat-rows, rows-take}
 use Rattle.scheme.specs.Store.{Sizes, Which, plan, widthOf, rowsOf, rankOf, sameTable, headerLength, startFrom, endFrom, startOf, lengthFor, sizesOf, Store, cut, joinedFrom, joined, instead, putIn}
 use Rattle.scheme.specs.Layout.{Span, spanOf, Wide, Laid}
 pub use Rattle.scheme.specs.Store.{tableM, tableV, tableC, tableS}
@@ -227,15 +227,6 @@ module _ (at : Which → Span) (b : List ℕ) (st : Store) (l : Laid at b st) wh
       → PlacedAll (st .table k) new (rows (widthOf k) (n k) ys)
   laid-placed k new ys p = subst (λ (t : Table). PlacedAll t new (rows (widthOf k) (n k) ys)) (laid-rows k) p
 
-  -- a row of a table stands so many bytes behind the table's start
-  pub laid-row : (k : Which) (i : ℕ) → i < n k
-      → take (s k + widthOf k * i + widthOf k - (s k + widthOf k * i)) (drop (s k + widthOf k * i) b) ≡ getD (st .table k) i []
-  laid-row k i h =
-      ap (λ (x : ℕ). take x (drop (s k + widthOf k * i) b)) (add-sub-cancel-left (s k + widthOf k * i) (widthOf k))
-      ∙ ap (take (widthOf k)) (sym (drop-drop (widthOf k * i) (s k) b))
-      ∙ sym (row-at (widthOf k) (n k) i (drop (s k) b) h)
-      ∙ ap (λ (t : Table). getD t i []) (laid-from k)
-
   -- the part came back as ys
   back-bytes : (k : Which) (ys : List ℕ) → length ys ≡ widthOf k * n k → back b (s k) (e k) ys ≡ joined (putIn k (rows (widthOf k) (n k) ys) st)
   back-bytes k ys h =
@@ -253,9 +244,6 @@ module _ (at : Which → Span) (b : List ℕ) (st : Store) (l : Laid at b st) wh
   put-wide k t a =
       by-table k (λ j. Wide (widthOf j) (n j) (instead k t (st .table) j)) (subst (Wide (widthOf k) (n k)) (sym (put-own k t (st .table))) a)
       (λ j e. subst (Wide (widthOf j) (n j)) (sym (put-other k j t (st .table) e)) (l .wide j))
-
-  pub laid-put : (k : Which) (t : Table) → Wide (widthOf k) (n k) t → Laid at (joined (putIn k t st)) (putIn k t st)
-  laid-put k t a = record { bytes = refl; head = l .head; wide = put-wide k t a; start = l .start; end = l .end }
 
   pub laid-back : (k : Which) (ys : List ℕ) → length ys ≡ length (take (e k - s k) (drop (s k) b))
       → Laid at (back b (s k) (e k) ys) (putIn k (rows (widthOf k) (n k) ys) st)
