@@ -1,7 +1,7 @@
 // What the command-line tool tells of a store and of a refusal: how much room is left, what to do, and
 // whether a compaction was made with another key than the store's.
 ghost use mathlib.Core.Path.{_≡_};
-ghost use Prim.Native.Nat.{_-_, _≤_, min};
+ghost use Prim.Native.Nat.{_≤_};
 ghost use Rattle.store.specs.Check.{checkedOf};
 ghost use Rattle.advice.specs.Advise.{roomOf, adviceOf, isWrongKey, lengthOf};
 use answer::Refusal;
@@ -34,16 +34,9 @@ pub enum Advice {
     Fault,
 }
 
-// The difference, or 0.
-pub fn above(a: usize, b: usize) -> usize
-    ensures { λ r. ⌜ r ≡ a - b ⌝ }
-{
-    if b < a { a - b } else { 0 }
-}
-
 // The room of a store; of what is no store, none.
 pub fn room_in(store: &[u8]) -> Room
-    ensures { λ r. ⌜ r ≡ roomOf (checkedOf (now (store .entry))) ⌝ }
+    ensures { λ r. ⌜ (r ≡ roomOf (checkedOf (now (store .entry)))) × (r .logged ≤ 4096) ⌝ }
 {
     match store::sizes(store) {
         Checked::Refused(_) => Room {
@@ -56,7 +49,7 @@ pub fn room_in(store: &[u8]) -> Room
             Room {
                 p: shape.p,
                 entries: octets::least(shape.m.free, shape.v.free),
-                logged: above(s.rows, s.free),
+                logged: octets::above(s.rows, s.free),
             }
         }
     }

@@ -1,11 +1,12 @@
--- A line is put together piece by piece: each text goes after what stands at the start of the slice.
+-- A line is put together piece by piece: each text goes over what stands in the slice from a place on.
 use Prim.Native.Nat.{ℕ, _+_, _≤_}
 use mathlib.Core.Path.{_≡_}
-use mathlib.Core.List.{List, _++_}
-use lib.ListN.{length, take}
+use mathlib.Core.List.{List}
+use lib.ListN.{length}
+use Rattle.octets.specs.Part.{written}
 
--- after the first `at` bytes of `before` stands the text, and `end` is where it ends
+-- the text stands over the bytes of `before` from `at` on, every other byte stays, and `end` is where the text ends
 pub record Put (before : List ℕ) (at : ℕ) (text after : List ℕ) (end : ℕ) : Type 0 where
   pub ends : end ≡ at + length text
-  pub holds : take end after ≡ take at before ++ text
-  pub room : end ≤ length after
+  pub holds : after ≡ written before at text
+  pub room : end ≤ length before

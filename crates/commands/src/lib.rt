@@ -11,7 +11,7 @@ ghost use Rattle.client.specs.Making.{fieldOf};
 ghost use Rattle.compact.specs.Outcome.{compactionAnswer};
 ghost use Rattle.store.specs.Check.{checkedOf};
 ghost use Rattle.advice.specs.Advise.{noRoom};
-ghost use Rattle.commands.specs.Told.{told, withRoom, Roomed, insertTold};
+ghost use Rattle.commands.specs.Told.{told, compacted, withRoom, Roomed, insertTold};
 use advice::Room;
 use answer::Completion;
 use answer::Counted;
@@ -26,10 +26,12 @@ pub enum Outcome {
     Compacted(Tally),
     // 13 in a compaction, with what had been done.
     Damaged(Tally),
+    // A compaction that found none of the logged counters.
+    WrongKey(Tally),
     // The refusal, and the room that the store had.
     Refused(Refusal, Room),
     Done,
-    // What is no rule's refusal, told to standard error already.
+    // What is no rule's refusal.
     Failed,
 }
 
@@ -43,12 +45,23 @@ fn of_counted(r: Counted, room: Room) -> Outcome
     }
 }
 
+// A compaction that was done, where so many rows of S were used before it.
+fn of_tally(t: Tally, logged: usize) -> Outcome
+    ensures { λ o. ⌜ o ≡ compacted logged t ⌝ }
+{
+    if advice::is_wrong_key(logged, t) {
+        Outcome::WrongKey(t)
+    } else {
+        Outcome::Compacted(t)
+    }
+}
+
 fn of_compaction(r: Compaction, room: Room) -> Outcome
     ensures { λ o. ⌜ told o ≡ compactionAnswer r ⌝ }
     ensures { λ o. ⌜ o ≡ withRoom room o ⌝ }
 {
     match r {
-        Compaction::Done(t) => Outcome::Compacted(t),
+        Compaction::Done(t) => of_tally(t, room.logged),
         Compaction::Damage(t) => Outcome::Damaged(t),
         Compaction::Refused(why) => Outcome::Refused(why, room),
     }

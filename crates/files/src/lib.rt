@@ -8,7 +8,7 @@ ghost use mathlib.Core.Path.{_≡_};
 ghost use Prim.Native.Nat.{_≤_, min};
 ghost use lib.ListN.{length};
 ghost use Rattle.io.specs.Counts.{Counts};
-ghost use Rattle.files.specs.System.{OfSystem, OfSystemAt};
+ghost use Rattle.files.specs.System.{OfSystem, OfSystemAt, Filled};
 
 // The longest path that the system takes, its 0 among it.
 const PATH: usize = 4096;
@@ -59,6 +59,7 @@ fn is_at_end(fd: i32, path: &[u8]) -> bool
 // Reads a file, as far as there is room.
 pub fn load(path: &[u8], to: &mut [u8]) -> Loaded
     ensures { λ r. ⌜ Counts (r .n) (now (to .exit)) ⌝ }
+    ensures { λ r. ⌜ Filled (length (now (to .exit))) (r .n) (r .whole) ⌝ }
 {
     let fd = os::open_read(path);
     if fd < 0 {
@@ -100,6 +101,13 @@ pub fn randomize(to: &mut [u8]) -> bool
         at = e;
     }
     true
+}
+
+// Says that a path is longer than the system takes.
+fn report_long()
+    ensures { λ r. ⌜ r ≡ tt ⌝ }
+{
+    io::write_all(STDERR_FILENO, b"cannot use this path: File name too long\n");
 }
 
 // Says that another tool holds the store, and what to do.
@@ -160,6 +168,7 @@ pub fn lock(path: &[u8]) -> bool
     ensures { λ r. ⌜ OfSystemAt (now (path .entry)) r ⌝ }
 {
     if PATH < path.len() {
+        report_long();
         return false;
     }
     if is_link(path) {
@@ -267,11 +276,50 @@ fn make(name: &[u8], bytes: &[u8], wanted: Rights) -> bool
     true
 }
 
-// Makes a file for the owner alone, which must not be there.
+// Makes a file for the owner alone under a name of its own, and gives it the other name once its bytes
+// have reached the device: the other name never has other bytes.
+fn make_renamed(temporary: &mut [u8], name: &[u8], bytes: &[u8]) -> bool
+    ensures { λ r. ⌜ OfSystem r ⌝ }
+    ensures { λ _. ⌜ length (now (temporary .exit)) ≡ length (now (temporary .entry)) ⌝ }
+{
+    let fd = os::create_temp(temporary);
+    if fd < 0 {
+        report(b"make", name);
+        return false;
+    }
+    if !rights::set(fd, modes::private()) {
+        report(b"protect", name);
+        libc::close(fd);
+        os::unlink(temporary);
+        return false;
+    }
+    if !put(fd, bytes, name) {
+        os::unlink(temporary);
+        return false;
+    }
+    if os::rename(temporary, name) < 0 {
+        report(b"rename to", name);
+        os::unlink(temporary);
+        return false;
+    }
+    true
+}
+
+fn make_beside(path: &[u8], bytes: &[u8]) -> bool
+    requires { ⌜ length (now path) ≤ 4096 ⌝ }
+    ensures { λ r. ⌜ OfSystem r ⌝ }
+{
+    let mut temporary = [0u8; NAME];
+    let n = paths::temporary_name(path, &mut temporary);
+    make_renamed(&mut temporary[..n], path, bytes)
+}
+
+// Makes a file for the owner alone, which must not be there. Its name is taken by an empty file first.
 pub fn make_private(path: &[u8], bytes: &[u8]) -> bool
     ensures { λ r. ⌜ OfSystemAt (now (path .entry)) r ⌝ }
 {
     if PATH < path.len() {
+        report_long();
         return false;
     }
     let fd = os::create(path);
@@ -280,7 +328,7 @@ pub fn make_private(path: &[u8], bytes: &[u8]) -> bool
         return false;
     }
     libc::close(fd);
-    if !make(path, bytes, modes::private()) {
+    if !make_beside(path, bytes) {
         os::unlink(path);
         return false;
     }
@@ -344,6 +392,7 @@ pub fn replace(path: &[u8], bytes: &[u8]) -> bool
     ensures { λ r. ⌜ OfSystemAt (now (path .entry)) r ⌝ }
 {
     if PATH < path.len() {
+        report_long();
         return false;
     }
     let mut name = [0u8; NAME];

@@ -1,14 +1,15 @@
 -- The lines of ids grow by one id's line.
 use Prim.Native.Nat.{ℕ, _+_, _*_}
-use mathlib.Core.Path.{_≡_, ap₂, _∙_}
+use mathlib.Core.Path.{_≡_, sym, ap, _∙_}
 use mathlib.Core.List.{List, _++_}
 use native.Mathlib.Numerals.{add-one}
 use lib.ListN.{take, drop}
 use Rattle.buffer.specs.Put.{Put}
+use Rattle.buffer.proofs.Laws.{then, said}
 use Rattle.lines.specs.Ids.{idLine, idLines}
 
-pub next-id : (found to after : List ℕ) (i at end w : ℕ) → w ≡ 16 → take at to ≡ idLines i found
-    → Put to at (idLine (take w (drop (16 * i) found))) after end → take end after ≡ idLines (i + 1) found
+pub next-id : {before to after : List ℕ} {at end : ℕ} (found : List ℕ) (i w : ℕ) → w ≡ 16 → Put before 0 (idLines i found) to at
+    → Put to at (idLine (take w (drop (16 * i) found))) after end → Put before 0 (idLines (i + 1) found) after end
 unfolding idLines
-next-id found to after i at end w e t p =
-    rw (add-one) (p .holds ∙ ap₂ (λ (l : List ℕ) (k : ℕ). l ++ idLine (take k (drop (16 * i) found))) t e)
+next-id found i w e p q =
+    said (ap (λ (k : ℕ). idLines i found ++ idLine (take k (drop (16 * i) found))) e ∙ sym (ap (λ (n : ℕ). idLines n found) (add-one i))) (then p q)

@@ -5,7 +5,7 @@ use Rattle.answer.specs.Answer.{numberOf}
 use Rattle.text.specs.Ascii.{ascii}
 use Rattle.compact.specs.declared.Tally.{Tally}
 use Rattle.commands.specs.declared.Outcome.{Outcome}
-use Rattle.commands.specs.declared.Outcome.the-variants.{Number, Compacted, Damaged, Refused, Done, Failed}
+use Rattle.commands.specs.declared.Outcome.the-variants.{Number, Compacted, Damaged, WrongKey, Refused, Done, Failed}
 use Rattle.buffer.specs.Decimal.{counted}
 
 -- anchors written and counters freed
@@ -20,6 +20,7 @@ unfoldable pub answerLine : Outcome → List ℕ
 answerLine (Number n) = counted n (ascii "\n")
 answerLine (Compacted t) = tallyLine t
 answerLine (Damaged t) = refusedLine 13
+answerLine (WrongKey t) = ascii "refused\n"
 answerLine (Refused r room) = refusedLine (numberOf r)
 answerLine Done = []
 answerLine Failed = ascii "refused\n"

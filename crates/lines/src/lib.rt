@@ -6,8 +6,7 @@ use commands::Outcome;
 use compact::Tally;
 ghost use mathlib.Core.Path.{_≡_};
 ghost use Prim.Native.Nat.{_+_, _*_, _≤_};
-ghost use lib.ListN.{length, take};
-ghost use Rattle.io.specs.Counts.{Counts};
+ghost use lib.ListN.{length};
 ghost use Rattle.buffer.specs.Put.{Put};
 ghost use Rattle.lines.specs.Answer.{tallyLine, refusedLine, answerLine};
 ghost use Rattle.lines.specs.Ids.{idLine, idLines};
@@ -33,13 +32,13 @@ fn put_refused(to: &mut [u8], number: u64) -> usize
 // What standard output gets of an outcome.
 pub fn answer(o: Outcome, to: &mut [u8]) -> usize
     requires { ⌜ 256 ≤ length (now to) ⌝ }
-    ensures { λ r. ⌜ take r (now (to .exit)) ≡ answerLine o ⌝ }
-    ensures { λ r. ⌜ Counts r (now (to .exit)) ⌝ }
+    ensures { λ r. ⌜ Put (now (to .entry)) 0 (answerLine o) (now (to .exit)) r ⌝ }
 {
     match o {
         Outcome::Number(n) => put_counted(to, 0, n, b"\n"),
         Outcome::Compacted(t) => put_tally(to, 0, t),
         Outcome::Damaged(_) => put_refused(to, 13),
+        Outcome::WrongKey(_) => put(to, 0, b"refused\n"),
         Outcome::Refused(r, _) => put_refused(to, answer::number(r)),
         Outcome::Done => 0,
         Outcome::Failed => put(to, 0, b"refused\n"),
@@ -60,8 +59,7 @@ fn put_id(to: &mut [u8], at: usize, id: &[u8]) -> usize
 // The lines of the first n ids of a slice.
 pub fn ids(found: &[u8], n: usize, to: &mut [u8]) -> usize
     requires { ⌜ (16 * n ≤ length (now found)) × (33 * n ≤ length (now to)) ⌝ }
-    ensures { λ r. ⌜ take r (now (to .exit)) ≡ idLines n (now (found .entry)) ⌝ }
-    ensures { λ r. ⌜ Counts r (now (to .exit)) ⌝ }
+    ensures { λ r. ⌜ Put (now (to .entry)) 0 (idLines n (now (found .entry))) (now (to .exit)) r ⌝ }
 {
     let mut at = 0;
     let mut i = 0;

@@ -1,444 +1,243 @@
-// The command-line tool: a store in a file, a key in a file. The words of the command line are read by
-// crates/arguments, the calls are those of crates/calls, and what a refusal says is chosen by crates/advice.
+// The command-line tool: what stands between the system and crates/tool, which makes of a command line
+// and of the bytes that were read what is to be written and printed.
 //
-// A command that changes the store makes STORE.lock, reads the store, makes the call, writes STORE.new,
-// syncs it, renames it to STORE and removes STORE.lock; the answer is printed after that.
+// A command that changes the store makes STORE.lock, reads the store, runs, writes STORE.new, syncs it,
+// renames it to STORE and removes STORE.lock; the answer is printed after that.
 use commands::Outcome;
+use files::Loaded;
 use libc::STDERR_FILENO;
 use libc::STDOUT_FILENO;
-use store::Checked;
-use words::Command;
-use words::Parsed;
+use request::Request;
+use tool::Needs;
+use tool::Ran;
+use words::line;
 ghost use mathlib.Core.Path.{_≡_};
-ghost use mathlib.Core.List.{[]};
-ghost use Prim.Native.Nat.{_≤_};
-ghost use lib.ListN.{length};
-ghost use Rattle.scheme.specs.Call.{Call};
-ghost use Rattle.scheme.specs.Run.{Step};
-ghost use Rattle.scheme.specs.Store.{make as makeOf};
-ghost use Rattle.suite.specs.Program.{program};
-ghost use Rattle.client.specs.Making.{fieldOf};
-ghost use Rattle.store.specs.Check.{checkedOf};
-ghost use Rattle.words.specs.Decimal.{decimalOf};
-ghost use Rattle.advice.specs.Advise.{noRoom};
-ghost use Rattle.commands.specs.Told.{told, withRoom, Roomed, insertTold};
-ghost use Rattle.mazhkuri.specs.Ran.{OrFailed, Attempted, Ran, hasWrongKey, showOf, InsertedWith, InsertedInto, Inserted, ErasedIn, Erased, CompactedWith, Compacted, FoundIn, CountedIn, ReadBy, MadeAs, Made};
+ghost use mathlib.Core.Bool.{true, false};
+ghost use Prim.Native.Nat.{_+_, _≤_, min};
+ghost use lib.ListN.{length, replicate};
+ghost use Rattle.io.specs.Counts.{Counts};
+ghost use Rattle.words.specs.Line.{wordAt};
+ghost use Rattle.request.specs.Request.{requestOf};
+ghost use Rattle.files.specs.System.{OfSystem, OfSystemAt};
+ghost use Rattle.tool.specs.Needs.{changes};
+ghost use Rattle.tool.specs.Run.{Ends};
+ghost use Rattle.mazhkuri.specs.Served.{unservedOf, ServedIf, Printable};
 
 // The longest store, 884,744 bytes, and one byte more: a longer file is refused by its length.
 const SPACE: usize = 884745;
 
-// 65 ids: an insert of more than 64 is refused by their number.
-const IDS: usize = 1040;
+// Room for what is printed: the lines of 4,096 ids; a message with a word of the command line.
+const OUT: usize = 135168;
 
-// The nonces of 65 ids and their counter.
-const NONCES: usize = 792;
+const ERR: usize = 65792;
 
-// Room for a store.
+// What a run gave, and whether the system did what was asked of it.
+struct Served {
+    ran: Ran,
+    kept: bool,
+}
+
 fn space() -> [u8; SPACE]
-    ensures { λ r. ⌜ 884745 ≡ length r ⌝ }
+    ensures { λ r. ⌜ r ≡ replicate 884745 0 ⌝ }
 {
     [0; SPACE]
 }
 
-// Keeps what a call left in the store, unless it was refused.
-fn keep(path: &[u8], store: &[u8], o: Outcome) -> Outcome
-    ensures { λ r. ⌜ OrFailed o r ⌝ }
+fn out_space() -> [u8; OUT]
+    ensures { λ r. ⌜ r ≡ replicate 135168 0 ⌝ }
 {
-    if let Outcome::Refused(_, _) = o {
-        return o;
-    }
-    if files::replace(path, store) {
-        return o;
-    }
-    Outcome::Failed
+    [0; OUT]
 }
 
-fn insert_with(
-    path: &[u8],
+fn err_space() -> [u8; ERR]
+    ensures { λ r. ⌜ r ≡ replicate 65792 0 ⌝ }
+{
+    [0; ERR]
+}
+
+// What the system stood in the way of, which was told to standard error.
+fn unserved() -> Served
+    ensures { λ r. ⌜ r ≡ unservedOf ⌝ }
+{
+    Served {
+        ran: Ran {
+            outcome: Outcome::Failed,
+            out: 0,
+            err: 0,
+        },
+        kept: false,
+    }
+}
+
+// Gives the store its new bytes, after a change alone.
+fn keep(line: &[u8], store: &[u8], o: Outcome) -> bool
+    requires { ⌜ changes (requestOf (now line)) o ≡ true ⌝ }
+    ensures { λ r. ⌜ OfSystemAt (wordAt 1 (now (line .entry))) r ⌝ }
+{
+    files::replace(line::word(line, 1), store)
+}
+
+// A command on bytes, which are kept where it changed them.
+fn apply(
+    line: &[u8],
     store: &mut [u8],
     key: &[u8],
-    name: &[u8],
-    value: &[u8],
-    u: u64,
-    nonce: &[u8],
-    ids: &[u8],
-    nonces: &[u8],
-) -> Outcome
-    ensures { λ r. ⌜ Attempted (λ o. (insertTold (checkedOf (now (store .entry))) (now (store .entry)) (now (key .entry)) (fieldOf (now (name .entry)) (now (value .entry))) u (now (nonce .entry)) (now (ids .entry)) (now (nonces .entry)) (told o) (now (store .exit))) × Roomed (now (store .entry)) o) r ⌝ }
+    random: &[u8],
+    out: &mut [u8],
+    err: &mut [u8],
+) -> Served
+    requires { ⌜ (135168 ≤ length (now out)) × (length (now line) + 256 ≤ length (now err)) ⌝ }
+    ensures { λ r. ⌜ Ends (requestOf (now (line .entry))) (now (line .entry)) (now (store .entry)) (now (key .entry)) (now (random .entry)) (now (out .entry)) (now (err .entry)) (r .ran) (now (store .exit)) (now (out .exit)) (now (err .exit)) ⌝ }
+    ensures { λ r. ⌜ (changes (requestOf (now (line .entry))) (r .ran .outcome) ≡ false → r .kept ≡ true) ⌝ }
 {
-    let o = commands::insert(store, key, name, value, u, nonce, ids, nonces);
-    keep(path, store, o)
+    let ran = tool::run(line, store, key, random, out, err);
+    let o = ran.outcome;
+    if !tool::changes(request::read(line), o) {
+        return Served { ran, kept: true };
+    }
+    let kept = keep(line, store, o);
+    Served { ran, kept }
 }
 
-// Inserts ids under the field of the command line, with fresh nonces: one for the token, one for each
-// id and one for the counter.
-fn insert_loaded(path: &[u8], store: &mut [u8], key: &[u8], u: u64, ids: &[u8]) -> Outcome
-    requires { ⌜ length (now ids) ≤ 1040 ⌝ }
-    ensures { λ r. ⌜ Attempted (InsertedWith (now (store .entry)) (now (key .entry)) u (now (ids .entry)) (now (store .exit))) r ⌝ }
+// The bytes of the key file, where the request takes one.
+fn key_of(line: &[u8], to: &mut [u8]) -> Loaded
+    ensures { λ r. ⌜ Counts (r .n) (now (to .exit)) ⌝ }
 {
-    let mut nonce = [0u8; 12];
-    let mut nonces = [0u8; NONCES];
-    if !files::randomize(&mut nonce) {
-        return Outcome::Failed;
+    if !tool::takes_key(request::read(line)) {
+        return Loaded { n: 0, whole: true };
     }
-    if !files::randomize(&mut nonces) {
-        return Outcome::Failed;
-    }
-    let mut name = io::buffer();
-    let a = os::arg(4, &mut name);
-    let mut value = io::buffer();
-    let b = os::arg(5, &mut value);
-    let n = 12 * (ids.len() / 16 + 1);
-    insert_with(
-        path,
-        store,
-        key,
-        &name[..a],
-        &value[..b],
-        u,
-        &nonce,
-        ids,
-        &nonces[..n],
-    )
+    files::load(line::word(line, 2), to)
 }
 
-fn insert_into(path: &[u8], u: u64, ids: &[u8]) -> Outcome
-    requires { ⌜ length (now ids) ≤ 1040 ⌝ }
-    ensures { λ r. ⌜ Attempted (InsertedInto u (now (ids .entry))) r ⌝ }
+// Room for a store of n bytes, which must not be there.
+fn absent(line: &[u8], n: usize, room: usize) -> Loaded
+    ensures { λ r. ⌜ r .n ≡ min n room ⌝ }
 {
-    let mut store = space();
-    let got = files::load(path, &mut store);
-    let n = got.n;
-    if !got.whole {
-        return Outcome::Failed;
-    }
-    let mut key = [0u8; 64];
-    let given = arguments::key_at(3, &mut key);
-    let k = given.n;
-    if !given.whole {
-        return Outcome::Failed;
-    }
-    insert_loaded(path, &mut store[..n], &key[..k], u, ids)
-}
-
-fn insert(count: usize) -> Outcome
-    ensures { λ r. ⌜ Attempted (Inserted count) r ⌝ }
-{
-    let Parsed::Number(u) = arguments::number_at(6) else {
-        return Outcome::Failed;
-    };
-    let mut ids = [0u8; IDS];
-    let got = arguments::gather(count, &mut ids);
-    let n = got.n;
-    if !got.whole {
-        return Outcome::Failed;
-    }
-    let mut path = io::buffer();
-    let a = os::arg(2, &mut path);
-    if !files::lock(&path[..a]) {
-        return Outcome::Failed;
-    }
-    let o = insert_into(&path[..a], u, &ids[..n]);
-    files::unlock(&path[..a]);
-    o
-}
-
-fn erase_into(path: &[u8], id: &[u8]) -> Outcome
-    ensures { λ r. ⌜ Attempted (ErasedIn (now (id .entry))) r ⌝ }
-{
-    let mut store = space();
-    let got = files::load(path, &mut store);
-    let n = got.n;
-    if !got.whole {
-        return Outcome::Failed;
-    }
-    erase_loaded(path, &mut store[..n], id)
-}
-
-fn erase_loaded(path: &[u8], store: &mut [u8], id: &[u8]) -> Outcome
-    ensures { λ r. ⌜ Attempted (λ o. (Step program (Call.erase (now (id .entry))) (now (store .entry)) (record { answer = told o; output = [] }) (now (store .exit))) × Roomed (now (store .entry)) o) r ⌝ }
-{
-    let o = commands::erase(store, id);
-    keep(path, store, o)
-}
-
-fn erase() -> Outcome
-    ensures { λ r. ⌜ Attempted Erased r ⌝ }
-{
-    let mut id = [0u8; 16];
-    if !arguments::id_at(3, &mut id) {
-        return Outcome::Failed;
-    }
-    let mut path = io::buffer();
-    let a = os::arg(2, &mut path);
-    if !files::lock(&path[..a]) {
-        return Outcome::Failed;
-    }
-    let o = erase_into(&path[..a], &id);
-    files::unlock(&path[..a]);
-    o
-}
-
-// Whether a compaction was made with another key than the store's.
-fn has_wrong_key(o: Outcome, logged: usize) -> bool
-    ensures { λ r. ⌜ r ≡ hasWrongKey o logged ⌝ }
-{
-    match o {
-        Outcome::Compacted(t) => advice::is_wrong_key(logged, t),
-        Outcome::Number(_) => false,
-        Outcome::Damaged(_) => false,
-        Outcome::Refused(_, _) => false,
-        Outcome::Done => false,
-        Outcome::Failed => false,
-    }
-}
-
-// A compaction that found nothing would empty the log for nothing: it is not kept.
-fn keep_compacted(path: &[u8], store: &[u8], o: Outcome, logged: usize) -> Outcome
-    ensures { λ r. ⌜ OrFailed o r ⌝ }
-{
-    if has_wrong_key(o, logged) {
-        say::err(
-            b"none of the logged counters was found: this key file is not the one that the store was filled with, or the file was damaged: nothing was changed\n",
+    let whole = files::is_missing(line::word(line, 1));
+    if !whole {
+        io::write_all(
+            STDERR_FILENO,
+            b"the store is there already, or cannot be looked for: choose another name\n",
         );
-        return Outcome::Failed;
     }
-    keep(path, store, o)
-}
-
-fn compact_with(path: &[u8], store: &mut [u8], key: &[u8], nonces: &[u8], logged: usize) -> Outcome
-    ensures { λ r. ⌜ Attempted (λ o. (Step program (Call.compact (now (key .entry)) (now (nonces .entry))) (now (store .entry)) (record { answer = told o; output = [] }) (now (store .exit))) × Roomed (now (store .entry)) o) r ⌝ }
-{
-    let o = commands::compact(store, key, nonces);
-    keep_compacted(path, store, o, logged)
-}
-
-// Compacts with fresh nonces.
-fn compact_fresh(
-    path: &[u8],
-    store: &mut [u8],
-    key: &[u8],
-    nonces: &mut [u8],
-    logged: usize,
-) -> Outcome
-    ensures { λ r. ⌜ Attempted (λ o. (Step program (Call.compact (now (key .entry)) (now (nonces .exit))) (now (store .entry)) (record { answer = told o; output = [] }) (now (store .exit))) × Roomed (now (store .entry)) o) r ⌝ }
-    ensures { λ _. ⌜ length (now (nonces .exit)) ≡ length (now (nonces .entry)) ⌝ }
-{
-    if !files::randomize(nonces) {
-        return Outcome::Failed;
+    Loaded {
+        n: octets::least(n, room),
+        whole,
     }
-    compact_with(path, store, key, nonces, logged)
 }
 
-// Compacts with a nonce for each used row of S, of which there are at most 4,096.
-fn compact_loaded(path: &[u8], store: &mut [u8], key: &[u8]) -> Outcome
-    ensures { λ r. ⌜ Attempted (CompactedWith (now (store .entry)) (now (key .entry)) (now (store .exit))) r ⌝ }
+// The store's bytes, or room for a new one's.
+fn fetch(line: &[u8], needs: Needs, to: &mut [u8]) -> Loaded
+    ensures { λ r. ⌜ Counts (r .n) (now (to .exit)) ⌝ }
 {
-    let mut nonces = io::large_buffer();
-    let room = advice::room_in(store);
-    let logged = octets::least(room.logged, 4096);
-    let n = 12 * logged;
-    compact_fresh(path, store, key, &mut nonces[..n], logged)
+    let Needs::NewStore(n) = needs else {
+        return files::load(line::word(line, 1), to);
+    };
+    absent(line, n, to.len())
 }
 
-fn compact_into(path: &[u8]) -> Outcome
-    ensures { λ r. ⌜ Attempted Compacted r ⌝ }
+// A command on a store that is read, with a key that is read and random bytes that are drawn where it
+// takes them.
+fn on_store(line: &[u8], needs: Needs, out: &mut [u8], err: &mut [u8]) -> Served
+    requires { ⌜ (135168 ≤ length (now out)) × (length (now line) + 256 ≤ length (now err)) ⌝ }
+    ensures { λ r. ⌜ ServedIf (now (line .entry)) (now (out .entry)) (now (err .entry)) r (now (out .exit)) (now (err .exit)) ⌝ }
 {
     let mut store = space();
-    let got = files::load(path, &mut store);
+    let got = fetch(line, needs, &mut store);
     let n = got.n;
     if !got.whole {
-        return Outcome::Failed;
+        return unserved();
     }
     let mut key = [0u8; 64];
-    let given = arguments::key_at(3, &mut key);
+    let given = key_of(line, &mut key);
     let k = given.n;
     if !given.whole {
-        return Outcome::Failed;
+        return unserved();
     }
-    compact_loaded(path, &mut store[..n], &key[..k])
+    let mut random = io::large_buffer();
+    let m = tool::random_for(request::read(line), &store[..n]);
+    if !files::randomize(&mut random[..m]) {
+        return unserved();
+    }
+    apply(line, &mut store[..n], &key[..k], &random[..m], out, err)
 }
 
-fn compact() -> Outcome
-    ensures { λ r. ⌜ Attempted Compacted r ⌝ }
+// The same, while no other tool changes the store.
+fn locked(line: &[u8], needs: Needs, out: &mut [u8], err: &mut [u8]) -> Served
+    requires { ⌜ (135168 ≤ length (now out)) × (length (now line) + 256 ≤ length (now err)) ⌝ }
+    ensures { λ r. ⌜ ServedIf (now (line .entry)) (now (out .entry)) (now (err .entry)) r (now (out .exit)) (now (err .exit)) ⌝ }
 {
-    let mut path = io::buffer();
-    let a = os::arg(2, &mut path);
-    if !files::lock(&path[..a]) {
-        return Outcome::Failed;
+    if !files::lock(line::word(line, 1)) {
+        return unserved();
     }
-    let o = compact_into(&path[..a]);
-    files::unlock(&path[..a]);
-    o
+    let r = on_store(line, needs, out, err);
+    files::unlock(line::word(line, 1));
+    r
 }
 
-// Finds, and prints what was found.
-fn find_loaded(store: &[u8], key: &[u8]) -> Outcome
-    ensures { λ r. ⌜ FoundIn (now (store .entry)) (now (key .entry)) r ⌝ }
+// A key file, whose bytes are the random ones.
+fn on_key(line: &[u8], out: &mut [u8], err: &mut [u8]) -> Served
+    requires { ⌜ (135168 ≤ length (now out)) × (length (now line) + 256 ≤ length (now err)) ⌝ }
+    ensures { λ r. ⌜ ServedIf (now (line .entry)) (now (out .entry)) (now (err .entry)) r (now (out .exit)) (now (err .exit)) ⌝ }
 {
-    let mut name = io::buffer();
-    let a = os::arg(4, &mut name);
-    let mut value = io::buffer();
-    let b = os::arg(5, &mut value);
-    let mut ids = io::large_buffer();
-    let o = commands::find(store, key, &name[..a], &value[..b], &mut ids);
-    if let Outcome::Number(n) = o {
-        say::ids(&ids, n);
-        return Outcome::Done;
-    }
-    o
-}
-
-fn count_loaded(store: &[u8], key: &[u8]) -> Outcome
-    ensures { λ r. ⌜ CountedIn (now (store .entry)) (now (key .entry)) r ⌝ }
-{
-    let mut name = io::buffer();
-    let a = os::arg(4, &mut name);
-    let mut value = io::buffer();
-    let b = os::arg(5, &mut value);
-    commands::count(store, key, &name[..a], &value[..b])
-}
-
-fn show_loaded(store: &[u8]) -> Outcome
-    ensures { λ r. ⌜ r ≡ showOf (checkedOf (now (store .entry))) ⌝ }
-{
-    match store::sizes(store) {
-        Checked::Refused(r) => Outcome::Refused(r, advice::room_in(store)),
-        Checked::Fit(x) => {
-            say::shape(x);
-            Outcome::Done
-        }
-    }
-}
-
-// A command that only reads: the store is read whole, so that no other tool's change is met halfway.
-fn read(c: Command) -> Outcome
-    ensures { λ r. ⌜ Attempted (ReadBy c) r ⌝ }
-{
-    let mut path = io::buffer();
-    let a = os::arg(2, &mut path);
-    let mut store = space();
-    let got = files::load(&path[..a], &mut store);
-    let n = got.n;
-    if !got.whole {
-        return Outcome::Failed;
-    }
-    if let Command::Show = c {
-        return show_loaded(&store[..n]);
-    }
-    let mut key = [0u8; 64];
-    let given = arguments::key_at(3, &mut key);
-    let k = given.n;
-    if !given.whole {
-        return Outcome::Failed;
-    }
-    if let Command::Find = c {
-        return find_loaded(&store[..n], &key[..k]);
-    }
-    count_loaded(&store[..n], &key[..k])
-}
-
-fn make_in(path: &[u8], store: &mut [u8], p: u64, m: u64, c: u64, s: u64) -> Outcome
-    ensures { λ r. ⌜ Attempted (λ o. (told o ≡ makeOf (record { p = p; m = m; c = c; s = s }) (now (store .entry)) .answer) × (o ≡ withRoom noRoom o)) r ⌝ }
-    ensures { λ _. ⌜ now (store .exit) ≡ makeOf (record { p = p; m = m; c = c; s = s }) (now (store .entry)) .store ⌝ }
-{
-    let o = commands::make(p, m, c, s, store);
-    keep(path, store, o)
-}
-
-fn make_sized(path: &[u8], p: u64, m: u64, c: u64, s: u64) -> Outcome
-    ensures { λ r. ⌜ Attempted (MadeAs p m c s) r ⌝ }
-{
-    if !files::is_missing(path) {
-        say::err(b"the store is there already, or cannot be looked for: choose another name\n");
-        return Outcome::Failed;
-    }
-    let mut store = space();
-    let n = advice::length(m, c, s);
-    make_in(path, &mut store[..n], p, m, c, s)
-}
-
-fn make() -> Outcome
-    ensures { λ r. ⌜ Attempted Made r ⌝ }
-{
-    let Parsed::Number(p) = arguments::number_at(3) else {
-        return Outcome::Failed;
-    };
-    let Parsed::Number(m) = arguments::number_at(4) else {
-        return Outcome::Failed;
-    };
-    let Parsed::Number(c) = arguments::number_at(5) else {
-        return Outcome::Failed;
-    };
-    let Parsed::Number(s) = arguments::number_at(6) else {
-        return Outcome::Failed;
-    };
-    let mut path = io::buffer();
-    let a = os::arg(2, &mut path);
-    if !files::lock(&path[..a]) {
-        return Outcome::Failed;
-    }
-    let o = make_sized(&path[..a], p, m, c, s);
-    files::unlock(&path[..a]);
-    o
-}
-
-fn make_key() -> Outcome
-    ensures { λ r. ⌜ OrFailed Outcome.Done r ⌝ }
-{
-    let mut path = io::buffer();
-    let a = os::arg(2, &mut path);
     let mut key = [0u8; 32];
     if !files::randomize(&mut key) {
-        return Outcome::Failed;
+        return unserved();
     }
-    if !files::make_private(&path[..a], &key) {
-        return Outcome::Failed;
+    if !files::make_private(line::word(line, 1), &key) {
+        return unserved();
     }
-    Outcome::Done
+    on_words(line, out, err)
 }
 
-fn help() -> Outcome
-    ensures { λ r. ⌜ r ≡ Outcome.Done ⌝ }
+// A command that needs nothing but its words.
+fn on_words(line: &[u8], out: &mut [u8], err: &mut [u8]) -> Served
+    requires { ⌜ (135168 ≤ length (now out)) × (length (now line) + 256 ≤ length (now err)) ⌝ }
+    ensures { λ r. ⌜ ServedIf (now (line .entry)) (now (out .entry)) (now (err .entry)) r (now (out .exit)) (now (err .exit)) ⌝ }
 {
-    let mut word = io::buffer();
-    let n = os::arg(2, &mut word);
-    match words::command_of(&word[..n]) {
-        Command::Unknown => say::help(),
-        c => say::usage(STDOUT_FILENO, c),
-    }
-    Outcome::Done
+    let mut none = [0u8; 1];
+    apply(line, &mut none[..0], b"", b"", out, err)
 }
 
-fn run(c: Command, count: usize) -> Outcome
-    ensures { λ r. ⌜ Ran c count r ⌝ }
+fn serve(line: &[u8], out: &mut [u8], err: &mut [u8]) -> Served
+    requires { ⌜ (135168 ≤ length (now out)) × (length (now line) + 256 ≤ length (now err)) ⌝ }
+    ensures { λ r. ⌜ ServedIf (now (line .entry)) (now (out .entry)) (now (err .entry)) r (now (out .exit)) (now (err .exit)) ⌝ }
 {
-    match c {
-        Command::New => make(),
-        Command::Key => make_key(),
-        Command::Insert => insert(count),
-        Command::Erase => erase(),
-        Command::Compact => compact(),
-        Command::Help => help(),
-        Command::Unknown => Outcome::Done,
-        _ => read(c),
+    let needs = tool::needed(request::read(line));
+    match needs {
+        Needs::Words => on_words(line, out, err),
+        Needs::KeyFile => on_key(line, out, err),
+        Needs::Store => on_store(line, needs, out, err),
+        Needs::Lock => locked(line, needs, out, err),
+        Needs::NewStore(_) => locked(line, needs, out, err),
     }
+}
+
+// The answer and the message, once the system has done what was asked.
+fn print(r: Served, out: &[u8], err: &[u8])
+    requires { ⌜ Printable r (now out) (now err) ⌝ }
+    ensures { λ u. ⌜ u ≡ tt ⌝ }
+{
+    if !r.kept {
+        io::write_all(STDOUT_FILENO, b"refused\n");
+        return;
+    }
+    let n = r.ran.out;
+    let m = r.ran.err;
+    io::write_all(STDOUT_FILENO, &out[..n]);
+    io::write_all(STDERR_FILENO, &err[..m]);
 }
 
 fn main() {
-    let mut word = io::buffer();
-    let n = os::arg(1, &mut word);
-    let c = words::command_of(&word[..n]);
-    let count = os::arg_count();
-    if !words::fit(c, advice::above(count, 2)) {
-        say::err(b"expected: ");
-        say::usage(STDERR_FILENO, c);
-        say::tell(Outcome::Failed, 0);
+    let mut words = io::large_buffer();
+    let mut out = out_space();
+    let mut err = err_space();
+    let got = arguments::gather(&mut words);
+    let n = got.n;
+    if !got.whole {
+        io::write_all(STDOUT_FILENO, b"refused\n");
         return;
     }
-    if !arguments::words_fit(count) {
-        say::tell(Outcome::Failed, 0);
-        return;
-    }
-    say::tell(run(c, count), advice::above(count, 7) as u64);
+    let r = serve(&words[..n], &mut out, &mut err);
+    print(r, &out, &err);
 }

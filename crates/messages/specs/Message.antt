@@ -9,7 +9,7 @@ use Rattle.advice.specs.Advise.{adviceOf}
 use Rattle.advice.specs.declared.Advice.{Advice}
 use Rattle.advice.specs.declared.Advice.the-variants.{Key, Field, Share, Ids, Sizes, NoStore, Marks, Damage, Count, Entries, Compact, Larger, Log, Output, Fault}
 use Rattle.commands.specs.declared.Outcome.{Outcome}
-use Rattle.commands.specs.declared.Outcome.the-variants.{Number, Compacted, Damaged, Refused, Done, Failed}
+use Rattle.commands.specs.declared.Outcome.the-variants.{Number, Compacted, Damaged, WrongKey, Refused, Done, Failed}
 use Rattle.buffer.specs.Decimal.{counted}
 use Rattle.lines.specs.Answer.{tallyLine}
 
@@ -51,6 +51,8 @@ messageLine (Compacted t) given = []
 messageLine (Damaged t) given =
     ascii "13: a counter in the file does not hold what was written: it was damaged; anchors written and counters freed before it: "
     ++ tallyLine t
+messageLine (WrongKey t) given =
+    ascii "none of the logged counters was found: this key file is not the one that the store was filled with, or the file was damaged: nothing was changed\n"
 messageLine (Refused r room) given =
     counted (numberOf r) (ascii ": ") ++ sentenceOf (adviceOf r (room .p) (room .entries) (room .logged)) given
 messageLine Done given = []

@@ -1,8 +1,7 @@
 // What standard error gets of an outcome: of a refusal, its number and what to do.
 ghost use mathlib.Core.Path.{_≡_};
 ghost use Prim.Native.Nat.{_+_, _≤_};
-ghost use lib.ListN.{length, take};
-ghost use Rattle.io.specs.Counts.{Counts};
+ghost use lib.ListN.{length};
 ghost use Rattle.buffer.specs.Put.{Put};
 ghost use Rattle.messages.specs.Message.{plural, entriesSentence, sentenceOf, messageLine};
 use advice::Advice;
@@ -43,6 +42,9 @@ const FAULT: [u8; 47] = *b"the tool made a wrong call: please report this\n";
 
 const DAMAGED: [u8; 120] =
     *b"13: a counter in the file does not hold what was written: it was damaged; anchors written and counters freed before it: ";
+
+const WRONG_KEY: [u8; 145] =
+    *b"none of the logged counters was found: this key file is not the one that the store was filled with, or the file was damaged: nothing was changed\n";
 
 // Puts a number with the words for one, or for another number.
 fn put_plural(to: &mut [u8], at: usize, n: u64, one: &[u8], many: &[u8]) -> usize
@@ -139,13 +141,13 @@ fn put_damaged(to: &mut [u8], t: Tally) -> usize
 // What standard error gets of an outcome, where so many ids were given.
 pub fn message(o: Outcome, given: u64, to: &mut [u8]) -> usize
     requires { ⌜ 256 ≤ length (now to) ⌝ }
-    ensures { λ r. ⌜ take r (now (to .exit)) ≡ messageLine o given ⌝ }
-    ensures { λ r. ⌜ Counts r (now (to .exit)) ⌝ }
+    ensures { λ r. ⌜ Put (now (to .entry)) 0 (messageLine o given) (now (to .exit)) r ⌝ }
 {
     match o {
         Outcome::Number(_) => 0,
         Outcome::Compacted(_) => 0,
         Outcome::Damaged(t) => put_damaged(to, t),
+        Outcome::WrongKey(_) => put(to, 0, &WRONG_KEY),
         Outcome::Refused(r, room) => put_refusal(to, r, room, given),
         Outcome::Done => 0,
         Outcome::Failed => 0,

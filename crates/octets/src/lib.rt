@@ -1,7 +1,7 @@
 // Bytes: compare, copy, zero, and numbers big-endian (document 01, "Keyed function and cipher":
 // a number inside a message or plaintext is 8 bytes, big-endian; "Store": the header's are 2).
 ghost use mathlib.Core.Path.{_≡_};
-ghost use Prim.Native.Nat.{_≤_, _<_, _+_, min};
+ghost use Prim.Native.Nat.{_≤_, _<_, _+_, _-_, min};
 ghost use lib.ListN.{length, replicate};
 ghost use Rattle.octets.specs.Compare.{same as sameBytes};
 ghost use Rattle.octets.specs.Number.{bytes, number};
@@ -25,6 +25,13 @@ pub fn least(a: usize, b: usize) -> usize
     ensures { λ r. ⌜ r ≡ min a b ⌝ }
 {
     if a < b { a } else { b }
+}
+
+// The difference, or 0.
+pub fn above(a: usize, b: usize) -> usize
+    ensures { λ r. ⌜ r ≡ a - b ⌝ }
+{
+    if b < a { a - b } else { 0 }
 }
 
 // A byte as a wider number.

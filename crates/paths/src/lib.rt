@@ -1,23 +1,21 @@
 // The names of the files beside a store or a key, and the folder's part of a path.
+use buffer::put;
 ghost use mathlib.Core.Path.{_≡_};
 ghost use mathlib.Core.List.{_++_};
 ghost use Prim.Native.Nat.{_+_, _≤_};
 ghost use lib.ListN.{length, take};
 ghost use Rattle.io.specs.Counts.{Counts};
+ghost use Rattle.buffer.specs.Put.{Put};
 ghost use Rattle.paths.specs.Folder.{folderOf};
 ghost use Rattle.paths.specs.Names.{lockOf, newOf, temporaryOf};
 
 // The name of a file beside another: its path and an ending. Answers its length.
 fn beside(path: &[u8], ending: &[u8], to: &mut [u8]) -> usize
     requires { ⌜ length (now path) + length (now ending) ≤ length (now to) ⌝ }
-    ensures { λ r. ⌜ r ≡ length (now (path .entry)) + length (now (ending .entry)) ⌝ }
-    ensures { λ r. ⌜ take r (now (to .exit)) ≡ now (path .entry) ++ now (ending .entry) ⌝ }
-    ensures { λ r. ⌜ (r ≤ length (now (to .exit))) × (r ≡ length (take r (now (to .exit)))) ⌝ }
+    ensures { λ r. ⌜ Put (now (to .entry)) 0 (now (path .entry) ++ now (ending .entry)) (now (to .exit)) r ⌝ }
 {
-    let n = path.len();
-    octets::copy_at(to, 0, path);
-    octets::copy_at(to, n, ending);
-    n + ending.len()
+    let e = put(to, 0, path);
+    put(to, e, ending)
 }
 
 // How long the folder's part of a path is: up to its last slash.
@@ -39,7 +37,7 @@ pub fn folder(path: &[u8]) -> usize
 // The name of the store's lock file. Answers its length.
 pub fn lock_name(path: &[u8], to: &mut [u8]) -> usize
     requires { ⌜ (length (now path) ≤ 4096) × (length (now to) ≡ 4120) ⌝ }
-    ensures { λ r. ⌜ take r (now (to .exit)) ≡ lockOf (now (path .entry)) ⌝ }
+    ensures { λ r. ⌜ Put (now (to .entry)) 0 (lockOf (now (path .entry))) (now (to .exit)) r ⌝ }
     ensures { λ r. ⌜ Counts r (now (to .exit)) ⌝ }
 {
     beside(path, b".lock", to)
@@ -48,7 +46,7 @@ pub fn lock_name(path: &[u8], to: &mut [u8]) -> usize
 // The name of the file that the store's new bytes are written to. Answers its length.
 pub fn new_name(path: &[u8], to: &mut [u8]) -> usize
     requires { ⌜ (length (now path) ≤ 4096) × (length (now to) ≡ 4120) ⌝ }
-    ensures { λ r. ⌜ take r (now (to .exit)) ≡ newOf (now (path .entry)) ⌝ }
+    ensures { λ r. ⌜ Put (now (to .entry)) 0 (newOf (now (path .entry))) (now (to .exit)) r ⌝ }
     ensures { λ r. ⌜ Counts r (now (to .exit)) ⌝ }
     ensures { λ r. ⌜ r ≤ 4101 ⌝ }
 {
@@ -58,7 +56,7 @@ pub fn new_name(path: &[u8], to: &mut [u8]) -> usize
 // The name that a file of that name is made under, in the same folder. Answers its length.
 pub fn temporary_name(name: &[u8], to: &mut [u8]) -> usize
     requires { ⌜ (length (now name) ≤ 4101) × (length (now to) ≡ 4120) ⌝ }
-    ensures { λ r. ⌜ take r (now (to .exit)) ≡ temporaryOf (now (name .entry)) ⌝ }
+    ensures { λ r. ⌜ Put (now (to .entry)) 0 (temporaryOf (now (name .entry))) (now (to .exit)) r ⌝ }
     ensures { λ r. ⌜ Counts r (now (to .exit)) ⌝ }
 {
     let n = folder(name);

@@ -2,8 +2,7 @@
 // full its tables are.
 ghost use mathlib.Core.Path.{_≡_};
 ghost use Prim.Native.Nat.{_+_, _≤_};
-ghost use lib.ListN.{length, take};
-ghost use Rattle.io.specs.Counts.{Counts};
+ghost use lib.ListN.{length};
 ghost use Rattle.buffer.specs.Put.{Put};
 ghost use Rattle.show.specs.Show.{barText, tableLine, sharesLine, shapeLines};
 use buffer::put;
@@ -25,7 +24,7 @@ fn put_table(to: &mut [u8], at: usize, name: &[u8], total: usize, free: usize) -
     requires { ⌜ (length (now name) ≡ 12) × ((total ≤ 4096) × (at + 118 ≤ length (now to))) ⌝ }
     ensures { λ r. ⌜ (Put (now (to .entry)) at (tableLine (now (name .entry)) total free) (now (to .exit)) r) × (r ≤ at + 118) ⌝ }
 {
-    let used = advice::above(total, free);
+    let used = octets::above(total, free);
     let a = put(to, at, name);
     let b = put_bar(to, a, used, total);
     let d = put_counted(to, b, used as u64, b" of ");
@@ -44,8 +43,7 @@ fn put_shares(to: &mut [u8], p: u64) -> usize
 // What `show` prints of a store.
 pub fn shape(x: Shape, to: &mut [u8]) -> usize
     requires { ⌜ (((x .m .rows ≤ 4096) × (x .v .rows ≤ 4096)) × ((x .c .rows ≤ 4096) × (x .s .rows ≤ 4096))) × (1024 ≤ length (now to)) ⌝ }
-    ensures { λ r. ⌜ take r (now (to .exit)) ≡ shapeLines x ⌝ }
-    ensures { λ r. ⌜ Counts r (now (to .exit)) ⌝ }
+    ensures { λ r. ⌜ Put (now (to .entry)) 0 (shapeLines x) (now (to .exit)) r ⌝ }
 {
     let m = put_shares(to, x.p);
     let v = put_table(to, m, b"entries  (M)", x.m.rows, x.m.free);

@@ -1,4 +1,4 @@
--- The commands by their names, and how many words each takes after its name.
+-- The commands by their names, and how many words each takes, its name among them.
 use Prim.Native.Nat.{ℕ}
 use mathlib.Core.Bool.{Bool, true, false}
 use mathlib.Core.List.{List}
@@ -30,13 +30,13 @@ commandOf w =
 -- new takes STORE P M C S, key KEYFILE, insert STORE KEYFILE FIELD VALUE SHARE and the ids, find and count STORE KEYFILE FIELD
 -- VALUE, erase STORE ID, compact STORE KEYFILE, show STORE
 abbrev pub wordsFit : Command → ℕ → Bool
-wordsFit New n = eqb n 5
-wordsFit Key n = eqb n 1
-wordsFit Insert n = leb 5 n
-wordsFit Find n = eqb n 4
-wordsFit Count n = eqb n 4
-wordsFit Erase n = eqb n 2
-wordsFit Compact n = eqb n 2
-wordsFit Show n = eqb n 1
+wordsFit New n = eqb n 6
+wordsFit Key n = eqb n 2
+wordsFit Insert n = leb 6 n
+wordsFit Find n = eqb n 5
+wordsFit Count n = eqb n 5
+wordsFit Erase n = eqb n 3
+wordsFit Compact n = eqb n 3
+wordsFit Show n = eqb n 2
 wordsFit Help n = true
 wordsFit Unknown n = false

@@ -1,4 +1,6 @@
 // The words of the command line: commands by their names, and decimals.
+pub mod line;
+
 ghost use mathlib.Core.Path.{_≡_};
 ghost use Rattle.octets.specs.Compare.{same as sameBytes};
 ghost use Rattle.words.specs.Decimal.{decimalOf, stepOf};
@@ -110,19 +112,19 @@ pub fn command_of(word: &[u8]) -> Command
     reader_of(word)
 }
 
-// Whether a command takes so many words after it.
+// Whether a command takes so many words, its own among them.
 pub fn fit(c: Command, n: usize) -> bool
     ensures { λ r. ⌜ r ≡ wordsFit c n ⌝ }
 {
     match c {
-        Command::New => n == 5,
-        Command::Key => n == 1,
-        Command::Insert => 5 <= n,
-        Command::Find => n == 4,
-        Command::Count => n == 4,
-        Command::Erase => n == 2,
-        Command::Compact => n == 2,
-        Command::Show => n == 1,
+        Command::New => n == 6,
+        Command::Key => n == 2,
+        Command::Insert => 6 <= n,
+        Command::Find => n == 5,
+        Command::Count => n == 5,
+        Command::Erase => n == 3,
+        Command::Compact => n == 3,
+        Command::Show => n == 2,
         Command::Help => true,
         Command::Unknown => false,
     }

@@ -25,7 +25,7 @@ returns c =
     let a = c .before .before .before .before .before .before .before .before .before .before .args in
     let n = c .before .before .before .compact in (
       (subst (λ (x : Answer). CompactCall program (a .store .now) (a .key .now) (a .nonces .now) x (n .last .0)) (sym (c .of-compaction .ensures .0)) (n .ensures .0), refl),
-      roomed _ _ _ (c .of-compaction .ensures .1) (c .before .before .before .before .before .room-in .ensures),
+      roomed _ _ _ (c .of-compaction .ensures .1) (c .before .before .before .before .before .room-in .ensures .0),
     )
 
 pub compact-spec : {M : Type 1} → statement M

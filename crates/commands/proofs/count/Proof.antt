@@ -18,7 +18,7 @@ returns : tie.Need-returns
 returns c =
     let e = c .before .count .ensures in (
       record { answer = c .of-counted .ensures .0 ∙ e .answer; output = e .output; store = e .store },
-      roomed _ _ _ (c .of-counted .ensures .1) (c .before .before .room-in .ensures),
+      roomed _ _ _ (c .of-counted .ensures .1) (c .before .before .room-in .ensures .0),
     )
 
 pub count-spec : {M : Type 1} → statement M

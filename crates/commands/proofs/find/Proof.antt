@@ -21,7 +21,7 @@ returns : tie.Need-returns
 returns c =
     let e = c .before .before .before .find .ensures in (
       record { answer = c .of-counted .ensures .0 ∙ e .answer; output = e .output; store = e .store },
-      roomed _ _ _ (c .of-counted .ensures .1) (c .before .before .before .before .before .room-in .ensures),
+      roomed _ _ _ (c .of-counted .ensures .1) (c .before .before .before .before .before .room-in .ensures .0),
     )
 
 pub find-spec : {M : Type 1} → statement M

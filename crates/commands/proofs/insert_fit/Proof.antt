@@ -31,7 +31,7 @@ returns c =
             (sym (c .of-counted .ensures .0)) (n .ensures .0),
         refl,
       ),
-      roomed _ _ _ (c .of-counted .ensures .1) (c .before .before .before .before .before .room-in .ensures),
+      roomed _ _ _ (c .of-counted .ensures .1) (c .before .before .before .before .before .room-in .ensures .0),
     )
 
 pub insert-fit-spec : {M : Type 1} → statement M

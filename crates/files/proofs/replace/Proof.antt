@@ -8,4 +8,4 @@ returns-2 : tie.Need-returns-2
 returns-2 c = λ h. absurd (omega arith)
 
 pub replace-spec : {M : Type 1} → statement M
-replace-spec = tie.close (tie.spec (λ c. search needs) (λ c. search needs) (λ c κs. search needs) (λ c. search needs) (λ c. search needs) (λ c κs. search needs) returns-2)
+replace-spec = tie.close (tie.spec (λ c κs. search needs) (λ c. search needs) (λ c. search needs) (λ c κs. search needs) (λ c. search needs) (λ c. search needs) (λ c κs. search needs) returns-2)

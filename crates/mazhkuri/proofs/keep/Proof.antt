@@ -1,15 +1,14 @@
--- The outcome, or a failure.
-use mathlib.Core.Path.{refl}
-use Rattle.mazhkuri.proofs.Attempts.{met}
+-- The name is the line's.
+use Prim.Native.Nat.{ℕ, _<_}
+use mathlib.Core.Path.{sym, subst}
+use mathlib.Core.List.{List}
+use lib.ListN.{length}
 use borrow.Author.Needs.{needs}
 use Rattle.mazhkuri.proofs.keep.Statement.{statement}
 use Rattle.mazhkuri.proofs.keep.Tie as tie
 
 returns : tie.Need-returns
-returns c = met refl
-
-returns-2 : tie.Need-returns-2
-returns-2 c = met refl
+returns c = λ h. c .replace .ensures (subst (λ (l : List ℕ). 4096 < length l) (sym (c .before .word .ensures)) h)
 
 pub keep-spec : {M : Type 1} → statement M
-keep-spec = tie.close (tie.spec (λ c. search needs) returns (λ c κs. search needs) returns-2 (λ c. search needs))
+keep-spec = tie.close (tie.spec (λ c κs. search needs) (λ c κs. search needs) returns)

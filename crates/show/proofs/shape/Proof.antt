@@ -1,6 +1,5 @@
 -- Five lines.
-use mathlib.Core.Path.{refl}
-use Rattle.buffer.proofs.Laws.{then, whole}
+use Rattle.buffer.proofs.Laws.{then}
 use Rattle.show.specs.Show.{shapeLines}
 use borrow.Author.Needs.{needs}
 use Rattle.show.proofs.shape.Statement.{statement}
@@ -14,7 +13,7 @@ returns c =
     let v = c .before .before .before .before .before .before .before .before .before .before .before .before .put-table2 .ensures .0 in
     let k = c .before .before .before .before .before .before .before .put-table3 .ensures .0 in
     let s = c .before .before .put-table4 .ensures .0 in
-    whole refl (then a (then m (then v (then k s))))
+    then a (then m (then v (then k s)))
 
 pub shape-spec : {M : Type 1} → statement M
 shape-spec =

@@ -1,0 +1,147 @@
+// What a command line asks for: the command with its numbers, or which word is wrong.
+ghost use mathlib.Core.Path.{_≡_};
+ghost use Prim.Native.Nat.{_+_, _*_, _≤_};
+ghost use lib.ListN.{length};
+ghost use Rattle.words.specs.Decimal.{decimalOf};
+ghost use Rattle.words.specs.Line.{wordAt};
+ghost use Rattle.request.specs.Request.{firstBad, newOf, insertOf, eraseOf, requestOf, idsIn};
+ghost use Rattle.request.specs.Ids.{idOf, idsOf};
+use words::Command;
+use words::Parsed;
+use words::line;
+
+// What is asked for. Words are counted from 0, the command's own.
+pub enum Request {
+    // What a command takes, or every command.
+    Help(Command),
+    // Too many words, or too few.
+    Misused(Command),
+    // The word that is no number, or no id.
+    NotNumber(usize),
+    NotId(usize),
+    New { p: u64, m: u64, c: u64, s: u64 },
+    Key,
+    // At share u, so many ids.
+    Insert { u: u64, n: usize },
+    Find,
+    Count,
+    Erase,
+    Compact,
+    Show,
+}
+
+// The id that a word stands for, zeros where it is none.
+pub fn id(word: &[u8], to: &mut [u8])
+    requires { ⌜ length (now to) ≡ 16 ⌝ }
+    ensures { λ _. ⌜ now (to .exit) ≡ idOf (now (word .entry)) ⌝ }
+{
+    if text::is_id(word) {
+        text::unhex(word, to);
+    } else {
+        octets::clear(to);
+    }
+}
+
+// The ids of the words from the seventh on.
+pub fn ids(line: &[u8], n: usize, to: &mut [u8])
+    requires { ⌜ length (now to) ≡ 16 * n ⌝ }
+    ensures { λ _. ⌜ now (to .exit) ≡ idsOf n (now (line .entry)) ⌝ }
+{
+    let mut i = 0;
+    while i < n {
+        let a = 16 * i;
+        let e = a + 16;
+        id(line::word(line, 6 + i), &mut to[a..e]);
+        i += 1;
+    }
+}
+
+// Which word from word i on is the first that is no id, of n words; the word after them where all are.
+fn first_bad(line: &[u8], i: usize, n: usize) -> usize
+    requires { ⌜ i + n ≤ 4096 ⌝ }
+    ensures { λ r. ⌜ r ≡ firstBad n i (now (line .entry)) ⌝ }
+{
+    let mut at = i;
+    let mut left = n;
+    while 0 < left {
+        if !text::is_id(line::word(line, at)) {
+            break;
+        }
+        at += 1;
+        left -= 1;
+    }
+    at
+}
+
+// Word i as a number.
+fn number(line: &[u8], i: usize) -> Parsed
+    ensures { λ r. ⌜ r ≡ decimalOf (wordAt i (now (line .entry))) ⌝ }
+{
+    words::decimal(line::word(line, i))
+}
+
+fn new(line: &[u8]) -> Request
+    ensures { λ r. ⌜ r ≡ newOf (now (line .entry)) ⌝ }
+{
+    let Parsed::Number(p) = number(line, 2) else {
+        return Request::NotNumber(2);
+    };
+    let Parsed::Number(m) = number(line, 3) else {
+        return Request::NotNumber(3);
+    };
+    let Parsed::Number(c) = number(line, 4) else {
+        return Request::NotNumber(4);
+    };
+    let Parsed::Number(s) = number(line, 5) else {
+        return Request::NotNumber(5);
+    };
+    Request::New { p, m, c, s }
+}
+
+// At most 65 ids are read: one more than an insert takes, so that it is refused by their number.
+fn insert(line: &[u8]) -> Request
+    ensures { λ r. ⌜ r ≡ insertOf (now (line .entry)) ⌝ }
+{
+    let Parsed::Number(u) = number(line, 5) else {
+        return Request::NotNumber(5);
+    };
+    let n = octets::least(octets::above(line::count(line), 6), 65);
+    let bad = first_bad(line, 6, n);
+    if bad < 6 + n {
+        return Request::NotId(bad);
+    }
+    Request::Insert { u, n }
+}
+
+fn erase(line: &[u8]) -> Request
+    ensures { λ r. ⌜ r ≡ eraseOf (now (line .entry)) ⌝ }
+{
+    if text::is_id(line::word(line, 2)) {
+        Request::Erase
+    } else {
+        Request::NotId(2)
+    }
+}
+
+// What a line asks for.
+pub fn read(line: &[u8]) -> Request
+    ensures { λ r. ⌜ r ≡ requestOf (now (line .entry)) ⌝ }
+    ensures { λ r. ⌜ idsIn r ≤ 65 ⌝ }
+{
+    let c = words::command_of(line::word(line, 0));
+    if !words::fit(c, line::count(line)) {
+        return Request::Misused(c);
+    }
+    match c {
+        Command::New => new(line),
+        Command::Key => Request::Key,
+        Command::Insert => insert(line),
+        Command::Find => Request::Find,
+        Command::Count => Request::Count,
+        Command::Erase => erase(line),
+        Command::Compact => Request::Compact,
+        Command::Show => Request::Show,
+        Command::Help => Request::Help(words::command_of(line::word(line, 1))),
+        Command::Unknown => Request::Misused(c),
+    }
+}

@@ -1,0 +1,92 @@
+// What each command takes, as bytes in a lent slice: for `help`, and for a line with too many words or too few.
+use buffer::put;
+use words::Command;
+ghost use Prim.Native.Nat.{_+_, _≤_};
+ghost use lib.ListN.{length};
+ghost use Rattle.buffer.specs.Put.{Put};
+ghost use Rattle.usage.specs.Usage.{usageLine, firstLines, helpText};
+
+const NEW: [u8; 132] =
+    *b"mazhkuri new STORE P M C S: makes a store for shares 0 to P (at most 15) with M entries, C counters and S log rows (1 to 4096 each)\n";
+
+const KEY: [u8; 79] =
+    *b"mazhkuri key KEYFILE: makes a key file of 32 random bytes, for its owner alone\n";
+
+const INSERT: [u8; 133] =
+    *b"mazhkuri insert STORE KEYFILE FIELD VALUE SHARE ID...: inserts 1 to 64 ids of 32 hex digits each; prints the new count of this share\n";
+
+const FIND: [u8; 66] = *b"mazhkuri find STORE KEYFILE FIELD VALUE: prints each id on a line\n";
+
+const COUNT: [u8; 105] =
+    *b"mazhkuri count STORE KEYFILE FIELD VALUE: prints how many ids were ever inserted, erased ones among them\n";
+
+const ERASE: [u8; 87] =
+    *b"mazhkuri erase STORE ID: erases an id from every field; prints how many entries it had\n";
+
+const COMPACT: [u8; 110] =
+    *b"mazhkuri compact STORE KEYFILE: frees counter and log rows; prints the anchors written and the counters freed\n";
+
+const SHOW: [u8; 82] =
+    *b"mazhkuri show STORE: prints the sizes of a store and how full it is; takes no key\n";
+
+const HELP: [u8; 53] = *b"mazhkuri help [COMMAND]: prints what a command takes\n";
+
+const UNKNOWN: [u8; 64] = *b"a command of: new key insert find count erase compact show help\n";
+
+const REFUSED: [u8; 95] =
+    *b"a refusal prints `refused` and its number to standard output, and what to do to standard error\n";
+
+// What a command takes.
+pub fn put_usage(to: &mut [u8], at: usize, c: Command) -> usize
+    requires { ⌜ at + 133 ≤ length (now to) ⌝ }
+    ensures { λ r. ⌜ (Put (now (to .entry)) at (usageLine c) (now (to .exit)) r) × (r ≤ at + 133) ⌝ }
+{
+    match c {
+        Command::New => put(to, at, &NEW),
+        Command::Key => put(to, at, &KEY),
+        Command::Insert => put(to, at, &INSERT),
+        Command::Find => put(to, at, &FIND),
+        Command::Count => put(to, at, &COUNT),
+        Command::Erase => put(to, at, &ERASE),
+        Command::Compact => put(to, at, &COMPACT),
+        Command::Show => put(to, at, &SHOW),
+        Command::Help => put(to, at, &HELP),
+        Command::Unknown => put(to, at, &UNKNOWN),
+    }
+}
+
+// What the commands that make files, and those that take a field, take.
+fn put_first(to: &mut [u8]) -> usize
+    requires { ⌜ 665 ≤ length (now to) ⌝ }
+    ensures { λ r. ⌜ (Put (now (to .entry)) 0 firstLines (now (to .exit)) r) × (r ≤ 665) ⌝ }
+{
+    let a = put(to, 0, &NEW);
+    let b = put(to, a, &KEY);
+    let c = put(to, b, &INSERT);
+    let d = put(to, c, &FIND);
+    put(to, d, &COUNT)
+}
+
+// What every command takes.
+fn put_all(to: &mut [u8]) -> usize
+    requires { ⌜ 1200 ≤ length (now to) ⌝ }
+    ensures { λ r. ⌜ Put (now (to .entry)) 0 (helpText Command.Unknown) (now (to .exit)) r ⌝ }
+{
+    let a = put_first(to);
+    let b = put(to, a, &ERASE);
+    let c = put(to, b, &COMPACT);
+    let d = put(to, c, &SHOW);
+    let e = put(to, d, &HELP);
+    put(to, e, &REFUSED)
+}
+
+// What `help` prints of a command; of none, every command.
+pub fn put_help(to: &mut [u8], c: Command) -> usize
+    requires { ⌜ 1200 ≤ length (now to) ⌝ }
+    ensures { λ r. ⌜ Put (now (to .entry)) 0 (helpText c) (now (to .exit)) r ⌝ }
+{
+    if let Command::Unknown = c {
+        return put_all(to);
+    }
+    put_usage(to, 0, c)
+}
