@@ -11,6 +11,7 @@ never reached, and runs interrupted by kill -9. What the tool leaves in a store 
 model (tests/model) too, which shares no code with it.
 """
 import argparse
+import concurrent.futures
 import hashlib
 import os
 import pathlib
@@ -21,7 +22,6 @@ import stat
 import subprocess
 import sys
 import tempfile
-import threading
 import time
 
 HERE = pathlib.Path(__file__).resolve().parent
@@ -366,9 +366,9 @@ def modes(b):
 
 def at_once(b, tools=4, each=25):
     """Tools that change one store at the same time: every insert is there once [01:SC6]."""
-    met = [0] * tools
-
     def work(t):
+        """One tool's inserts; how often it met the lock."""
+        met, until = 0, time.monotonic() + 60
         for n in range(each):
             words = ["insert", "store", "key", "hue", "red", t % 2, ident(1000 * t + n)]
             while True:
@@ -376,17 +376,19 @@ def at_once(b, tools=4, each=25):
                 if not out.startswith("refused"):
                     break
                 expect(out == "refused\n" and "another mazhkuri is changing this store" in err, f"at once: {out!r} {err!r}")
-                met[t] += 1
+                expect(time.monotonic() < until, "at once: the lock is never given back")
+                met += 1
+        return met
 
-    threads = [threading.Thread(target=work, args=(t,)) for t in range(tools)]
-    for t in threads:
-        t.start()
-    for t in threads:
-        t.join()
-    ids = sorted(ident(1000 * t + n) for t in range(tools) for n in range(each))
-    expect(sorted(b.found()) == ids, "at once: an update was lost")
+    with concurrent.futures.ThreadPoolExecutor(tools) as pool:
+        # a result is the thread's, its failure too
+        met = sum(done.result() for done in [pool.submit(work, t) for t in range(tools)])
+    ids, found = [ident(1000 * t + n) for t in range(tools) for n in range(each)], b.found()
+    lost = len(set(ids) - set(found))
+    expect(lost == 0 and sorted(found) == sorted(ids), f"at once: {lost} of {len(ids)} inserts lost, {len(found)} ids found")
     expect(b.answer("count", "store", "key", "hue", "red") == f"{len(ids)}\n", "at once: count")
-    print(f"  {tools} tools at once: {len(ids)} inserts, lock met {sum(met)} times, lost 0")
+    expect(met, "at once: no tool met another's lock")
+    print(f"  {tools} tools at once: {len(ids)} inserts, lock met {met} times, lost {lost}")
 
 
 STOP = """
@@ -504,7 +506,7 @@ def interrupted(b, kills):
         b.answer("insert", "store", "key", "hue", "red", 0, ident(10 ** 6 + n))
     usual = (time.monotonic() - began) / 5
     answered, unanswered = [ident(10 ** 6 + n) for n in range(5)], []
-    ended = locks = halves = compactions = checked = 0
+    ended = locks = halves = compactions = checked = lost = twice = 0
     for n in range(kills):
         if 300 <= n and n % 25 == 0 and 60 < time.monotonic() - began:
             kills = n
@@ -528,14 +530,16 @@ def interrupted(b, kills):
         if n % 25 == 24 or n == kills - 1:
             found = b.found()
             checked += len(answered)
-            expect(len(set(found)) == len(found), "interrupted: an id is there twice")
-            expect(set(answered) <= set(found), "interrupted: an id is lost")
+            lost += len(set(answered) - set(found))
+            twice += len(found) - len(set(found))
+            expect(lost == 0 and twice == 0, f"interrupted: {lost} ids are lost, {twice} are there twice")
             expect(set(found) <= set(answered) | set(unanswered), "interrupted: an id that was never given")
     b.answer("compact", "store", "key")
     expect(b.found() == b.model_finds(), "interrupted: the model finds something else")
     late = len(set(b.found()) & set(unanswered))
+    expect(ended and checked and unanswered, f"interrupted: {ended} runs ended by force, {checked} ids checked")
     print(f"  points interrupted {ended} of {kills} runs ({compactions} of them compactions): {locks} locks and {halves} unfinished files left")
-    print(f"  ids answered {len(answered)}, ids checked {checked}, lost 0, twice 0; inserts ended before their answer {len(unanswered)}, {late} of them made")
+    print(f"  ids answered {len(answered)}, ids checked {checked}, lost {lost}, twice {twice}; inserts ended before their answer {len(unanswered)}, {late} of them made")
 
 
 def main():
