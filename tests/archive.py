@@ -27,6 +27,7 @@ import compare  # noqa: E402
 import hostile  # noqa: E402
 import scheme  # noqa: E402
 from calls import Done, Refused  # noqa: E402
+from gate import left_out  # noqa: E402
 from hostile import FIELDS, KEY, Hostile  # noqa: E402
 from ledger import Ledger  # noqa: E402
 from primitives import Real  # noqa: E402
@@ -66,8 +67,9 @@ class Other(Real):
     """The model's suite: F as Python's hmac gives it, kept once computed; E of libcrypto, or the
     model's own where that is missing."""
 
+    libcrypto = libcrypto_cipher()
     F = staticmethod(functools.lru_cache(maxsize=1 << 18)(Real.F))
-    E = staticmethod(libcrypto_cipher() or Real.E)
+    E = staticmethod(libcrypto or Real.E)
 
 
 # The library
@@ -450,6 +452,8 @@ def main():
     given = options.parse_args()
     many = 10 if given.long else 1
     library = Library(pathlib.Path(given.library).resolve())
+    if not Other.libcrypto:
+        left_out("E of another implementation than the model's", "there is no libcrypto.so.3")
     text = bytes(range(200))
     if Other.E(KEY, bytes(12), text) != Real.E(KEY, bytes(12), text):
         print("archive.py: two implementations of the cipher differ")

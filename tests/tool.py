@@ -8,7 +8,8 @@ Tests: the worked list of document 01 ('A day in the ledger'), bad words, files 
 refusals from the state, the largest store on a small stack, a disk that is full, a folder that cannot
 be written, no randomness, links, owner and mode, several tools at once, each call of the system failing or
 never reached, and runs interrupted by kill -9. What the tool leaves in a store is read back by the
-model (tests/model) too, which shares no code with it.
+model (tests/model) too, which shares no code with it. A test that cannot be run here is left out with a
+line that says so; under the gate that is a failure.
 """
 import argparse
 import concurrent.futures
@@ -27,6 +28,7 @@ import time
 HERE = pathlib.Path(__file__).resolve().parent
 sys.path.insert(0, str(HERE / "model"))
 import scheme  # noqa: E402
+from gate import left_out  # noqa: E402
 from primitives import Real  # noqa: E402
 
 BUILT = HERE.parent / "target" / "bin" / "mazhkuri"
@@ -272,23 +274,25 @@ def no_room(b):
             b.refused(words, "refused", "cannot write store.new: File too large", restore_signals=False,
                       preexec_fn=lambda: resource.setrlimit(resource.RLIMIT_FSIZE, (limit, limit)))
     tried = ["a limit on a file's size"]
-    disk = b.folder / "disk"
-    disk.mkdir()
-    if os.geteuid() == 0 and subprocess.run(["mount", "-t", "tmpfs", "-o", "size=8k", "tmpfs", disk], capture_output=True).returncode == 0:
+    room = b.folder / "disk"
+    room.mkdir()
+    if os.geteuid() == 0 and shutil.which("mount") and subprocess.run(["mount", "-t", "tmpfs", "-o", "size=8k", "tmpfs", room], capture_output=True).returncode == 0:
         try:
-            shutil.copy(b.store, disk / "store")
-            before = (disk / "store").read_bytes()
+            shutil.copy(b.store, room / "store")
+            before = (room / "store").read_bytes()
             for n in range(2):
                 try:
-                    (disk / f"filler{n}").write_bytes(b"x" * 4096)
+                    (room / f"filler{n}").write_bytes(b"x" * 4096)
                 except OSError:
                     pass
             out, err = b.run("insert", "disk/store", "key", "hue", "red", 0, ident(2))
             expect(out == "refused\n" and "No space left" in err, f"a full disk: {out!r} {err!r}")
-            expect((disk / "store").read_bytes() == before, "a full disk: the store changed")
+            expect((room / "store").read_bytes() == before, "a full disk: the store changed")
             tried.append("a full file system")
         finally:
-            subprocess.run(["umount", disk], check=True)
+            subprocess.run(["umount", room], check=True)
+    else:
+        left_out("a full file system", "only root can mount one, and where mount is allowed")
     if os.geteuid() == 0:
         os.chmod(b.key, 0o644)
         for words in changing:
@@ -298,14 +302,18 @@ def no_room(b):
         os.chmod(b.key, 0o600)
         b.refused(["find", "store", "key", "hue", "red"], "refused", "cannot open key: Permission denied", user=NOBODY)
         tried.append("a folder that may not be written")
+    else:
+        left_out("a folder that may not be written", "only root can run the tool as another user")
     if shutil.which("cc"):
-        source, shim = b.folder / "no.c", b.folder / "no.so"
+        source, none = b.folder / "no.c", b.folder / "no.so"
         source.write_text("int getentropy(void *p, unsigned long n) { return -1; }\n")
-        subprocess.run(["cc", "-shared", "-fPIC", "-o", shim, source], check=True)
+        subprocess.run(["cc", "-shared", "-fPIC", "-o", none, source], check=True)
         for words in changing[:1] + changing[2:] + [["key", "key3"]]:
-            b.refused(words, "refused", "cannot get random bytes", env={"LD_PRELOAD": str(shim)})
+            b.refused(words, "refused", "cannot get random bytes", env={"LD_PRELOAD": str(none)})
         expect(not (b.folder / "key3").exists(), "a key of no randomness")
         tried.append("no randomness")
+    else:
+        left_out("no randomness", "there is no cc")
     print("  store unchanged under: " + ", ".join(tried))
 
 
@@ -352,6 +360,8 @@ def modes(b):
         kept(0o6664, 0, 12, (NOBODY, 12, 0o664), **nobody)
         kept(0o6664, 0, 13, (NOBODY, NOBODY, 0o600), **nobody)
         kept(0o664, NOBODY, 13, (NOBODY, NOBODY, 0o600), **nobody)
+    else:
+        left_out("stores of other owners", "only root can make them")
     if shutil.which("cc"):
         # a file that others may open when its mode is set could be read by them later
         source, shim = b.folder / "early.c", b.folder / "early.so"
@@ -361,6 +371,8 @@ def modes(b):
         subprocess.run(["cc", "-w", "-shared", "-fPIC", "-o", shim, source], check=True)
         kept(0o600, me, mine, (me, mine, 0o600), umask=0o022, env={"LD_PRELOAD": str(shim)})
         expect(b.run("key", "key2", umask=0o022, env={"LD_PRELOAD": str(shim)}) == ("", ""), "a key is never open to others")
+    else:
+        left_out("a file is never open to others", "there is no cc")
     expect(not [p.name for p in b.folder.iterdir() if p.suffix in (".new", ".lock") or len(p.suffix) == 7], "modes: something is left behind")
 
 
@@ -453,8 +465,7 @@ def every_point(b):
     """Before each call of the system that a command makes: ended by kill -9 there, or with that call failing. The store is the
     old one or the new one, the new one where an answer was printed, the old one where the command was refused."""
     if not shutil.which("cc"):
-        print("  left out: there is no cc")
-        return
+        return left_out("every point", "there is no cc")
     source, shim = b.folder / "stop.c", b.folder / "stop.so"
     source.write_text(STOP)
     subprocess.run(["cc", "-Wall", "-Werror", "-Wno-nonnull-compare", "-shared", "-fPIC", "-o", shim, source, "-ldl"], check=True)
