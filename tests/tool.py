@@ -1,19 +1,21 @@
 #!/usr/bin/env python3
 """The command-line tool from outside: the built program target/bin/mazhkuri on files.
 
-  tool.py                 every test, 5 to 70 seconds
+  tool.py                 every test, 10 to 80 seconds
   tool.py --kills N       with as many interrupted runs (default 1000; 300 where they take more than a minute)
+  tool.py --only NAME     one test, by the name that its last line has
 
 Tests: the worked list of document 01 ('A day in the ledger'), bad words, files that are no store,
 refusals from the state, the largest store on a small stack, a disk that is full, a folder that cannot
 be written, no randomness, links, owner and mode, several tools at once, each call of the system failing or
-never reached, and runs interrupted by kill -9. What the tool leaves in a store is read back by the
-model (tests/model) too, which shares no code with it. A test that cannot be run here is left out with a
-line that says so; under the gate that is a failure.
+never reached, and runs interrupted by kill -9. What the tool leaves
+in a store is read back by the model (tests/model) too, which shares no code with it. A test that cannot be
+run here is left out with a line that says so; under the gate that is a failure.
 """
 import argparse
 import concurrent.futures
 import hashlib
+import itertools
 import os
 import pathlib
 import random
@@ -27,6 +29,7 @@ import time
 
 HERE = pathlib.Path(__file__).resolve().parent
 sys.path.insert(0, str(HERE / "model"))
+import disk  # noqa: E402
 import scheme  # noqa: E402
 from gate import left_out  # noqa: E402
 from primitives import Real  # noqa: E402
@@ -34,6 +37,7 @@ from primitives import Real  # noqa: E402
 BUILT = HERE.parent / "target" / "bin" / "mazhkuri"
 NOBODY = 65534
 checks = 0
+shim = None  # tests/calls.c, compiled
 
 
 def expect(holds, what):
@@ -68,6 +72,17 @@ class Bench:
 
     def run(self, *words, **more):
         return self.start(*words, **more).communicate(timeout=60)
+
+    def watched(self, words, at=0, fail=False, **more):
+        """A run with tests/calls.c before its calls of the system, ended before call `at`, or with that call failing: what it
+        printed and said, its exit status, and its calls."""
+        log = shim.parent / "log"
+        log.unlink(missing_ok=True)
+        run = self.start(*words, env={"LD_PRELOAD": str(shim), "LOG": str(log), "AT": str(at), **({"FAIL": "1"} if fail else {})}, **more)
+        out, err = run.communicate(timeout=60)
+        calls = disk.calls_in(log) if log.exists() else []
+        expect(calls and calls[0].name == "loaded", f"{words}: tests/calls.c was not loaded")
+        return out, err, run.returncode, calls[1:]
 
     def answer(self, *words):
         """The answer of a run that says nothing else."""
@@ -362,15 +377,15 @@ def modes(b):
         kept(0o664, NOBODY, 13, (NOBODY, NOBODY, 0o600), **nobody)
     else:
         left_out("stores of other owners", "only root can make them")
-    if shutil.which("cc"):
+    if shim:
         # a file that others may open when its mode is set could be read by them later
-        source, shim = b.folder / "early.c", b.folder / "early.so"
-        source.write_text("#include <sys/stat.h>\n#include <sys/syscall.h>\n#include <unistd.h>\n"
-                          "int fchmod(int fd, mode_t mode) { struct stat s; if (fstat(fd, &s) || (s.st_mode & 077)) write(2, \"open to others\\n\", 15);\n"
-                          "    return syscall(SYS_fchmod, fd, mode); }\n")
-        subprocess.run(["cc", "-w", "-shared", "-fPIC", "-o", shim, source], check=True)
-        kept(0o600, me, mine, (me, mine, 0o600), umask=0o022, env={"LD_PRELOAD": str(shim)})
-        expect(b.run("key", "key2", umask=0o022, env={"LD_PRELOAD": str(shim)}) == ("", ""), "a key is never open to others")
+        os.chown(b.store, me, mine)
+        os.chmod(b.store, 0o600)
+        for words in (["insert", "store", "key", "hue", "red", 0, ident(1)], ["erase", "store", ident(1)], ["compact", "store", "key"], ["key", "key2"]):
+            out, err, _, calls = b.watched(words, umask=0o022)
+            expect(err == "" and not out.startswith("refused"), f"modes: {words}: {out!r} {err!r}")
+            before = [int(c.words[1], 8) for c in calls if c.name == "fchmod"]
+            expect(before and not any(mode & 0o077 for mode in before), f"modes: {words}: open to others before its mode is set: {before}")
     else:
         left_out("a file is never open to others", "there is no cc")
     expect(not [p.name for p in b.folder.iterdir() if p.suffix in (".new", ".lock") or len(p.suffix) == 7], "modes: something is left behind")
@@ -403,72 +418,55 @@ def at_once(b, tools=4, each=25):
     print(f"  {tools} tools at once: {len(ids)} inserts, lock met {met} times, lost {lost}")
 
 
-STOP = """
-#define _GNU_SOURCE
-#include <dlfcn.h>
-#include <errno.h>
-#include <fcntl.h>
-#include <signal.h>
-#include <stdarg.h>
-#include <stdlib.h>
-#include <sys/stat.h>
-#include <unistd.h>
-/* Ends the process before its AT-th call of the system, or lets that call fail where FAIL is set. */
-static int due(void) {
-  static int calls;
-  if (++calls != atoi(getenv("AT"))) return 0;
-  if (getenv("FAIL")) return errno = EIO, 1;
-  return kill(getpid(), SIGKILL), 1;
-}
-#define CALL(type, name, parameters, arguments) \\
-  type name parameters { return due() ? -1 : ((type (*) parameters)dlsym(RTLD_NEXT, #name)) arguments; }
-CALL(int, close, (int fd), (fd))
-CALL(int, fchmod, (int fd, mode_t mode), (fd, mode))
-CALL(int, fchown, (int fd, uid_t owner, gid_t group), (fd, owner, group))
-CALL(int, fstat, (int fd, struct stat *to), (fd, to))
-CALL(int, fsync, (int fd), (fd))
-CALL(int, getentropy, (void *to, size_t n), (to, n))
-CALL(int, mkstemp, (char *name), (name))
-CALL(ssize_t, readlink, (const char *name, char *to, size_t n), (name, to, n))
-CALL(ssize_t, read, (int fd, void *to, size_t n), (fd, to, n))
-CALL(ssize_t, write, (int fd, const void *from, size_t n), (fd, from, n))
-CALL(int, rename, (const char *from, const char *to), (from, to))
-CALL(int, unlink, (const char *name), (name))
-int open(const char *name, int flags, ...) {
-  va_list more;
-  va_start(more, flags);
-  mode_t mode = va_arg(more, int);
-  va_end(more);
-  return due() ? -1 : ((int (*)(const char *, int, ...))dlsym(RTLD_NEXT, "open"))(name, flags, mode);
-}
-"""
+# For each changing command how many calls of the system it makes at least, and which must be among them.
+REPLACING = {"readlink", "open", "read", "close", "fstat", "mkstemp", "fchown", "fchmod", "write", "fsync", "rename", "unlink"}
+MAKES = {"insert": (30, REPLACING | {"getentropy"}), "erase": (20, REPLACING), "compact": (25, REPLACING | {"getentropy"}),
+         "new": (12, {"readlink", "open", "write", "fsync", "close", "rename", "unlink"}),
+         "key": (10, {"getentropy", "open", "mkstemp", "rename", "fchmod", "write", "fsync", "close"})}
 
 
-def points(b, shim, words, clean, check):
-    """Runs the command once for each call of the system that it makes: ended before it, then with that call failing. Gives
-    how many calls there are."""
-    for fail in ({}, {"FAIL": "1"}):
-        at, met = 0, True
-        while met:
-            at += 1
-            clean()
-            run = b.start(*words, env={"LD_PRELOAD": str(shim), "AT": str(at), **fail})
-            out, err = run.communicate(timeout=60)
-            check(f"{words}, {'failing' if fail else 'ended before'} call {at}", out, err, bool(fail))
-            met = at < calls if fail else run.returncode == -9
-            if not fail:
-                calls = at - 1 + met
-    return calls
+def compiled(folder):
+    """tests/calls.c as a library to preload. It stands before every call of the system that the program names."""
+    library = pathlib.Path(folder) / "calls.so"
+    subprocess.run(["cc", "-Wall", "-Werror", "-Wno-nonnull-compare", "-shared", "-fPIC", "-o", library, HERE / "calls.c", "-ldl"], check=True)
+
+    def names(*words):
+        lines = subprocess.run(["nm", "-D", "-P", *words], check=True, capture_output=True, text=True).stdout.splitlines()
+        return {line.split()[0].split("@")[0] for line in lines}
+
+    # what is no call of the system
+    others = {"memcpy", "memset", "__errno_location", "__xpg_strerror_r", "__libc_start_main", "__cxa_finalize", "__gmon_start__",
+              "_ITM_registerTMCloneTable", "_ITM_deregisterTMCloneTable"}
+    called = names("--undefined-only", BUILT) - others
+    unseen = called - names("--defined-only", library)
+    expect(called and not unseen, f"tests/calls.c does not stand before {unseen or 'any call'}")
+    return library
+
+
+def points(b, words, clean, check):
+    """Runs the command once whole, then once for each call of the system that it makes: ended before it, then with that call
+    failing. Gives how many calls there are."""
+    clean()
+    out, err, status, calls = b.watched(words)
+    made = [c.name for c in calls]
+    least, among = MAKES[words[0]]
+    expect(status == 0 and least <= len(made) and among <= set(made), f"{words}: the calls are {made}")
+    check(f"{words}, whole", out, err, False)
+    for fail, (at, call) in itertools.product((False, True), enumerate(calls, 1)):
+        clean()
+        out, err, status, now = b.watched(words, at, fail)
+        where = f"{words}, {'failing' if fail else 'ended before'} call {at}, {call.name}"
+        expect([c.name for c in now[:at]] == made[:at if fail else at - 1], f"{where}: other calls before it: {[c.name for c in now]}")
+        expect(now[at - 1].told == -1 if fail else status == -9 and len(now) == at - 1, f"{where}: it was not met")
+        check(where, out, err, fail)
+    return len(calls)
 
 
 def every_point(b):
     """Before each call of the system that a command makes: ended by kill -9 there, or with that call failing. The store is the
     old one or the new one, the new one where an answer was printed, the old one where the command was refused."""
-    if not shutil.which("cc"):
+    if not shim:
         return left_out("every point", "there is no cc")
-    source, shim = b.folder / "stop.c", b.folder / "stop.so"
-    source.write_text(STOP)
-    subprocess.run(["cc", "-Wall", "-Werror", "-Wno-nonnull-compare", "-shared", "-fPIC", "-o", shim, source, "-ldl"], check=True)
     inserted = ["insert", "store", "key", "hue", "red", 0]
     b.answer(*inserted, ident(1), ident(2))
     begin, calls = b.store.read_bytes(), 0
@@ -495,7 +493,7 @@ def every_point(b):
             expect(out in ("", "refused\n", answer), f"{where}: {out!r}")
             expect(err or not fail or now == new, f"{where}: nothing is said")
 
-        calls += points(b, shim, words, clean, check)
+        calls += points(b, words, clean, check)
     for words, size in ((["new", "store2", 1, 4, 4, 4], scheme.length_of(4, 4, 4)), (["key", "key2"], 32)):
         made = b.folder / words[1]
 
@@ -505,7 +503,7 @@ def every_point(b):
             expect(out != "refused\n" or not made.exists(), f"{where}: refused and made")
             expect(err or not fail or made.stat().st_size == size, f"{where}: nothing is said")
 
-        calls += points(b, shim, words, clean, check)
+        calls += points(b, words, clean, check)
     print(f"  every point: ended before each of {calls} calls of the system, and each of these failing; never half a change")
 
 
@@ -556,19 +554,27 @@ def interrupted(b, kills):
 def main():
     options = argparse.ArgumentParser()
     options.add_argument("--kills", type=int, default=1000)
-    kills = options.parse_args().kills
+    options.add_argument("--only")
+    given = options.parse_args()
+    kills = given.kills
+    global shim
     if not BUILT.exists():
         sys.exit("tests/tool.py: there is no target/bin/mazhkuri: run `rt check mazhkuri` first")
     tests = [("the worked list", worked_list, [1, 4, 4, 4]), ("bad words", bad_words, [1, 4, 4, 4]), ("files that are no store", no_stores, [1, 4, 4, 4]),
              ("refusals from the state", states, [0, 8, 4, 2]), ("the largest store", small_stack, [15, 4096, 4096, 4096]),
              ("writes that fail", lambda b: (b.answer("insert", "store", "key", "hue", "red", 0, ident(1)), no_room(b)), [1, 8, 8, 8]),
              ("links", links, [1, 4, 4, 4]), ("modes", modes, [1, 64, 64, 64]), ("tools at once", at_once, [1, 200, 200, 200]),
-             ("every point", every_point, [1, 16, 16, 16]), ("kill -9", lambda b: interrupted(b, kills), [1, 4096, 512, 512])]
-    for name, test, sizes in tests:
-        with tempfile.TemporaryDirectory() as folder:
-            before, began = checks, time.monotonic()
-            test(Bench(folder, sizes))
-            print(f"tests/tool.py: {name}: {checks - before} checks passed in {time.monotonic() - began:.1f} s", flush=True)
+             ("every point", every_point, [1, 16, 16, 16]),
+             ("kill -9", lambda b: interrupted(b, kills), [1, 4096, 512, 512])]
+    with tempfile.TemporaryDirectory() as beside:
+        shim = compiled(beside) if shutil.which("cc") and shutil.which("nm") else None
+        chosen = [t for t in tests if given.only in (None, t[0])]
+        expect(chosen, f"there is no test {given.only}")
+        for name, test, sizes in chosen:
+            with tempfile.TemporaryDirectory() as folder:
+                before, began = checks, time.monotonic()
+                test(Bench(folder, sizes))
+                print(f"tests/tool.py: {name}: {checks - before} checks passed in {time.monotonic() - began:.1f} s", flush=True)
 
 
 main()
