@@ -8,7 +8,7 @@
 Tests: the worked list of document 01 ('A day in the ledger'), bad words, files that are no store,
 refusals from the state, the largest store on a small stack, a disk that is full, a folder that cannot
 be written, no randomness, links, owner and mode, several tools at once, each call of the system failing or
-never reached, and runs interrupted by kill -9. What the tool leaves
+never reached, every state that a power cut may leave, and runs interrupted by kill -9. What the tool leaves
 in a store is read back by the model (tests/model) too, which shares no code with it. A test that cannot be
 run here is left out with a line that says so; under the gate that is a failure.
 """
@@ -83,6 +83,18 @@ class Bench:
         calls = disk.calls_in(log) if log.exists() else []
         expect(calls and calls[0].name == "loaded", f"{words}: tests/calls.c was not loaded")
         return out, err, run.returncode, calls[1:]
+
+    def files(self):
+        """What is in the folder beside the program."""
+        found = {str(p.relative_to(self.folder)): p for p in self.folder.rglob("*") if p != self.program and p.is_file()}
+        return {name: path.read_bytes() for name, path in found.items()}
+
+    def lay(self, files):
+        """Makes these the files of the folder."""
+        for name in self.files():
+            (self.folder / name).unlink()
+        for name, content in files.items():
+            (self.folder / name).write_bytes(content)
 
     def answer(self, *words):
         """The answer of a run that says nothing else."""
@@ -507,6 +519,82 @@ def every_point(b):
     print(f"  every point: ended before each of {calls} calls of the system, and each of these failing; never half a change")
 
 
+def wrong_states(states, name, old, new):
+    """The states in which the file is neither the old one nor the new one, or not the new one though there was an answer."""
+    return [dict(s) for s, answered in states.items() if dict(s).get(name) not in ((new,) if answered else (old, new))]
+
+
+def power_cut(b):
+    """What a changing command answers is safe: it writes the new file, syncs it, renames it, syncs the folder, then answers. And
+    whatever a power cut leaves on the way, the tool finds the old store or the new one, the new one once there was an answer."""
+    if not shim:
+        return left_out("power cuts", "there is no cc")
+    insert = ["insert", "store", "key", "hue", "red", 0]
+    b.answer(*insert, ident(1), ident(2))
+    begin, met = b.files(), {}
+    answering, silent = ["write", "sync", "rename", "sync folder", "answer"], ["write", "sync", "rename", "sync folder"]
+
+    def ordered(words, name, order):
+        """The whole run of a command, held to the order; the disk's states after each call, and what the run printed."""
+        before = b.files()
+        out, err, _, calls = b.watched(words)
+        expect(err == "" and not out.startswith("refused"), f"{words}: {out!r} {err!r}")
+        last, states = disk.cuts(b.folder, before, calls)
+        expect(last.files() == b.files(), f"{words}: the calls told give other files than there are")
+        folder, file = os.path.dirname(name) or ".", last.names[name]
+        steps = [s[0] for s in last.steps if s in (("write", file), ("sync", file), ("rename", file, name), ("sync folder", folder), ("answer",))]
+        expect([s for s, _ in itertools.groupby(steps)] == order, f"{words}: the order is {steps}, expected {order}")
+        return out, calls, states
+
+    def unsynced(words, out, calls, stands):
+        """A folder that cannot be synced: the change stands and is answered, and a message says what was not had."""
+        sync = max(n for n, c in enumerate(calls, 1) if c.name == "fsync")
+        opened = max(n for n, c in enumerate(calls[:sync], 1) if c.name == "open")
+        for at, said in ((sync, "sync (the change is made)"), (opened, "open, to sync it (the change is made),")):
+            b.lay(begin)
+            told = b.watched(words, at, fail=True)[:2]
+            expect(told == (out, f"cannot {said} .: Input/output error\n"), f"{words}: a folder that cannot be synced: {told}")
+            expect(stands(b.files()), f"{words}: a folder that cannot be synced: the change does not stand")
+
+    with tempfile.TemporaryDirectory() as folder:
+        cut = Bench(folder, None)
+
+        def view(files):
+            cut.lay(files)
+            return [cut.run(*words) for words in (["show", "store"], ["find", "store", "key", "hue", "red"], ["show", "store2"])]
+
+        for words, name, order in ((insert + [ident(3)], "store", answering), (["erase", "store", ident(1)], "store", answering),
+                                   (["compact", "store", "key"], "store", answering), (["new", "store2", 1, 4, 4, 4], "store2", silent)):
+            b.lay(begin)
+            out, calls, states = ordered(words, name, order)
+            end = b.files()
+            old, new = begin.get(name), end[name]
+            expect(old != new, f"{words} changes nothing")
+            for n, call in enumerate(calls):
+                # the states are able to show it: each sync that is left out leaves a wrong one
+                if call.name == "fsync":
+                    lacking = disk.cuts(b.folder, begin, calls[:n] + calls[n + 1:])[1]
+                    expect(wrong_states(lacking, name, old, new), f"{words}: no state shows that a sync is missing")
+            expect(not wrong_states(states, name, old, new), f"{words}: a cut leaves neither the old file nor the new one")
+            views = {answered: [view(end)] if answered else [view(begin), view(end)] for answered in (False, True)}
+            for state, answered in states.items():
+                expect(view(dict(state)) in views[answered], f"{words}: after a power cut the tool finds another store: {sorted(dict(state))}")
+                for lock in cut.folder.glob("*.lock"):
+                    lock.unlink()
+                again, told = (words, out) if dict(state).get(name) == old else (["erase", "store", ident(2)], "1\n")
+                expect(cut.answer(*again) == told, f"{words}: after a power cut: the next change")
+                met[answered] = met.get(answered, 0) + 1
+            unsynced(words, out, calls, lambda files: view(files) in views[True])
+    b.lay(begin)
+    out, calls, _ = ordered(["key", "key2"], "key2", ["rename", "write", "sync", "sync folder"])
+    unsynced(["key", "key2"], out, calls, lambda files: len(files["key2"]) == 32)
+    (b.folder / "sub").mkdir()
+    for word, name in (("sub/store", "sub/store"), (b.folder / "store", "store")):
+        b.lay({**begin, name: begin["store"]})
+        ordered(["erase", word, ident(1)], name, answering)
+    print(f"  power cut: {met[False]} states before an answer, each the old store or the new one, {met[True]} after it, each the new one")
+
+
 def interrupted(b, kills):
     """Runs ended by kill -9 after a random time: what was answered is there, once."""
     r = random.Random(7)
@@ -564,7 +652,7 @@ def main():
              ("refusals from the state", states, [0, 8, 4, 2]), ("the largest store", small_stack, [15, 4096, 4096, 4096]),
              ("writes that fail", lambda b: (b.answer("insert", "store", "key", "hue", "red", 0, ident(1)), no_room(b)), [1, 8, 8, 8]),
              ("links", links, [1, 4, 4, 4]), ("modes", modes, [1, 64, 64, 64]), ("tools at once", at_once, [1, 200, 200, 200]),
-             ("every point", every_point, [1, 16, 16, 16]),
+             ("every point", every_point, [1, 16, 16, 16]), ("power cut", power_cut, [1, 16, 16, 16]),
              ("kill -9", lambda b: interrupted(b, kills), [1, 4096, 512, 512])]
     with tempfile.TemporaryDirectory() as beside:
         shim = compiled(beside) if shutil.which("cc") and shutil.which("nm") else None
