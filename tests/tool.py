@@ -178,6 +178,10 @@ def bad_words(b):
     b.refused(["count", "store", "key", "hue", "v" * 1025], "refused 2", "2: FIELD")
     b.refused(["count", "store", "key", "hue", "v" * 4097], "refused", "File name too long")
     expect(b.answer("count", "store", "key", "f" * 255, "v" * 1024) == "0\n", "the longest field")
+    for path in ("s" * n for n in (4090, 4096, 4097)):
+        for words in (["show", path], ["find", "store", path, "hue", "red"], ["erase", path, a], ["insert", path, "key", "hue", "red", 0, a],
+                      ["compact", path, "key"], ["new", path, 1, 4, 4, 4], ["key", path]):
+            b.refused(words, "refused", "File name too long")
     b.refused(["new", "store", 1, 4, 4, 4], "refused", "there already")
     for sizes in ([16, 4, 4, 4], [1, 0, 4, 4], [1, 4, 4097, 4], [1, 4, 4, 99999]):
         b.refused(["new", "other", *sizes], "refused 7", "7: P must be 0 to 15")
