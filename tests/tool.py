@@ -176,7 +176,9 @@ def bad_words(b):
     b.refused(["find", "store", "key", "", "red"], "refused 2", "2: FIELD")
     b.refused(["find", "store", "key", "f" * 256, "red"], "refused 2", "2: FIELD")
     b.refused(["count", "store", "key", "hue", "v" * 1025], "refused 2", "2: FIELD")
-    b.refused(["count", "store", "key", "hue", "v" * 4097], "refused", "File name too long")
+    for n in (4096, 4097, 60000):
+        b.refused(["count", "store", "key", "hue", "v" * n], "refused 2", "2: FIELD")
+    b.refused(["count", "store", "key", "hue", "v" * 70000], "refused", "\n")
     expect(b.answer("count", "store", "key", "f" * 255, "v" * 1024) == "0\n", "the longest field")
     for path in ("s" * n for n in (4090, 4096, 4097)):
         for words in (["show", path], ["find", "store", path, "hue", "red"], ["erase", path, a], ["insert", path, "key", "hue", "red", 0, a],
