@@ -1,7 +1,7 @@
-"""The static library against the model, through the C interface: hash, F and E; random lists of
-calls against the model store and the model ledger; calls on hostile stores against the model store.
-Expected values come from tests/model, Python's hashlib and hmac, and OpenSSL's libcrypto, never from
-our own code. Exit status 1 at the first difference.
+"""The static library against the model, through the C interface: hash, F and E, on published vectors too;
+random lists of calls against the model store and the model ledger; calls on hostile stores against the
+model store. Expected values come from tests/model, Python's hashlib and hmac, OpenSSL's libcrypto and
+published files, never from our own code. Exit status 1 at the first difference.
 
   archive.py LIBRARY [--lists N] [--hostile N] [--seed N] [--long]
 
@@ -26,7 +26,9 @@ import calls  # noqa: E402
 import compare  # noqa: E402
 import hostile  # noqa: E402
 import scheme  # noqa: E402
+import vectors  # noqa: E402
 from calls import Done, Refused  # noqa: E402
+from gate import left_out  # noqa: E402
 from hostile import FIELDS, KEY, Hostile  # noqa: E402
 from ledger import Ledger  # noqa: E402
 from primitives import Real  # noqa: E402
@@ -66,8 +68,9 @@ class Other(Real):
     """The model's suite: F as Python's hmac gives it, kept once computed; E of libcrypto, or the
     model's own where that is missing."""
 
+    libcrypto = libcrypto_cipher()
     F = staticmethod(functools.lru_cache(maxsize=1 << 18)(Real.F))
-    E = staticmethod(libcrypto_cipher() or Real.E)
+    E = staticmethod(libcrypto or Real.E)
 
 
 # The library
@@ -186,6 +189,30 @@ def primitives(library, generator):
                 same("E, lengths %d, %d, %d" % (k, n, t), library.chacha20(key, nonce, text), told)
                 tried += 1
     return "%d calls" % tried
+
+
+def published(library):
+    """What is published: the vectors of the program crates/vectors, NIST's key derivations, and NIST's Monte Carlo
+    test of SHA-256, a chain of hashes, each of the three before it, of which every thousandth is given [01:KF7]."""
+    calls_of = {vectors.HASH: library.sha256, vectors.MAC: library.hmac, vectors.CIPHER: library.chacha20}
+    tried = 0
+    for part in vectors.PUBLISHED + [vectors.published_derivations]:
+        for kind, strings, line in part():
+            arguments = [s.bytes for s in strings] + ([] if kind == vectors.CIPHER else [bytes(32)])
+            told, output = calls_of[kind](*arguments)
+            same(part.__name__, (told, vectors.told(output)), (0, line))
+            tried += 1
+    seed, *rest = vectors.entries(vectors.package_file("/SHA2/SHA256Monte.rsp"))
+    start = bytes.fromhex(seed["Seed"])
+    for entry in rest:
+        three = [start] * 3
+        for _ in range(1000):
+            three = three[1:] + [library.sha256(b"".join(three), bytes(32))[1]]
+        start = three[2]
+        same("the Monte Carlo test, %s" % entry["COUNT"], start.hex(), entry["MD"])
+    if tried < 900 or len(rest) != 100:
+        raise Difference("the published files are not what they were: %d and %d entries" % (tried, len(rest)))
+    return "%d vectors, %d thousand hashes of the Monte Carlo test" % (tried, len(rest))
 
 
 # Tokens and calls
@@ -450,11 +477,14 @@ def main():
     given = options.parse_args()
     many = 10 if given.long else 1
     library = Library(pathlib.Path(given.library).resolve())
+    if not Other.libcrypto:
+        left_out("E of another implementation than the model's", "there is no libcrypto.so.3")
     text = bytes(range(200))
     if Other.E(KEY, bytes(12), text) != Real.E(KEY, bytes(12), text):
         print("archive.py: two implementations of the cipher differ")
         return 1
     parts = [("hash, F and E", lambda: primitives(library, random.Random(given.seed))),
+             ("published vectors", lambda: published(library)),
              ("the largest store", lambda: large(library, given.seed)),
              ("lists", lambda: lists(library, many * given.lists, given.seed)),
              ("hostile stores", lambda: hostile_stores(library, many * given.hostile, given.seed))]

@@ -1,17 +1,21 @@
 #!/usr/bin/env python3
 """The command-line tool from outside: the built program target/bin/mazhkuri on files.
 
-  tool.py                 every test, 5 to 70 seconds
+  tool.py                 every test, 10 to 80 seconds
   tool.py --kills N       with as many interrupted runs (default 1000; 300 where they take more than a minute)
+  tool.py --only NAME     one test, by the name that its last line has
 
 Tests: the worked list of document 01 ('A day in the ledger'), bad words, files that are no store,
 refusals from the state, the largest store on a small stack, a disk that is full, a folder that cannot
 be written, no randomness, links, owner and mode, several tools at once, each call of the system failing or
-never reached, and runs interrupted by kill -9. What the tool leaves in a store is read back by the
-model (tests/model) too, which shares no code with it.
+never reached, every state that a power cut may leave, and runs interrupted by kill -9. What the tool leaves
+in a store is read back by the model (tests/model) too, which shares no code with it. A test that cannot be
+run here is left out with a line that says so; under the gate that is a failure.
 """
 import argparse
+import concurrent.futures
 import hashlib
+import itertools
 import os
 import pathlib
 import random
@@ -21,17 +25,19 @@ import stat
 import subprocess
 import sys
 import tempfile
-import threading
 import time
 
 HERE = pathlib.Path(__file__).resolve().parent
 sys.path.insert(0, str(HERE / "model"))
+import disk  # noqa: E402
 import scheme  # noqa: E402
+from gate import left_out  # noqa: E402
 from primitives import Real  # noqa: E402
 
 BUILT = HERE.parent / "target" / "bin" / "mazhkuri"
 NOBODY = 65534
 checks = 0
+shim = None  # tests/calls.c, compiled
 
 
 def expect(holds, what):
@@ -66,6 +72,29 @@ class Bench:
 
     def run(self, *words, **more):
         return self.start(*words, **more).communicate(timeout=60)
+
+    def watched(self, words, at=0, fail=False, **more):
+        """A run with tests/calls.c before its calls of the system, ended before call `at`, or with that call failing: what it
+        printed and said, its exit status, and its calls."""
+        log = shim.parent / "log"
+        log.unlink(missing_ok=True)
+        run = self.start(*words, env={"LD_PRELOAD": str(shim), "LOG": str(log), "AT": str(at), **({"FAIL": "1"} if fail else {})}, **more)
+        out, err = run.communicate(timeout=60)
+        calls = disk.calls_in(log) if log.exists() else []
+        expect(calls and calls[0].name == "loaded", f"{words}: tests/calls.c was not loaded")
+        return out, err, run.returncode, calls[1:]
+
+    def files(self):
+        """What is in the folder beside the program."""
+        found = {str(p.relative_to(self.folder)): p for p in self.folder.rglob("*") if p != self.program and p.is_file()}
+        return {name: path.read_bytes() for name, path in found.items()}
+
+    def lay(self, files):
+        """Makes these the files of the folder."""
+        for name in self.files():
+            (self.folder / name).unlink()
+        for name, content in files.items():
+            (self.folder / name).write_bytes(content)
 
     def answer(self, *words):
         """The answer of a run that says nothing else."""
@@ -147,8 +176,14 @@ def bad_words(b):
     b.refused(["find", "store", "key", "", "red"], "refused 2", "2: FIELD")
     b.refused(["find", "store", "key", "f" * 256, "red"], "refused 2", "2: FIELD")
     b.refused(["count", "store", "key", "hue", "v" * 1025], "refused 2", "2: FIELD")
-    b.refused(["count", "store", "key", "hue", "v" * 4097], "refused", "File name too long")
+    for n in (4096, 4097, 60000):
+        b.refused(["count", "store", "key", "hue", "v" * n], "refused 2", "2: FIELD")
+    b.refused(["count", "store", "key", "hue", "v" * 70000], "refused", "\n")
     expect(b.answer("count", "store", "key", "f" * 255, "v" * 1024) == "0\n", "the longest field")
+    for path in ("s" * n for n in (4090, 4096, 4097)):
+        for words in (["show", path], ["find", "store", path, "hue", "red"], ["erase", path, a], ["insert", path, "key", "hue", "red", 0, a],
+                      ["compact", path, "key"], ["new", path, 1, 4, 4, 4], ["key", path]):
+            b.refused(words, "refused", "File name too long")
     b.refused(["new", "store", 1, 4, 4, 4], "refused", "there already")
     for sizes in ([16, 4, 4, 4], [1, 0, 4, 4], [1, 4, 4097, 4], [1, 4, 4, 99999]):
         b.refused(["new", "other", *sizes], "refused 7", "7: P must be 0 to 15")
@@ -272,23 +307,25 @@ def no_room(b):
             b.refused(words, "refused", "cannot write store.new: File too large", restore_signals=False,
                       preexec_fn=lambda: resource.setrlimit(resource.RLIMIT_FSIZE, (limit, limit)))
     tried = ["a limit on a file's size"]
-    disk = b.folder / "disk"
-    disk.mkdir()
-    if os.geteuid() == 0 and subprocess.run(["mount", "-t", "tmpfs", "-o", "size=8k", "tmpfs", disk], capture_output=True).returncode == 0:
+    room = b.folder / "disk"
+    room.mkdir()
+    if os.geteuid() == 0 and shutil.which("mount") and subprocess.run(["mount", "-t", "tmpfs", "-o", "size=8k", "tmpfs", room], capture_output=True).returncode == 0:
         try:
-            shutil.copy(b.store, disk / "store")
-            before = (disk / "store").read_bytes()
+            shutil.copy(b.store, room / "store")
+            before = (room / "store").read_bytes()
             for n in range(2):
                 try:
-                    (disk / f"filler{n}").write_bytes(b"x" * 4096)
+                    (room / f"filler{n}").write_bytes(b"x" * 4096)
                 except OSError:
                     pass
             out, err = b.run("insert", "disk/store", "key", "hue", "red", 0, ident(2))
             expect(out == "refused\n" and "No space left" in err, f"a full disk: {out!r} {err!r}")
-            expect((disk / "store").read_bytes() == before, "a full disk: the store changed")
+            expect((room / "store").read_bytes() == before, "a full disk: the store changed")
             tried.append("a full file system")
         finally:
-            subprocess.run(["umount", disk], check=True)
+            subprocess.run(["umount", room], check=True)
+    else:
+        left_out("a full file system", "only root can mount one, and where mount is allowed")
     if os.geteuid() == 0:
         os.chmod(b.key, 0o644)
         for words in changing:
@@ -298,14 +335,18 @@ def no_room(b):
         os.chmod(b.key, 0o600)
         b.refused(["find", "store", "key", "hue", "red"], "refused", "cannot open key: Permission denied", user=NOBODY)
         tried.append("a folder that may not be written")
+    else:
+        left_out("a folder that may not be written", "only root can run the tool as another user")
     if shutil.which("cc"):
-        source, shim = b.folder / "no.c", b.folder / "no.so"
+        source, none = b.folder / "no.c", b.folder / "no.so"
         source.write_text("int getentropy(void *p, unsigned long n) { return -1; }\n")
-        subprocess.run(["cc", "-shared", "-fPIC", "-o", shim, source], check=True)
+        subprocess.run(["cc", "-shared", "-fPIC", "-o", none, source], check=True)
         for words in changing[:1] + changing[2:] + [["key", "key3"]]:
-            b.refused(words, "refused", "cannot get random bytes", env={"LD_PRELOAD": str(shim)})
+            b.refused(words, "refused", "cannot get random bytes", env={"LD_PRELOAD": str(none)})
         expect(not (b.folder / "key3").exists(), "a key of no randomness")
         tried.append("no randomness")
+    else:
+        left_out("no randomness", "there is no cc")
     print("  store unchanged under: " + ", ".join(tried))
 
 
@@ -352,23 +393,27 @@ def modes(b):
         kept(0o6664, 0, 12, (NOBODY, 12, 0o664), **nobody)
         kept(0o6664, 0, 13, (NOBODY, NOBODY, 0o600), **nobody)
         kept(0o664, NOBODY, 13, (NOBODY, NOBODY, 0o600), **nobody)
-    if shutil.which("cc"):
+    else:
+        left_out("stores of other owners", "only root can make them")
+    if shim:
         # a file that others may open when its mode is set could be read by them later
-        source, shim = b.folder / "early.c", b.folder / "early.so"
-        source.write_text("#include <sys/stat.h>\n#include <sys/syscall.h>\n#include <unistd.h>\n"
-                          "int fchmod(int fd, mode_t mode) { struct stat s; if (fstat(fd, &s) || (s.st_mode & 077)) write(2, \"open to others\\n\", 15);\n"
-                          "    return syscall(SYS_fchmod, fd, mode); }\n")
-        subprocess.run(["cc", "-w", "-shared", "-fPIC", "-o", shim, source], check=True)
-        kept(0o600, me, mine, (me, mine, 0o600), umask=0o022, env={"LD_PRELOAD": str(shim)})
-        expect(b.run("key", "key2", umask=0o022, env={"LD_PRELOAD": str(shim)}) == ("", ""), "a key is never open to others")
+        os.chown(b.store, me, mine)
+        os.chmod(b.store, 0o600)
+        for words in (["insert", "store", "key", "hue", "red", 0, ident(1)], ["erase", "store", ident(1)], ["compact", "store", "key"], ["key", "key2"]):
+            out, err, _, calls = b.watched(words, umask=0o022)
+            expect(err == "" and not out.startswith("refused"), f"modes: {words}: {out!r} {err!r}")
+            before = [int(c.words[1], 8) for c in calls if c.name == "fchmod"]
+            expect(before and not any(mode & 0o077 for mode in before), f"modes: {words}: open to others before its mode is set: {before}")
+    else:
+        left_out("a file is never open to others", "there is no cc")
     expect(not [p.name for p in b.folder.iterdir() if p.suffix in (".new", ".lock") or len(p.suffix) == 7], "modes: something is left behind")
 
 
 def at_once(b, tools=4, each=25):
     """Tools that change one store at the same time: every insert is there once [01:SC6]."""
-    met = [0] * tools
-
     def work(t):
+        """One tool's inserts; how often it met the lock."""
+        met, until = 0, time.monotonic() + 60
         for n in range(each):
             words = ["insert", "store", "key", "hue", "red", t % 2, ident(1000 * t + n)]
             while True:
@@ -376,86 +421,70 @@ def at_once(b, tools=4, each=25):
                 if not out.startswith("refused"):
                     break
                 expect(out == "refused\n" and "another mazhkuri is changing this store" in err, f"at once: {out!r} {err!r}")
-                met[t] += 1
+                expect(time.monotonic() < until, "at once: the lock is never given back")
+                met += 1
+        return met
 
-    threads = [threading.Thread(target=work, args=(t,)) for t in range(tools)]
-    for t in threads:
-        t.start()
-    for t in threads:
-        t.join()
-    ids = sorted(ident(1000 * t + n) for t in range(tools) for n in range(each))
-    expect(sorted(b.found()) == ids, "at once: an update was lost")
+    with concurrent.futures.ThreadPoolExecutor(tools) as pool:
+        # a result is the thread's, its failure too
+        met = sum(done.result() for done in [pool.submit(work, t) for t in range(tools)])
+    ids, found = [ident(1000 * t + n) for t in range(tools) for n in range(each)], b.found()
+    lost = len(set(ids) - set(found))
+    expect(lost == 0 and sorted(found) == sorted(ids), f"at once: {lost} of {len(ids)} inserts lost, {len(found)} ids found")
     expect(b.answer("count", "store", "key", "hue", "red") == f"{len(ids)}\n", "at once: count")
-    print(f"  {tools} tools at once: {len(ids)} inserts, lock met {sum(met)} times, lost 0")
+    expect(met, "at once: no tool met another's lock")
+    print(f"  {tools} tools at once: {len(ids)} inserts, lock met {met} times, lost {lost}")
 
 
-STOP = """
-#define _GNU_SOURCE
-#include <dlfcn.h>
-#include <errno.h>
-#include <fcntl.h>
-#include <signal.h>
-#include <stdarg.h>
-#include <stdlib.h>
-#include <sys/stat.h>
-#include <unistd.h>
-/* Ends the process before its AT-th call of the system, or lets that call fail where FAIL is set. */
-static int due(void) {
-  static int calls;
-  if (++calls != atoi(getenv("AT"))) return 0;
-  if (getenv("FAIL")) return errno = EIO, 1;
-  return kill(getpid(), SIGKILL), 1;
-}
-#define CALL(type, name, parameters, arguments) \\
-  type name parameters { return due() ? -1 : ((type (*) parameters)dlsym(RTLD_NEXT, #name)) arguments; }
-CALL(int, close, (int fd), (fd))
-CALL(int, fchmod, (int fd, mode_t mode), (fd, mode))
-CALL(int, fchown, (int fd, uid_t owner, gid_t group), (fd, owner, group))
-CALL(int, fstat, (int fd, struct stat *to), (fd, to))
-CALL(int, fsync, (int fd), (fd))
-CALL(int, getentropy, (void *to, size_t n), (to, n))
-CALL(int, mkstemp, (char *name), (name))
-CALL(ssize_t, readlink, (const char *name, char *to, size_t n), (name, to, n))
-CALL(ssize_t, read, (int fd, void *to, size_t n), (fd, to, n))
-CALL(ssize_t, write, (int fd, const void *from, size_t n), (fd, from, n))
-CALL(int, rename, (const char *from, const char *to), (from, to))
-CALL(int, unlink, (const char *name), (name))
-int open(const char *name, int flags, ...) {
-  va_list more;
-  va_start(more, flags);
-  mode_t mode = va_arg(more, int);
-  va_end(more);
-  return due() ? -1 : ((int (*)(const char *, int, ...))dlsym(RTLD_NEXT, "open"))(name, flags, mode);
-}
-"""
+# For each changing command how many calls of the system it makes at least, and which must be among them.
+REPLACING = {"readlink", "open", "read", "close", "fstat", "mkstemp", "fchown", "fchmod", "write", "fsync", "rename", "unlink"}
+MAKES = {"insert": (30, REPLACING | {"getentropy"}), "erase": (20, REPLACING), "compact": (25, REPLACING | {"getentropy"}),
+         "new": (12, {"readlink", "open", "write", "fsync", "close", "rename", "unlink"}),
+         "key": (10, {"getentropy", "open", "mkstemp", "rename", "fchmod", "write", "fsync", "close"})}
 
 
-def points(b, shim, words, clean, check):
-    """Runs the command once for each call of the system that it makes: ended before it, then with that call failing. Gives
-    how many calls there are."""
-    for fail in ({}, {"FAIL": "1"}):
-        at, met = 0, True
-        while met:
-            at += 1
-            clean()
-            run = b.start(*words, env={"LD_PRELOAD": str(shim), "AT": str(at), **fail})
-            out, err = run.communicate(timeout=60)
-            check(f"{words}, {'failing' if fail else 'ended before'} call {at}", out, err, bool(fail))
-            met = at < calls if fail else run.returncode == -9
-            if not fail:
-                calls = at - 1 + met
-    return calls
+def compiled(folder):
+    """tests/calls.c as a library to preload. It stands before every call of the system that the program names."""
+    library = pathlib.Path(folder) / "calls.so"
+    subprocess.run(["cc", "-Wall", "-Werror", "-Wno-nonnull-compare", "-shared", "-fPIC", "-o", library, HERE / "calls.c", "-ldl"], check=True)
+
+    def names(*words):
+        lines = subprocess.run(["nm", "-D", "-P", *words], check=True, capture_output=True, text=True).stdout.splitlines()
+        return {line.split()[0].split("@")[0] for line in lines}
+
+    # what is no call of the system
+    others = {"memcpy", "memset", "__errno_location", "__xpg_strerror_r", "__libc_start_main", "__cxa_finalize", "__gmon_start__",
+              "_ITM_registerTMCloneTable", "_ITM_deregisterTMCloneTable"}
+    called = names("--undefined-only", BUILT) - others
+    unseen = called - names("--defined-only", library)
+    expect(called and not unseen, f"tests/calls.c does not stand before {unseen or 'any call'}")
+    return library
+
+
+def points(b, words, clean, check):
+    """Runs the command once whole, then once for each call of the system that it makes: ended before it, then with that call
+    failing. Gives how many calls there are."""
+    clean()
+    out, err, status, calls = b.watched(words)
+    made = [c.name for c in calls]
+    least, among = MAKES[words[0]]
+    expect(status == 0 and least <= len(made) and among <= set(made), f"{words}: the calls are {made}")
+    check(f"{words}, whole", out, err, False)
+    for fail, (at, call) in itertools.product((False, True), enumerate(calls, 1)):
+        clean()
+        out, err, status, now = b.watched(words, at, fail)
+        where = f"{words}, {'failing' if fail else 'ended before'} call {at}, {call.name}"
+        expect([c.name for c in now[:at]] == made[:at if fail else at - 1], f"{where}: other calls before it: {[c.name for c in now]}")
+        expect(now[at - 1].told == -1 if fail else status == -9 and len(now) == at - 1, f"{where}: it was not met")
+        check(where, out, err, fail)
+    return len(calls)
 
 
 def every_point(b):
     """Before each call of the system that a command makes: ended by kill -9 there, or with that call failing. The store is the
     old one or the new one, the new one where an answer was printed, the old one where the command was refused."""
-    if not shutil.which("cc"):
-        print("  left out: there is no cc")
-        return
-    source, shim = b.folder / "stop.c", b.folder / "stop.so"
-    source.write_text(STOP)
-    subprocess.run(["cc", "-Wall", "-Werror", "-Wno-nonnull-compare", "-shared", "-fPIC", "-o", shim, source, "-ldl"], check=True)
+    if not shim:
+        return left_out("every point", "there is no cc")
     inserted = ["insert", "store", "key", "hue", "red", 0]
     b.answer(*inserted, ident(1), ident(2))
     begin, calls = b.store.read_bytes(), 0
@@ -482,7 +511,7 @@ def every_point(b):
             expect(out in ("", "refused\n", answer), f"{where}: {out!r}")
             expect(err or not fail or now == new, f"{where}: nothing is said")
 
-        calls += points(b, shim, words, clean, check)
+        calls += points(b, words, clean, check)
     for words, size in ((["new", "store2", 1, 4, 4, 4], scheme.length_of(4, 4, 4)), (["key", "key2"], 32)):
         made = b.folder / words[1]
 
@@ -492,8 +521,84 @@ def every_point(b):
             expect(out != "refused\n" or not made.exists(), f"{where}: refused and made")
             expect(err or not fail or made.stat().st_size == size, f"{where}: nothing is said")
 
-        calls += points(b, shim, words, clean, check)
+        calls += points(b, words, clean, check)
     print(f"  every point: ended before each of {calls} calls of the system, and each of these failing; never half a change")
+
+
+def wrong_states(states, name, old, new):
+    """The states in which the file is neither the old one nor the new one, or not the new one though there was an answer."""
+    return [dict(s) for s, answered in states.items() if dict(s).get(name) not in ((new,) if answered else (old, new))]
+
+
+def power_cut(b):
+    """What a changing command answers is safe: it writes the new file, syncs it, renames it, syncs the folder, then answers. And
+    whatever a power cut leaves on the way, the tool finds the old store or the new one, the new one once there was an answer."""
+    if not shim:
+        return left_out("power cuts", "there is no cc")
+    insert = ["insert", "store", "key", "hue", "red", 0]
+    b.answer(*insert, ident(1), ident(2))
+    begin, met = b.files(), {}
+    answering, silent = ["write", "sync", "rename", "sync folder", "answer"], ["write", "sync", "rename", "sync folder"]
+
+    def ordered(words, name, order):
+        """The whole run of a command, held to the order; the disk's states after each call, and what the run printed."""
+        before = b.files()
+        out, err, _, calls = b.watched(words)
+        expect(err == "" and not out.startswith("refused"), f"{words}: {out!r} {err!r}")
+        last, states = disk.cuts(b.folder, before, calls)
+        expect(last.files() == b.files(), f"{words}: the calls told give other files than there are")
+        folder, file = os.path.dirname(name) or ".", last.names[name]
+        steps = [s[0] for s in last.steps if s in (("write", file), ("sync", file), ("rename", file, name), ("sync folder", folder), ("answer",))]
+        expect([s for s, _ in itertools.groupby(steps)] == order, f"{words}: the order is {steps}, expected {order}")
+        return out, calls, states
+
+    def unsynced(words, out, calls, stands):
+        """A folder that cannot be synced: the change stands and is answered, and a message says what was not had."""
+        sync = max(n for n, c in enumerate(calls, 1) if c.name == "fsync")
+        opened = max(n for n, c in enumerate(calls[:sync], 1) if c.name == "open")
+        for at, said in ((sync, "sync (the change is made)"), (opened, "open, to sync it (the change is made),")):
+            b.lay(begin)
+            told = b.watched(words, at, fail=True)[:2]
+            expect(told == (out, f"cannot {said} .: Input/output error\n"), f"{words}: a folder that cannot be synced: {told}")
+            expect(stands(b.files()), f"{words}: a folder that cannot be synced: the change does not stand")
+
+    with tempfile.TemporaryDirectory() as folder:
+        cut = Bench(folder, None)
+
+        def view(files):
+            cut.lay(files)
+            return [cut.run(*words) for words in (["show", "store"], ["find", "store", "key", "hue", "red"], ["show", "store2"])]
+
+        for words, name, order in ((insert + [ident(3)], "store", answering), (["erase", "store", ident(1)], "store", answering),
+                                   (["compact", "store", "key"], "store", answering), (["new", "store2", 1, 4, 4, 4], "store2", silent)):
+            b.lay(begin)
+            out, calls, states = ordered(words, name, order)
+            end = b.files()
+            old, new = begin.get(name), end[name]
+            expect(old != new, f"{words} changes nothing")
+            for n, call in enumerate(calls):
+                # the states are able to show it: each sync that is left out leaves a wrong one
+                if call.name == "fsync":
+                    lacking = disk.cuts(b.folder, begin, calls[:n] + calls[n + 1:])[1]
+                    expect(wrong_states(lacking, name, old, new), f"{words}: no state shows that a sync is missing")
+            expect(not wrong_states(states, name, old, new), f"{words}: a cut leaves neither the old file nor the new one")
+            views = {answered: [view(end)] if answered else [view(begin), view(end)] for answered in (False, True)}
+            for state, answered in states.items():
+                expect(view(dict(state)) in views[answered], f"{words}: after a power cut the tool finds another store: {sorted(dict(state))}")
+                for lock in cut.folder.glob("*.lock"):
+                    lock.unlink()
+                again, told = (words, out) if dict(state).get(name) == old else (["erase", "store", ident(2)], "1\n")
+                expect(cut.answer(*again) == told, f"{words}: after a power cut: the next change")
+                met[answered] = met.get(answered, 0) + 1
+            unsynced(words, out, calls, lambda files: view(files) in views[True])
+    b.lay(begin)
+    out, calls, _ = ordered(["key", "key2"], "key2", ["rename", "write", "sync", "sync folder"])
+    unsynced(["key", "key2"], out, calls, lambda files: len(files["key2"]) == 32)
+    (b.folder / "sub").mkdir()
+    for word, name in (("sub/store", "sub/store"), (b.folder / "store", "store")):
+        b.lay({**begin, name: begin["store"]})
+        ordered(["erase", word, ident(1)], name, answering)
+    print(f"  power cut: {met[False]} states before an answer, each the old store or the new one, {met[True]} after it, each the new one")
 
 
 def interrupted(b, kills):
@@ -504,7 +609,7 @@ def interrupted(b, kills):
         b.answer("insert", "store", "key", "hue", "red", 0, ident(10 ** 6 + n))
     usual = (time.monotonic() - began) / 5
     answered, unanswered = [ident(10 ** 6 + n) for n in range(5)], []
-    ended = locks = halves = compactions = checked = 0
+    ended = locks = halves = compactions = checked = lost = twice = 0
     for n in range(kills):
         if 300 <= n and n % 25 == 0 and 60 < time.monotonic() - began:
             kills = n
@@ -528,32 +633,42 @@ def interrupted(b, kills):
         if n % 25 == 24 or n == kills - 1:
             found = b.found()
             checked += len(answered)
-            expect(len(set(found)) == len(found), "interrupted: an id is there twice")
-            expect(set(answered) <= set(found), "interrupted: an id is lost")
+            lost += len(set(answered) - set(found))
+            twice += len(found) - len(set(found))
+            expect(lost == 0 and twice == 0, f"interrupted: {lost} ids are lost, {twice} are there twice")
             expect(set(found) <= set(answered) | set(unanswered), "interrupted: an id that was never given")
     b.answer("compact", "store", "key")
     expect(b.found() == b.model_finds(), "interrupted: the model finds something else")
     late = len(set(b.found()) & set(unanswered))
+    expect(ended and checked and unanswered, f"interrupted: {ended} runs ended by force, {checked} ids checked")
     print(f"  points interrupted {ended} of {kills} runs ({compactions} of them compactions): {locks} locks and {halves} unfinished files left")
-    print(f"  ids answered {len(answered)}, ids checked {checked}, lost 0, twice 0; inserts ended before their answer {len(unanswered)}, {late} of them made")
+    print(f"  ids answered {len(answered)}, ids checked {checked}, lost {lost}, twice {twice}; inserts ended before their answer {len(unanswered)}, {late} of them made")
 
 
 def main():
     options = argparse.ArgumentParser()
     options.add_argument("--kills", type=int, default=1000)
-    kills = options.parse_args().kills
+    options.add_argument("--only")
+    given = options.parse_args()
+    kills = given.kills
+    global shim
     if not BUILT.exists():
         sys.exit("tests/tool.py: there is no target/bin/mazhkuri: run `rt check mazhkuri` first")
     tests = [("the worked list", worked_list, [1, 4, 4, 4]), ("bad words", bad_words, [1, 4, 4, 4]), ("files that are no store", no_stores, [1, 4, 4, 4]),
              ("refusals from the state", states, [0, 8, 4, 2]), ("the largest store", small_stack, [15, 4096, 4096, 4096]),
              ("writes that fail", lambda b: (b.answer("insert", "store", "key", "hue", "red", 0, ident(1)), no_room(b)), [1, 8, 8, 8]),
              ("links", links, [1, 4, 4, 4]), ("modes", modes, [1, 64, 64, 64]), ("tools at once", at_once, [1, 200, 200, 200]),
-             ("every point", every_point, [1, 16, 16, 16]), ("kill -9", lambda b: interrupted(b, kills), [1, 4096, 512, 512])]
-    for name, test, sizes in tests:
-        with tempfile.TemporaryDirectory() as folder:
-            before, began = checks, time.monotonic()
-            test(Bench(folder, sizes))
-            print(f"tests/tool.py: {name}: {checks - before} checks passed in {time.monotonic() - began:.1f} s", flush=True)
+             ("every point", every_point, [1, 16, 16, 16]), ("power cut", power_cut, [1, 16, 16, 16]),
+             ("kill -9", lambda b: interrupted(b, kills), [1, 4096, 512, 512])]
+    with tempfile.TemporaryDirectory() as beside:
+        shim = compiled(beside) if shutil.which("cc") and shutil.which("nm") else None
+        chosen = [t for t in tests if given.only in (None, t[0])]
+        expect(chosen, f"there is no test {given.only}")
+        for name, test, sizes in chosen:
+            with tempfile.TemporaryDirectory() as folder:
+                before, began = checks, time.monotonic()
+                test(Bench(folder, sizes))
+                print(f"tests/tool.py: {name}: {checks - before} checks passed in {time.monotonic() - began:.1f} s", flush=True)
 
 
 main()

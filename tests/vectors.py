@@ -121,6 +121,21 @@ def entries(path):
     return result
 
 
+def counted(path):
+    """The entries of a file in which each begins with its COUNT: a dictionary of lists for each, since a name
+    may stand again. The settings in brackets above it are among them."""
+    result, settings = [], {}
+    for line in path.read_text().split("\n"):
+        name, equals, value = (part.strip() for part in line.strip("[] ").partition("="))
+        if line.startswith("["):
+            settings[name] = [value]
+        elif name == "COUNT":
+            result.append({name: [value], **settings})
+        elif equals and result and not line.startswith("#"):
+            result[-1].setdefault(name, []).append(value)
+    return result
+
+
 def agree(what, published, ours):
     """What is published and the other implementation have to say the same."""
     if published != ours:
@@ -137,15 +152,38 @@ def published_hashes():
             yield HASH, (message,), entry["MD"]
 
 
+def published_mac(what, key, message, published):
+    """A tag, of which the first bytes are published, or all."""
+    key, message = Literal(key), Literal(message)
+    line = mac_line(key, message)
+    agree(what, published, line[:len(published)])
+    return MAC, (key, message), line
+
+
 def published_macs():
-    """RFC 4231, test cases 1 to 7; of case 5 the first 16 bytes are published."""
+    """RFC 4231, test cases 1 to 7, of case 5 the first 16 bytes; and the F in RFC 5869's examples of HKDF:
+    PRK is F(salt, IKM), and OKM the first bytes of T(1), T(2) .., with T(i) = F(PRK, T(i-1), info, i)."""
     for path in (package_file("/HMAC/rfc-4231-sha256.txt"), HERE / "data" / "rfc4231.txt"):
         for entry in entries(path):
-            key = Literal(bytes.fromhex(entry["Key"]))
-            message = Literal(bytes.fromhex(entry["Msg"]))
-            line = mac_line(key, message)
-            agree("RFC 4231", entry["MD"], line[:len(entry["MD"])])
-            yield MAC, (key, message), line
+            yield published_mac("RFC 4231", bytes.fromhex(entry["Key"]), bytes.fromhex(entry["Msg"]), entry["MD"])
+    for entry in counted(package_file("/KDF/rfc-5869-HKDF-SHA256.txt")):
+        ikm, salt, info, prk = (bytes.fromhex(entry[name][0]) for name in ("IKM", "salt", "info", "PRK"))
+        yield published_mac("RFC 5869", salt, ikm, prk.hex())
+        t, okm = b"", entry["OKM"][0]
+        for i in range(0, len(okm), 64):
+            record = published_mac("RFC 5869", prk, t + info + bytes([i // 64 + 1]), okm[i:i + 64])
+            t = bytes.fromhex(record[2])
+            yield record
+
+
+def published_derivations():
+    """NIST's key derivations in counter mode (SP 800-108) by HMAC-SHA-256: a tag for each string, of which as
+    much is published as the derived key takes."""
+    for entry in counted(package_file("/KDF/nist-800-108-KBKDF-CTR.txt")):
+        if entry["PRF"] == ["HMAC_SHA256"]:
+            for i, message in enumerate(entry["instring"]):
+                yield published_mac("SP 800-108", bytes.fromhex(entry["KI"][0]), bytes.fromhex(message),
+                                    entry["KO"][0][64 * i:64 * i + 64])
 
 
 def published_ciphers():
@@ -163,6 +201,21 @@ def published_ciphers():
             agree("RFC 8439", entry["CIPHERTEXT"], crypt[64 * blocks:].hex())
             yield CIPHER, (key, nonce, Literal(plain)), told(crypt)
             yield CIPHER, (key, nonce, Literal(crypt)), told(plain)
+
+
+def published_sealings():
+    """BoringSSL's and OpenSSL's vectors of AEAD_CHACHA20_POLY1305, both ways: RFC 8439, 2.8, encrypts from block
+    counter 1, as E does, so that the ciphertext without its tag is E of the plaintext."""
+    for end, names in (("boringssl.txt", "KEY NONCE IN CT"), ("openssl.txt", "Key IV Plaintext Ciphertext")):
+        for entry in counted(package_file("/ChaCha20Poly1305/" + end)):
+            values = [entry[name][0] for name in names.split()]
+            key, nonce, plain, crypt = (v.strip('"').encode() if '"' in v else bytes.fromhex(v) for v in values)
+            agree(end, crypt.hex(), openssl_cipher(key, nonce, plain).hex())
+            yield CIPHER, (Literal(key), Literal(nonce), Literal(plain)), told(crypt)
+            yield CIPHER, (Literal(key), Literal(nonce), Literal(crypt)), told(plain)
+
+
+PUBLISHED = [published_hashes, published_macs, published_ciphers, published_sealings]
 
 
 # Other implementations on many inputs
@@ -201,8 +254,7 @@ def many_ciphers():
 
 
 def all_records():
-    for part in (published_hashes, published_macs, published_ciphers, many_hashes, many_macs,
-                 many_ciphers):
+    for part in PUBLISHED + [many_hashes, many_macs, many_ciphers]:
         records = list(part())
         print("%s: %d records" % (part.__name__.replace("_", " "), len(records)), flush=True)
         yield from records

@@ -13,9 +13,13 @@ SIZE = (b"size", b"L")
 GREATEST = scheme.GREATEST
 
 
+class Wrong(Exception):
+    pass
+
+
 def expect(what, got, wanted):
     if got != wanted:
-        raise AssertionError("%s: got %r, expected %r" % (what, got, wanted))
+        raise Wrong("%s: got %r, expected %r" % (what, got, wanted))
 
 
 def cipher():

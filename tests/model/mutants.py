@@ -1,8 +1,11 @@
 """Wrong versions of store and ledger: each has to be caught by the examples or by the random
-lists, so that the comparison is known to be able to fail. The first three are the slips that
-document 01, 'A day in the ledger', names.
+lists, so that the comparison is known to be able to fail. Only a difference counts; an exception of
+a wrong version's own is a fault of this test. The first three are the slips that document 01, 'A day
+in the ledger', names.
 """
 import random
+import sys
+import traceback
 
 import calls
 import examples
@@ -220,7 +223,7 @@ LEDGERS = [LedgerMadeFromIdsListed, LedgerAnchorPerInsert, LedgerSixteenTooLate,
 def by_examples(build, build_ledger):
     try:
         examples.shared(build, build_ledger)
-    except Exception as found:
+    except examples.Wrong as found:
         return str(found).split(":")[0]
     return None
 
@@ -235,19 +238,24 @@ def by_lists(build, build_ledger, given):
         stores = stores_for([build(Cheap, place)], lists)
         try:
             run_list(drawn, stores, build_ledger(lists.p, *lists.sizes))
-        except (Difference, IndexError):
-            # A wrong version may also fail by finding no free row for what it accepted.
+        except Difference:
             return i + 1
     return None
 
 
 def caught(given):
-    missed = 0
+    missed = faults = 0
     for wrong in STORES + LEDGERS:
         pair = (wrong, Ledger) if wrong in STORES else (Scheme, wrong)
-        example, after = by_examples(*pair), by_lists(*pair, given)
+        try:
+            example, after = by_examples(*pair), by_lists(*pair, given)
+        except Exception:
+            print("FAULT in %s, which shows nothing:" % wrong.__name__)
+            traceback.print_exc(file=sys.stdout)
+            faults += 1
+            continue
         print("%-28s examples: %-18s lists: %s"
               % (wrong.__name__, example or "-", "after %d" % after if after else "-"), flush=True)
         missed += not (example or after)
-    print("%d wrong versions, %d not caught" % (len(STORES + LEDGERS), missed))
-    return 1 if missed else 0
+    print("%d wrong versions, %d not caught, %d at fault" % (len(STORES + LEDGERS), missed, faults))
+    return 1 if missed or faults else 0
