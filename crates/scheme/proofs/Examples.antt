@@ -8,7 +8,7 @@ use Rattle.table.specs.Table.{lookup, holds, placeOf}
 use Rattle.scheme.specs.Suite.{Suite, number8, valueOf}
 use Rattle.scheme.specs.Labels.{sameField, fieldLengthsBad, sevens, label}
 use Rattle.scheme.specs.Keys.{KM, KC, KS, MTof, MEof, CLof, share, MT, ME, CL, CT, CE, insertToken, findToken, countToken, compactionToken, tokenP, tokenMT, tokenME, tokenCL, tokenLog, findMT, findME, findCL}
-use Rattle.scheme.specs.Store.{sizesBad, lengthFor, headerOf, sizesOf, cut, joined, headerBad, marksBad, stateTests, fresh, entryTag, entryRow, reverseRow, counterTag, anchorTag, countedRow, counterRow, anchorRow, idIn, plainIn, clIn, logRow, reverseId, reverseTag}
+use Rattle.scheme.specs.Store.{sizesBad, lengthFor, headerOf, sizesOf, cut, joined, headerBad, marksBad, stateTests, fresh, makeTests, make, entryTag, entryRow, reverseRow, counterTag, anchorTag, countedRow, counterRow, anchorRow, idIn, plainIn, clIn, logRow, reverseId, reverseTag}
 use Rattle.scheme.specs.Reading.{numbersAt, anchorsHeld, anchorNumbers, startOf, countersHeld, counterNumbers, isDamage, reading}
 use Rattle.scheme.specs.Refusals.{insertTokenTests, fieldTokenTests, keyTests, insertInputTests, eraseInputTests, compactionInputTests, tokenTests}
 use Rattle.scheme.specs.Insert.{insertReading, newCount, insertStateTests, insertVerdict, newEntries, newReverses, newCounter, newLog, insertedStore}
@@ -20,7 +20,8 @@ use Rattle.scheme.specs.Compaction.{freedCounters, nextAnchor, logOf, fr
 use Rattle.scheme.specs.Ledger.{samePair, empty, H, removed, withPair, ledgerInsertVerdict, appended, afterInsert, afterErase, ledgerIds, ledgerSum, ledgerFindVerdict, ledgerCompactVerdict, afterCompaction, ledgerStep}
 use Rattle.scheme.specs.Run.{findCall, countCall}
 use Rattle.scheme.specs.Lowest.{insertedLowest, insertLowest, treatedLowest, compactLowest, callLowest}
-use Rattle.scheme.specs.Examples.{Holds, examples}
+use Rattle.scheme.specs.Example.{Holds}
+use Rattle.scheme.specs.Examples.{examples}
 use Rattle.octets.specs.Number.{bytes, continued}
 use Rattle.octets.proofs.Numbers.{length-bytes}
 
@@ -35,5 +36,6 @@ small = record {
 }
 
 pub examples-hold : All Holds (examples small)
-unfolding bytes continued lookup holds placeOf number8 valueOf sameField fieldLengthsBad sevens label KM KC KS MTof MEof CLof share MT ME CL CT CE insertToken findToken countToken compactionToken tokenP tokenMT tokenME tokenCL tokenLog findMT findME findCL sizesBad lengthFor headerOf sizesOf cut joined headerBad marksBad stateTests fresh entryTag entryRow reverseRow counterTag anchorTag countedRow counterRow anchorRow idIn plainIn clIn logRow reverseId reverseTag numbersAt anchorsHeld anchorNumbers startOf countersHeld counterNumbers isDamage reading insertTokenTests fieldTokenTests keyTests insertInputTests eraseInputTests compactionInputTests tokenTests insertReading newCount insertStateTests insertVerdict newEntries newReverses newCounter newLog insertedStore eraseVerdict isReverse erasedTags isErased erasedStore erase shareReading idsOfShare idsFound findVerdict find countVerdict sumOfCounts Count.count logOf freeLog compactVerdict freedCounters nextAnchor logged compactedStore samePair empty H removed withPair ledgerInsertVerdict appended afterInsert afterErase ledgerIds ledgerSum ledgerFindVerdict ledgerCompactVerdict afterCompaction ledgerStep findCall countCall insertedLowest insertLowest treatedLowest compactLowest callLowest
-examples-hold = (refl, (refl, (refl, (refl, (refl, (refl, (refl, (refl, tt))))))))
+unfolding bytes continued lookup holds placeOf number8 valueOf sameField fieldLengthsBad sevens label KM KC KS MTof MEof CLof share MT ME CL CT CE insertToken findToken countToken compactionToken tokenP tokenMT tokenME tokenCL tokenLog findMT findME findCL sizesBad lengthFor headerOf sizesOf cut joined headerBad marksBad stateTests fresh makeTests make entryTag entryRow reverseRow counterTag anchorTag countedRow counterRow anchorRow idIn plainIn clIn logRow reverseId reverseTag numbersAt anchorsHeld anchorNumbers startOf countersHeld counterNumbers isDamage reading insertTokenTests fieldTokenTests keyTests insertInputTests eraseInputTests compactionInputTests tokenTests insertReading newCount insertStateTests insertVerdict newEntries newReverses newCounter newLog insertedStore eraseVerdict isReverse erasedTags isErased erasedStore erase shareReading idsOfShare idsFound findVerdict find countVerdict sumOfCounts Count.count logOf freeLog compactVerdict freedCounters nextAnchor logged compactedStore samePair empty H removed withPair ledgerInsertVerdict appended afterInsert afterErase ledgerIds ledgerSum ledgerFindVerdict ledgerCompactVerdict afterCompaction ledgerStep findCall countCall insertedLowest insertLowest treatedLowest compactLowest callLowest
+examples-hold =
+    (refl, (refl, (refl, (refl, (refl, (refl, (refl, (refl, ((λ suite k nonce id. refl), (refl, (refl, (refl, (refl, (refl, (refl, tt)))))))))))))))

@@ -1,12 +1,15 @@
--- The worked examples of document 01: L1 to L6 of "Labels" and G1 to G8 of "A day in the ledger", as one list.
+-- The examples, as one list: L1 to L6 of document 01's "Labels" and G1 to G8 of "A day in the ledger", then bytes, readings and refusals.
 use Prim.Native.Nat.{ℕ}
-use mathlib.Core.Path.{_≡_}
 use mathlib.Core.List.{List, [], _∷_, _++_, map}
 use lib.ListN.{take, replicate}
 use Rattle.answer.specs.Answer.{Answer, done, refused}
 use Rattle.table.specs.Lists.{flat}
 use Rattle.scheme.specs.Suite.{Suite}
 use Rattle.scheme.specs.Labels.{Field, label}
+use Rattle.scheme.specs.Example.{Example, _yields_, _tells_, bytes, every, cases, fieldOf}
+use Rattle.scheme.specs.ByteExamples.{byteEquations}
+use Rattle.scheme.specs.RefusalExamples.{makingCases, storeMakingCases, inputCases, stateCases, insertCases, queryCases}
+use Rattle.scheme.specs.ReadingExamples.{readingBytes, compactionCases, compactionBytes}
 use Rattle.scheme.specs.Store.{Sizes, fresh}
 use Rattle.scheme.specs.Call
 use Rattle.scheme.specs.Call.{Call, Told}
@@ -14,20 +17,7 @@ use Rattle.scheme.specs.Ledger.{empty, ledgerTells}
 use Rattle.scheme.specs.Lowest.{tellsLowest}
 use Rattle.scheme.specs.Claim.{boundsOf}
 
--- bytes that come out as bytes, or told that comes out as told
-pub data Example : Type 0 where
-  _yields_ : List ℕ → List ℕ → Example
-  _tells_ : List Told → List Told → Example
-
-infix 10 _yields_ _tells_
-abbrev pub Holds : Example → Type 0
-Holds (a yields b) = a ≡ b
-Holds (a tells b) = a ≡ b
-
 -- ---- labels
-
-abbrev pub fieldOf : List ℕ → List ℕ → Field
-fieldOf name value = record { name = name; value = value }
 
 -- the first n bytes of the label of a name of n bytes
 abbrev pub startOfLabel : ℕ → ℕ → List ℕ
@@ -127,10 +117,17 @@ workedCalls = flat (map (λ (b : Block). b .calls) worked)
 abbrev pub workedTold : List Told
 workedTold = flat (map (λ (b : Block). b .told) worked)
 
--- the labels, the worked list on the ledger and on the store [01:DY10]
+-- the labels, the worked list on the ledger and on the store [01:DY10], and the further examples
 abbrev pub examples : Suite → List Example
 examples suite =
     labelExamples ++
     ((ledgerTells (boundsOf workedSizes) empty workedCalls tells workedTold)
     ∷ (tellsLowest suite workedCalls (fresh workedSizes) tells workedTold)
+    ∷ every byteEquations
+    ∷ bytes (readingBytes suite ++ compactionBytes suite)
+    ∷ cases (makingCases ++ storeMakingCases)
+    ∷ cases (inputCases suite)
+    ∷ cases (stateCases suite)
+    ∷ cases (insertCases suite ++ queryCases suite)
+    ∷ cases (compactionCases suite)
     ∷ [])

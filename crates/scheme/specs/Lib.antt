@@ -16,5 +16,9 @@ pub mod Run
 pub mod Lowest
 pub mod Premise
 pub mod Claim
+pub mod Example
+pub mod ByteExamples
+pub mod RefusalExamples
+pub mod ReadingExamples
 pub mod Examples
 pub mod Corollaries

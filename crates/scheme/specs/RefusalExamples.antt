@@ -1,0 +1,335 @@
+-- Examples of refusals (document 01, "Refusals from the input", "Refusals from the state"): each number of each call on both sides of its
+-- limit, and where two conditions hold, the earlier one. The claim sees none of 1 to 8, which store and ledger share, nor 10, 11 and 13.
+use Prim.Native.Nat.{ℕ, _+_, _*_}
+use mathlib.Core.List.{List, [], _∷_, _++_}
+use lib.ListN.{take, set}
+use Rattle.table.specs.Lists.{flat}
+use Rattle.answer.specs.Answer.{Answer, done, refused}
+use Rattle.answer.specs.Verdict.{verdict, answerOr}
+use Rattle.scheme.specs.Suite.{Suite}
+use Rattle.scheme.specs.Refusals.{insertTokenTests, fieldTokenTests, keyTests, insertInputTests}
+use Rattle.scheme.specs.Store.{make}
+use Rattle.scheme.specs.Erase
+use Rattle.scheme.specs.Find
+use Rattle.scheme.specs.Count
+use Rattle.scheme.specs.Lowest.{insertLowest, compactLowest}
+use Rattle.scheme.specs.Example.{Case, _gives_, fieldOf, zeros, places, eight, accepted, number, by}
+
+-- ---- making tokens, by the lengths of key, name and value, p, u and the length of the nonce
+
+abbrev pub insertMaking : ℕ → ℕ → ℕ → ℕ → ℕ → ℕ → Answer
+insertMaking key name value p u nonce =
+    answerOr (verdict (insertTokenTests (zeros key) (fieldOf (zeros name) (zeros value)) p u (zeros nonce))) accepted
+
+-- a find token or a count token
+abbrev pub fieldMaking : ℕ → ℕ → ℕ → Answer
+fieldMaking key name value = answerOr (verdict (fieldTokenTests (zeros key) (fieldOf (zeros name) (zeros value)))) accepted
+
+abbrev pub compactionMaking : ℕ → Answer
+compactionMaking key = answerOr (verdict (keyTests (zeros key))) accepted
+
+abbrev pub makingCases : List Case
+makingCases =
+    -- 1: the key has 32 bytes [01:RI2]
+    (insertMaking 31 1 0 0 0 12 gives by 1)
+    ∷ (insertMaking 32 1 0 0 0 12 gives accepted)
+    ∷ (insertMaking 33 1 0 0 0 12 gives by 1)
+    ∷ (insertMaking 0 1 0 0 0 12 gives by 1)
+    ∷ (fieldMaking 31 1 0 gives by 1)
+    ∷ (fieldMaking 32 1 0 gives accepted)
+    ∷ (fieldMaking 33 1 0 gives by 1)
+    ∷ (compactionMaking 31 gives by 1)
+    ∷ (compactionMaking 32 gives accepted)
+    ∷ (compactionMaking 33 gives by 1)
+    -- 2: a name of 1 to 255 bytes, a value of 0 to 1,024 [01:RI3 LB1]
+    ∷ (insertMaking 32 0 0 0 0 12 gives by 2)
+    ∷ (insertMaking 32 255 0 0 0 12 gives accepted)
+    ∷ (insertMaking 32 256 0 0 0 12 gives by 2)
+    ∷ (insertMaking 32 1 1024 0 0 12 gives accepted)
+    ∷ (insertMaking 32 1 1025 0 0 12 gives by 2)
+    ∷ (fieldMaking 32 0 0 gives by 2)
+    ∷ (fieldMaking 32 255 1024 gives accepted)
+    ∷ (fieldMaking 32 256 0 gives by 2)
+    ∷ (fieldMaking 32 1 1025 gives by 2)
+    -- 3: p is at most 15 and u at most p [01:RI4 KT3]
+    ∷ (insertMaking 32 1 0 15 0 12 gives accepted)
+    ∷ (insertMaking 32 1 0 15 15 12 gives accepted)
+    ∷ (insertMaking 32 1 0 15 16 12 gives by 3)
+    ∷ (insertMaking 32 1 0 16 0 12 gives by 3)
+    ∷ (insertMaking 32 1 0 16 16 12 gives by 3)
+    ∷ (insertMaking 32 1 0 257 1 12 gives by 3)
+    ∷ (insertMaking 32 1 0 0 1 12 gives by 3)
+    ∷ (insertMaking 32 1 0 1 1 12 gives accepted)
+    ∷ (insertMaking 32 1 0 1 2 12 gives by 3)
+    -- 4: the nonce has 12 bytes [01:RI5]
+    ∷ (insertMaking 32 1 0 0 0 11 gives by 4)
+    ∷ (insertMaking 32 1 0 0 0 13 gives by 4)
+    ∷ (insertMaking 32 1 0 0 0 0 gives by 4)
+    -- in number order [01:RI1]
+    ∷ (insertMaking 31 0 0 16 0 11 gives by 1)
+    ∷ (insertMaking 32 0 0 16 0 11 gives by 2)
+    ∷ (insertMaking 32 1 1025 0 1 11 gives by 2)
+    ∷ (insertMaking 32 1 0 16 0 11 gives by 3)
+    ∷ (insertMaking 32 1 0 0 1 11 gives by 3)
+    ∷ (fieldMaking 33 256 0 gives by 1)
+    ∷ []
+
+-- ---- making a store, by p, m, c, s and the slice's length
+
+abbrev pub making : ℕ → ℕ → ℕ → ℕ → ℕ → Answer
+making p m c s slice = make (record { p = p; m = m; c = c; s = s }) (places 0 slice) .answer
+
+abbrev pub storeMakingCases : List Case
+storeMakingCases =
+    -- 8: the length is 8 + 110·m + 61·c + 45·s exactly [01:RI9 ST3]
+    (making 0 1 1 1 224 gives accepted)
+    ∷ (making 0 1 1 1 223 gives by 8)
+    ∷ (making 0 1 1 1 225 gives by 8)
+    ∷ (making 1 4 4 4 872 gives accepted)
+    ∷ (making 1 4 4 4 0 gives by 8)
+    -- 7: p is at most 15, and m, c and s are 1 to 4,096 [01:RI8 ST2]
+    ∷ (making 15 1 1 1 224 gives accepted)
+    ∷ (making 16 1 1 1 224 gives by 7)
+    ∷ (making 0 0 1 1 114 gives by 7)
+    ∷ (making 0 1 0 1 163 gives by 7)
+    ∷ (making 0 1 1 0 179 gives by 7)
+    -- in number order: 7 before 8, so that the size in range is told by 8 [01:RI1]
+    ∷ (making 0 4096 1 1 0 gives by 8)
+    ∷ (making 0 4097 1 1 0 gives by 7)
+    ∷ (making 0 1 4096 1 0 gives by 8)
+    ∷ (making 0 1 4097 1 0 gives by 7)
+    ∷ (making 0 1 1 4096 0 gives by 8)
+    ∷ (making 0 1 1 4097 0 gives by 7)
+    ∷ (making 16 1 1 1 0 gives by 7)
+    ∷ []
+
+-- ---- the calls on a store
+
+-- 4,294,967,294 to 4,294,967,297 as 8 bytes
+abbrev pub belowLimit : List ℕ
+belowLimit = 0 ∷ 0 ∷ 0 ∷ 0 ∷ 255 ∷ 255 ∷ 255 ∷ 254 ∷ []
+
+abbrev pub atLimit : List ℕ
+atLimit = 0 ∷ 0 ∷ 0 ∷ 0 ∷ 255 ∷ 255 ∷ 255 ∷ 255 ∷ []
+
+abbrev pub aboveLimit : List ℕ
+aboveLimit = 0 ∷ 0 ∷ 0 ∷ 1 ∷ 0 ∷ 0 ∷ 0 ∷ 0 ∷ []
+
+-- a store whose rows are all free, by the header's version, p, m, c, s below 256, and the bytes after the header
+abbrev pub slice : ℕ → ℕ → ℕ → ℕ → ℕ → ℕ → List ℕ
+slice version p m c s n = version ∷ p ∷ 0 ∷ m ∷ 0 ∷ c ∷ 0 ∷ s ∷ zeros n
+
+-- p = 0 and m = c = s = 1: M's row begins at 8, V's at 69, C's at 118, S's at 179
+abbrev pub one : List ℕ
+one = slice 1 0 1 1 1 216
+
+-- with p, and these rows in C; m = 1 and s = 1
+abbrev pub withC : ℕ → ℕ → List (List ℕ) → List ℕ
+withC p c rows = 1 ∷ p ∷ 0 ∷ 1 ∷ 0 ∷ c ∷ 0 ∷ 1 ∷ zeros 110 ++ (flat rows ++ zeros 45)
+
+abbrev pub erasing : List ℕ → ℕ → Answer
+erasing store id = Erase.erase store (zeros id) .answer
+
+module _ (suite : Suite) where
+  open Suite suite using (F, E)
+
+  -- a row of C under CL: byte 1 for a counter, 2 for an anchor, then its number; its two numbers as 8 bytes each [01:ST9 ST10 ST11]
+  abbrev pub rowC : List ℕ → ℕ → List ℕ → List ℕ → List ℕ → List ℕ
+  rowC cl kind i a n = 1 ∷ F (F cl (eight 1)) (kind ∷ i) ++ (zeros 12 ++ E (F cl (eight 2)) (zeros 12) (a ++ n))
+
+  -- the token's CL is all zeros in the calls below
+  abbrev pub counterIs : ℕ → List ℕ → List ℕ → List ℕ
+  counterIs i a n = rowC (zeros 32) 1 (eight i) a n
+
+  abbrev pub anchorIs : ℕ → List ℕ → List ℕ → List ℕ
+  anchorIs i a n = rowC (zeros 32) 2 (eight i) a n
+
+  -- insert, by the lengths of ids and nonces, the token's length after its first byte, and that byte
+  abbrev pub inserting : List ℕ → ℕ → ℕ → ℕ → ℕ → Answer
+  inserting store ids nonces token p = insertLowest suite store (zeros ids) (zeros nonces) (p ∷ zeros token) .answer
+
+  abbrev pub finding : List ℕ → ℕ → ℕ → Answer
+  finding store token output = Find.find suite store (zeros token) (zeros output) .answer
+
+  abbrev pub counting : List ℕ → ℕ → Answer
+  counting store token = Count.count suite store (zeros token) .answer
+
+  abbrev pub compacting : List ℕ → ℕ → ℕ → Answer
+  compacting store nonces token = compactLowest suite store (zeros nonces) (zeros token) .answer
+
+  -- 4 to 6 [01:RI5 RI6 RI7]
+  abbrev pub inputCases : List Case
+  inputCases =
+      -- insert: 12 × (ids + 1) nonce bytes, ids rounded down; 16 × 1 to 64 id bytes; a token of 141 bytes
+      (inserting one 16 24 140 0 gives number 1)
+      ∷ (inserting one 16 23 140 0 gives by 4)
+      ∷ (inserting one 16 25 140 0 gives by 4)
+      ∷ (inserting one 16 12 140 0 gives by 4)
+      ∷ (inserting one 16 36 140 0 gives by 4)
+      ∷ (inserting one 0 12 140 0 gives by 5)
+      ∷ (inserting one 15 12 140 0 gives by 5)
+      ∷ (inserting one 17 24 140 0 gives by 5)
+      ∷ (inserting one 31 24 140 0 gives by 5)
+      ∷ (inserting (slice 1 0 64 1 1 7146) 1024 780 140 0 gives number 64)
+      ∷ (inserting one 1023 768 140 0 gives by 5)
+      ∷ (inserting one 1025 780 140 0 gives by 5)
+      ∷ (inserting one 1040 792 140 0 gives by 5)
+      ∷ (inserting one 16 24 139 0 gives by 6)
+      ∷ (inserting one 16 24 141 0 gives by 6)
+      -- in number order [01:RI1 RS1]
+      ∷ (inserting one 0 0 139 0 gives by 4)
+      ∷ (inserting one 0 12 139 0 gives by 5)
+      ∷ (inserting [] 16 24 139 0 gives by 6)
+      -- erase: 16 id bytes
+      ∷ (erasing one 16 gives number 0)
+      ∷ (erasing one 15 gives by 5)
+      ∷ (erasing one 17 gives by 5)
+      ∷ (erasing [] 15 gives by 5)
+      -- find: a token of 96 bytes
+      ∷ (finding one 96 0 gives number 0)
+      ∷ (finding one 95 0 gives by 6)
+      ∷ (finding one 97 0 gives by 6)
+      ∷ (finding [] 95 0 gives by 6)
+      -- count: a token of 32 bytes
+      ∷ (counting one 32 gives number 0)
+      ∷ (counting one 31 gives by 6)
+      ∷ (counting one 33 gives by 6)
+      ∷ (counting [] 31 gives by 6)
+      -- compaction: a multiple of 12 nonce bytes, a token of 32 bytes
+      ∷ (compacting one 0 32 gives done (0 ∷ 0 ∷ []))
+      ∷ (compacting one 12 32 gives done (0 ∷ 0 ∷ []))
+      ∷ (compacting one 24 32 gives done (0 ∷ 0 ∷ []))
+      ∷ (compacting one 11 32 gives by 4)
+      ∷ (compacting one 13 32 gives by 4)
+      ∷ (compacting one 0 31 gives by 6)
+      ∷ (compacting one 0 33 gives by 6)
+      ∷ (compacting [] 13 31 gives by 4)
+      ∷ (compacting [] 0 31 gives by 6)
+      ∷ []
+
+  -- 10 and 11, in a count and then in every call [01:RS2 RS3]
+  abbrev pub stateCases : List Case
+  stateCases =
+      -- 10: at least 8 bytes
+      (counting [] 32 gives by 10)
+      ∷ (counting (take 7 one) 32 gives by 10)
+      ∷ (counting (take 8 one) 32 gives by 10)
+      -- version 1
+      ∷ (counting (slice 0 0 1 1 1 216) 32 gives by 10)
+      ∷ (counting (slice 2 0 1 1 1 216) 32 gives by 10)
+      -- p at most 15, m, c and s at least 1; what is above 4,096 is refused under 7 by the same test
+      ∷ (counting (slice 1 15 1 1 1 216) 32 gives number 0)
+      ∷ (counting (slice 1 16 1 1 1 216) 32 gives by 10)
+      ∷ (counting (slice 1 0 0 1 1 106) 32 gives by 10)
+      ∷ (counting (slice 1 0 1 0 1 155) 32 gives by 10)
+      ∷ (counting (slice 1 0 1 1 0 171) 32 gives by 10)
+      -- the length is the formula's
+      ∷ (counting (slice 1 0 1 1 1 215) 32 gives by 10)
+      ∷ (counting (slice 1 0 1 1 1 217) 32 gives by 10)
+      ∷ (counting (slice 1 0 2 3 4 583) 32 gives number 0)
+      ∷ (counting (slice 1 0 2 3 4 582) 32 gives by 10)
+      -- 11: a mark of 0 or 1 in every row of every table, and no test of any other byte
+      ∷ (counting (set one 8 1) 32 gives number 0)
+      ∷ (counting (set one 8 2) 32 gives by 11)
+      ∷ (counting (set one 9 2) 32 gives number 0)
+      ∷ (counting (set one 69 1) 32 gives number 0)
+      ∷ (counting (set one 69 2) 32 gives by 11)
+      ∷ (counting (set one 70 2) 32 gives number 0)
+      ∷ (counting (set one 118 1) 32 gives number 0)
+      ∷ (counting (set one 118 2) 32 gives by 11)
+      ∷ (counting (set one 119 2) 32 gives number 0)
+      ∷ (counting (set one 179 1) 32 gives number 0)
+      ∷ (counting (set one 179 2) 32 gives by 11)
+      ∷ (counting (set one 180 2) 32 gives number 0)
+      ∷ (counting (set (slice 1 0 2 2 2 432) 69 255) 32 gives by 11)
+      ∷ (counting (set (slice 1 0 2 2 2 432) 179 255) 32 gives by 11)
+      ∷ (counting (set (slice 1 0 2 2 2 432) 289 255) 32 gives by 11)
+      ∷ (counting (set (slice 1 0 2 2 2 432) 395 255) 32 gives by 11)
+      -- in order, in every call [01:RS1]
+      ∷ (counting (set (slice 2 0 1 1 1 216) 8 2) 32 gives by 10)
+      ∷ (finding (set (slice 2 0 1 1 1 216) 8 2) 96 0 gives by 10)
+      ∷ (finding (set one 8 2) 96 0 gives by 11)
+      ∷ (erasing (set (slice 2 0 1 1 1 216) 8 2) 16 gives by 10)
+      ∷ (erasing (set one 8 2) 16 gives by 11)
+      ∷ (inserting (set (slice 2 0 1 1 1 216) 8 2) 16 24 140 1 gives by 10)
+      ∷ (inserting (set one 8 2) 16 24 140 1 gives by 11)
+      ∷ (compacting (set (slice 2 0 1 1 1 216) 179 2) 0 32 gives by 10)
+      ∷ (compacting (set one 179 2) 0 32 gives by 11)
+      ∷ []
+
+  -- insert: 12 to 17 [01:RS4 RS6 RS7 RS8 RS9 RS10]
+  abbrev pub insertCases : List Case
+  insertCases =
+      -- 12: the token's p is the store's
+      (inserting one 16 24 140 1 gives by 12)
+      ∷ (inserting (slice 1 15 1 1 1 216) 16 24 140 15 gives number 1)
+      ∷ (inserting (slice 1 15 1 1 1 216) 16 24 140 14 gives by 12)
+      ∷ (inserting (slice 1 15 1 1 1 216) 16 24 140 0 gives by 12)
+      -- 13: the first number of counter Start + k is 0, and its count is at most 4,294,967,295; 14: so is the new count
+      ∷ (inserting (withC 0 2 (counterIs 1 (eight 0) (eight 7) ∷ zeros 61 ∷ [])) 16 24 140 0 gives number 8)
+      ∷ (inserting (withC 0 2 (counterIs 1 (eight 1) (eight 7) ∷ zeros 61 ∷ [])) 16 24 140 0 gives by 13)
+      ∷ (inserting (withC 0 2 (counterIs 1 (eight 0) belowLimit ∷ zeros 61 ∷ [])) 16 24 140 0 gives number 4294967295)
+      ∷ (inserting (withC 0 2 (counterIs 1 (eight 0) atLimit ∷ zeros 61 ∷ [])) 16 24 140 0 gives by 14)
+      ∷ (inserting (withC 0 2 (counterIs 1 (eight 0) aboveLimit ∷ zeros 61 ∷ [])) 16 24 140 0 gives by 13)
+      -- only that counter is read [01:RC6]
+      ∷ (inserting (withC 0 3 (counterIs 1 (eight 1) aboveLimit ∷ counterIs 2 (eight 0) (eight 7) ∷ zeros 61 ∷ [])) 16 24 140 0 gives number 8)
+      ∷ (inserting (withC 0 3 (counterIs 1 (eight 0) (eight 7) ∷ counterIs 2 (eight 1) (eight 8) ∷ zeros 61 ∷ [])) 16 24 140 0 gives by 13)
+      -- 13: the numbers of anchor B are at most 4,294,967,295
+      ∷ (inserting (withC 0 2 (anchorIs 1 (eight 5) (eight 7) ∷ zeros 61 ∷ [])) 16 24 140 0 gives number 8)
+      ∷ (inserting (withC 0 2 (anchorIs 1 atLimit belowLimit ∷ zeros 61 ∷ [])) 16 24 140 0 gives number 4294967295)
+      ∷ (inserting (withC 0 2 (anchorIs 1 atLimit atLimit ∷ zeros 61 ∷ [])) 16 24 140 0 gives by 14)
+      ∷ (inserting (withC 0 2 (anchorIs 1 aboveLimit (eight 7) ∷ zeros 61 ∷ [])) 16 24 140 0 gives by 13)
+      ∷ (inserting (withC 0 2 (anchorIs 1 (eight 5) aboveLimit ∷ zeros 61 ∷ [])) 16 24 140 0 gives by 13)
+      -- also where a counter follows it
+      ∷ (inserting (withC 0 3 (anchorIs 1 (eight 5) (eight 7) ∷ counterIs 6 (eight 0) (eight 9) ∷ zeros 61 ∷ [])) 16 24 140 0 gives number 10)
+      ∷ (inserting (withC 0 3 (anchorIs 1 (eight 5) (eight 7) ∷ counterIs 6 (eight 1) (eight 9) ∷ zeros 61 ∷ [])) 16 24 140 0 gives by 13)
+      ∷ (inserting (withC 0 3 (anchorIs 1 (eight 5) (eight 7) ∷ counterIs 6 (eight 0) aboveLimit ∷ zeros 61 ∷ [])) 16 24 140 0 gives by 13)
+      ∷ (inserting (withC 0 3 (anchorIs 1 (eight 5) aboveLimit ∷ counterIs 6 (eight 0) (eight 9) ∷ zeros 61 ∷ [])) 16 24 140 0 gives by 13)
+      ∷ (inserting (withC 0 3 (anchorIs 1 atLimit (eight 7) ∷ rowC (zeros 32) 1 aboveLimit (eight 0) (eight 9) ∷ zeros 61 ∷ [])) 16 24 140 0 gives number 10)
+      ∷ (inserting (withC 0 3 (anchorIs 1 aboveLimit (eight 7) ∷ rowC (zeros 32) 1 (0 ∷ 0 ∷ 0 ∷ 1 ∷ 0 ∷ 0 ∷ 0 ∷ 1 ∷ []) (eight 0) (eight 9) ∷ zeros 61 ∷ [])) 16 24 140 0 gives by 13)
+      -- only anchor B is read
+      ∷ (inserting (withC 0 3 (anchorIs 1 aboveLimit aboveLimit ∷ anchorIs 2 (eight 5) (eight 7) ∷ zeros 61 ∷ [])) 16 24 140 0 gives number 8)
+      -- 15: as many free rows of M and of V as ids
+      ∷ (inserting (slice 1 0 2 1 1 326) 32 36 140 0 gives number 2)
+      ∷ (inserting (slice 1 0 2 1 1 326) 48 48 140 0 gives by 15)
+      ∷ (inserting (set (slice 1 0 2 1 1 326) 69 1) 16 24 140 0 gives number 1)
+      ∷ (inserting (set (slice 1 0 2 1 1 326) 69 1) 32 36 140 0 gives by 15)
+      ∷ (inserting (set (slice 1 0 2 1 1 326) 130 1) 32 36 140 0 gives by 15)
+      -- 16: a free row of C; 17: a free row of S
+      ∷ (inserting (set one 118 1) 16 24 140 0 gives by 16)
+      ∷ (inserting (set one 179 1) 16 24 140 0 gives by 17)
+      -- in order [01:RS1]
+      ∷ (inserting (withC 0 1 (counterIs 1 (eight 1) (eight 7) ∷ [])) 16 24 140 1 gives by 12)
+      ∷ (inserting (set (withC 0 1 (counterIs 1 (eight 1) (eight 7) ∷ [])) 8 1) 16 24 140 0 gives by 13)
+      ∷ (inserting (set (withC 0 1 (counterIs 1 (eight 0) atLimit ∷ [])) 8 1) 16 24 140 0 gives by 14)
+      ∷ (inserting (set (set one 8 1) 118 1) 16 24 140 0 gives by 15)
+      ∷ (inserting (set (set one 118 1) 179 1) 16 24 140 0 gives by 16)
+      ∷ []
+
+  -- find and count: 13, with every share read first, and 18 [01:RS6 RS11]; share u of a token of zeros has CL F(0.., u)
+  abbrev pub ofShare : ℕ → List ℕ → List ℕ → List ℕ
+  ofShare u a n = rowC (F (zeros 32) (eight u)) 1 (eight 1) a n
+
+  -- one id at address 1 of share 0
+  abbrev pub oneFound : List (List ℕ) → List ℕ
+  oneFound rows =
+      1 ∷ 1 ∷ 0 ∷ 1 ∷ 0 ∷ 2 ∷ 0 ∷ 1 ∷ []
+      ++ ((1 ∷ F (F (zeros 32) (eight 0)) (eight 1) ++ (zeros 12 ++ E (F (zeros 32) (eight 0)) (zeros 12) (places 1 16)))
+      ++ (zeros 49 ++ (flat rows ++ zeros 45)))
+
+  abbrev pub queryCases : List Case
+  queryCases =
+      (counting (withC 1 2 (ofShare 0 (eight 0) (eight 3) ∷ ofShare 1 (eight 0) (eight 4) ∷ [])) 32 gives number 7)
+      ∷ (counting (withC 1 2 (ofShare 0 (eight 1) (eight 3) ∷ ofShare 1 (eight 0) (eight 4) ∷ [])) 32 gives by 13)
+      ∷ (counting (withC 1 2 (ofShare 0 (eight 0) (eight 3) ∷ ofShare 1 (eight 0) aboveLimit ∷ [])) 32 gives by 13)
+      ∷ (counting (withC 1 2 (ofShare 0 (eight 0) atLimit ∷ ofShare 1 (eight 0) atLimit ∷ [])) 32 gives number 8589934590)
+      -- share 1 of a store with p = 0 is not read
+      ∷ (counting (withC 0 2 (ofShare 0 (eight 0) (eight 3) ∷ ofShare 1 (eight 1) (eight 4) ∷ [])) 32 gives number 3)
+      ∷ (finding (oneFound (ofShare 0 (eight 0) (eight 1) ∷ ofShare 1 (eight 0) (eight 4) ∷ [])) 96 16 gives number 1)
+      ∷ (finding (oneFound (ofShare 0 (eight 0) (eight 1) ∷ ofShare 1 (eight 0) (eight 4) ∷ [])) 96 15 gives refused 18 (1 ∷ []))
+      ∷ (finding (oneFound (ofShare 0 (eight 0) (eight 1) ∷ ofShare 1 (eight 0) aboveLimit ∷ [])) 96 16 gives by 13)
+      -- in order [01:RS1]
+      ∷ (finding (oneFound (ofShare 0 (eight 0) (eight 1) ∷ ofShare 1 (eight 1) (eight 4) ∷ [])) 96 15 gives by 13)
+      ∷ (finding (set (oneFound (ofShare 0 (eight 0) (eight 1) ∷ ofShare 1 (eight 1) (eight 4) ∷ [])) 69 2) 96 15 gives by 11)
+      ∷ (counting (set (withC 1 2 (ofShare 0 (eight 1) (eight 3) ∷ zeros 61 ∷ [])) 8 2) 32 gives by 11)
+      ∷ []
