@@ -307,9 +307,26 @@ def no_room(b):
             b.refused(words, "refused", "cannot write store.new: File too large", restore_signals=False,
                       preexec_fn=lambda: resource.setrlimit(resource.RLIMIT_FSIZE, (limit, limit)))
     tried = ["a limit on a file's size"]
+    if shutil.which("cc"):
+        # a disk that takes 500 bytes more
+        source, full = b.folder / "full.c", b.folder / "full.so"
+        source.write_text("#include <errno.h>\n#include <sys/syscall.h>\n#include <unistd.h>\n"
+                          "ssize_t write(int fd, const void *from, size_t n) {\n"
+                          "  static size_t left = 500;\n"
+                          "  if (fd > 2 && left == 0) return errno = ENOSPC, -1;\n"
+                          "  if (fd > 2 && n > left) n = left;\n"
+                          "  if (fd > 2) left -= n;\n"
+                          "  return syscall(SYS_write, fd, from, n);\n}\n")
+        subprocess.run(["cc", "-shared", "-fPIC", "-o", full, source], check=True)
+        for words in changing:
+            b.refused(words, "refused", "cannot write store.new: No space left", env={"LD_PRELOAD": str(full)})
+        tried.append("a full disk")
+    else:
+        left_out("a full disk", "there is no cc")
     room = b.folder / "disk"
     room.mkdir()
     if os.geteuid() == 0 and shutil.which("mount") and subprocess.run(["mount", "-t", "tmpfs", "-o", "size=8k", "tmpfs", room], capture_output=True).returncode == 0:
+        # where mount is allowed, a file system that is full as well
         try:
             shutil.copy(b.store, room / "store")
             before = (room / "store").read_bytes()
@@ -324,8 +341,6 @@ def no_room(b):
             tried.append("a full file system")
         finally:
             subprocess.run(["umount", room], check=True)
-    else:
-        left_out("a full file system", "only root can mount one, and where mount is allowed")
     if os.geteuid() == 0:
         os.chmod(b.key, 0o644)
         for words in changing:
