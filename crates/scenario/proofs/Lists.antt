@@ -10,6 +10,8 @@ use lib.Dec.{eqb}
 use lib.ListN.{length, length-append, length-drop, getD, take, drop, set, drop-of-length-le, replicate, length-replicate}
 use lib.Seq.{drop-cons, set-at, take-all}
 use Rattle.octets.specs.Number.{number}
+use Rattle.octets.specs.Part.{back}
+use Rattle.octets.proofs.Parts.{length-part, length-back, halves}
 use Rattle.table.specs.Lists.{anyOf}
 use Rattle.hmac.specs.declared.Keyed.{Keyed}
 use Rattle.scheme.specs.Keys.{share, CT, findMT, findCL}
@@ -17,8 +19,10 @@ use Rattle.suite.specs.Program.{program}
 use Rattle.format.specs.declared.Keys.{Keys}
 use Rattle.format.specs.Tags.{numberedBy, Prepared, KeysOf}
 use Rattle.format.proofs.Tags.{share-is}
+use Rattle.scenario.specs.declared.premise.PairKeys.{PairKeys}
 use Rattle.scenario.specs.declared.premise.Kind.{Kind}
-use Rattle.scenario.specs.Premise.{tagOf, startsOf, occursIn, repeating}
+use Rattle.scenario.specs.declared.premise.Kind.the-variants.{Entry, Counter, Anchor}
+use Rattle.scenario.specs.Premise.{tagOf, startsOf, occursIn, repeating, tokenOf, PairTags, Twice}
 
 module _ (x : ℕ) (l : List ℕ) (i : ℕ) (h : i < length l) where
   next : occursIn x (drop i l) ≡ (eqb (getD l i 0) x || occursIn x (drop (i + 1) l))
@@ -102,3 +106,33 @@ module _ (kind : Kind) (key : Keyed) where
 
     pub over-all : i ≡ length old → list ≡ startsOf kind key 0 (length old)
     over-all h = e ∙ ap₂ (λ (x y : List ℕ). x ++ y) (ap (startsOf kind key 0) h) (drop-of-length-le old {i = i} (omega arith)) ∙ append-nil (startsOf kind key 0 (length old))
+
+-- ---- pairs
+
+-- the keys are those of the token that was made
+pub pair-tags : (key name value token : List ℕ) (u w half : ℕ) (keys : PairKeys) (m c : List ℕ) → token ≡ tokenOf key name value
+    → Prepared (keys .mt) (share program (findMT token) u) × Prepared (keys .ct) (CT program (share program (findCL token) u))
+    → (m ≡ startsOf Entry (keys .mt) 0 w) × (c ≡ startsOf Counter (keys .ct) 0 half ++ startsOf Anchor (keys .ct) 0 half)
+    → PairTags key w half m c
+pair-tags key name value token u w half keys m c e k f = record {
+  name = name;
+  value = value;
+  u = u;
+  keys = keys;
+  mt = subst (λ (t : List ℕ). Prepared (keys .mt) (share program (findMT t) u)) e (k .0);
+  ct = subst (λ (t : List ℕ). Prepared (keys .ct) (CT program (share program (findCL t) u))) e (k .1);
+  entries = f .0;
+  counters = f .1;
+}
+
+-- two parts fill a list
+module _ (xs : List ℕ) (a e : ℕ) (h : length xs ≡ e) (i : a ≤ e) where
+  pub first-part : length (take (a - 0) (drop 0 xs)) ≡ a
+  first-part = length-part xs 0 a (omega arith) ∙ omega arith
+
+  pub second-part : (x : List ℕ) → length x ≡ a → length (take (e - a) (drop a (back xs 0 a x))) ≡ e - a
+  second-part x k = length-part (back xs 0 a x) a e (omega (arith, length-back xs 0 a x (omega arith) (omega arith) (omega arith)))
+
+pub twice : (P : List ℕ → List ℕ → Type 0) (m c m₁ m₂ c₁ c₂ : List ℕ) (a b d e : ℕ) → length m ≡ b → length m₁ ≡ a → length c ≡ e → length c₁ ≡ d → P m₁ c₁ → P m₂ c₂
+    → Twice P (back (back m 0 a m₁) a b m₂) (back (back c 0 d c₁) d e c₂)
+twice P m c m₁ m₂ c₁ c₂ a b d e h i j k f g = record { m₁ = m₁; m₂ = m₂; c₁ = c₁; c₂ = c₂; first = f; second = g; entries = halves m m₁ m₂ a b h i; counters = halves c c₁ c₂ d e j k }

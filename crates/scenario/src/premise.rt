@@ -14,7 +14,7 @@ ghost use lib.ListN.{length};
 ghost use Rattle.scheme.specs.Keys.{share, CT, findMT, findCL};
 ghost use Rattle.suite.specs.Program.{program};
 ghost use Rattle.format.specs.Tags.{Prepared};
-ghost use Rattle.scenario.specs.Premise.{tagOf, startsOf, occursIn, repeating};
+ghost use Rattle.scenario.specs.Premise.{tagOf, startsOf, occursIn, repeating, PairTags, Twice};
 
 pub enum Kind {
     Entry,
@@ -112,8 +112,7 @@ fn pair(keys: PairKeys, half: usize, m: &mut [u64], c: &mut [u64])
 // Reads a field and a share, and makes the starts of that pair's tags.
 fn read_pair(key: &[u8], half: usize, m: &mut [u64], c: &mut [u64])
     requires { ⌜ (length (now c) ≡ half + half) × (half ≤ 1024) ⌝ }
-    ensures { λ _. ⌜ length (now (m .exit)) ≡ length (now (m .entry)) ⌝ }
-    ensures { λ _. ⌜ length (now (c .exit)) ≡ length (now (c .entry)) ⌝ }
+    ensures { λ _. ⌜ PairTags (now (key .entry)) (length (now (m .entry))) half (now (m .exit)) (now (c .exit)) ⌝ }
 {
     let mut name = [0u8; 300];
     let a = records::read_bytes(&mut name);
@@ -142,8 +141,7 @@ fn tell(table: &[u8], list: &[u64])
 // The tags of two pairs, which are read: a field in two shares.
 fn two(key: &[u8], w: usize, half: usize, m: &mut [u64], c: &mut [u64])
     requires { ⌜ ((w ≤ 2048) × (half ≤ 128)) × ((length (now m) ≡ 2 * w) × (length (now c) ≡ 4 * half)) ⌝ }
-    ensures { λ _. ⌜ length (now (m .exit)) ≡ length (now (m .entry)) ⌝ }
-    ensures { λ _. ⌜ length (now (c .exit)) ≡ length (now (c .entry)) ⌝ }
+    ensures { λ _. ⌜ Twice (PairTags (now (key .entry)) w half) (now (m .exit)) (now (c .exit)) ⌝ }
 {
     let v = 2 * half;
     read_pair(key, half, &mut m[0..w], &mut c[0..v]);
@@ -153,8 +151,7 @@ fn two(key: &[u8], w: usize, half: usize, m: &mut [u64], c: &mut [u64])
 // The tags of four pairs: two fields in two shares.
 fn four(key: &[u8], w: usize, half: usize, m: &mut [u64], c: &mut [u64])
     requires { ⌜ ((w ≤ 2048) × (half ≤ 128)) × ((length (now m) ≡ 4 * w) × (length (now c) ≡ 8 * half)) ⌝ }
-    ensures { λ _. ⌜ length (now (m .exit)) ≡ length (now (m .entry)) ⌝ }
-    ensures { λ _. ⌜ length (now (c .exit)) ≡ length (now (c .entry)) ⌝ }
+    ensures { λ _. ⌜ Twice (Twice (PairTags (now (key .entry)) w half)) (now (m .exit)) (now (c .exit)) ⌝ }
 {
     let x = 2 * w;
     let y = 4 * half;
@@ -165,8 +162,7 @@ fn four(key: &[u8], w: usize, half: usize, m: &mut [u64], c: &mut [u64])
 // Makes the starts of the tags, and tells whether they differ.
 fn check(key: &[u8], w: usize, half: usize, m: &mut [u64], c: &mut [u64])
     requires { ⌜ ((w ≤ 2048) × (half ≤ 128)) × ((length (now m) ≡ 4 * w) × (length (now c) ≡ 8 * half)) ⌝ }
-    ensures { λ _. ⌜ length (now (m .exit)) ≡ length (now (m .entry)) ⌝ }
-    ensures { λ _. ⌜ length (now (c .exit)) ≡ length (now (c .entry)) ⌝ }
+    ensures { λ _. ⌜ Twice (Twice (PairTags (now (key .entry)) w half)) (now (m .exit)) (now (c .exit)) ⌝ }
 {
     four(key, w, half, m, c);
     write::text(b":");
