@@ -1,1 +1,2 @@
 pub mod Premise
+pub mod Given

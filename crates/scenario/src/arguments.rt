@@ -2,14 +2,14 @@
 use crate::write;
 use answer::Counted;
 ghost use mathlib.Core.Path.{_≡_};
-ghost use lib.ListN.{length};
 ghost use Rattle.scheme.specs.Find.{find as findOf};
 ghost use Rattle.scheme.specs.Run.{findCall};
 ghost use Rattle.suite.specs.Program.{program};
 ghost use Rattle.client.specs.Making.{fieldOf};
+ghost use Rattle.scenario.specs.Given.{Inserted, Erased, Compacted, InsertedBy, CompactedBy};
 
 pub fn insert(store: &mut [u8])
-    ensures { λ _. ⌜ length (now (store .exit)) ≡ length (now (store .entry)) ⌝ }
+    ensures { λ _. ⌜ Inserted (now (store .entry)) (now (store .exit)) ⌝ }
 {
     let mut key = [0u8; 64];
     let k = records::read_bytes(&mut key);
@@ -41,7 +41,7 @@ pub fn insert(store: &mut [u8])
 }
 
 pub fn erase(store: &mut [u8])
-    ensures { λ _. ⌜ length (now (store .exit)) ≡ length (now (store .entry)) ⌝ }
+    ensures { λ _. ⌜ Erased (now (store .entry)) (now (store .exit)) ⌝ }
 {
     let mut id = [0u8; 64];
     let i = records::read_bytes(&mut id);
@@ -96,7 +96,7 @@ pub fn count(store: &[u8])
 }
 
 pub fn compact(store: &mut [u8])
-    ensures { λ _. ⌜ length (now (store .exit)) ≡ length (now (store .entry)) ⌝ }
+    ensures { λ _. ⌜ Compacted (now (store .entry)) (now (store .exit)) ⌝ }
 {
     let mut key = [0u8; 64];
     let k = records::read_bytes(&mut key);
@@ -108,7 +108,7 @@ pub fn compact(store: &mut [u8])
 }
 
 pub fn insert_by(store: &mut [u8])
-    ensures { λ _. ⌜ length (now (store .exit)) ≡ length (now (store .entry)) ⌝ }
+    ensures { λ _. ⌜ InsertedBy (now (store .entry)) (now (store .exit)) ⌝ }
 {
     let mut token = [0u8; 200];
     let t = records::read_bytes(&mut token);
@@ -149,7 +149,7 @@ pub fn count_by(store: &[u8])
 }
 
 pub fn compact_by(store: &mut [u8])
-    ensures { λ _. ⌜ length (now (store .exit)) ≡ length (now (store .entry)) ⌝ }
+    ensures { λ _. ⌜ CompactedBy (now (store .entry)) (now (store .exit)) ⌝ }
 {
     let mut token = [0u8; 200];
     let t = records::read_bytes(&mut token);

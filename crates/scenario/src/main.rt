@@ -4,8 +4,8 @@
 // tests/model/scenario.py makes the records, and the lines to expect from a model of its own.
 //
 // Input: the number of records. A record is its kind, one byte, and its numbers and byte strings in the
-// order of the call's arguments; crates/records reads them. What is read is in no contract: the
-// functions that call on a store say that its length stays.
+// order of the call's arguments; crates/records reads them. What is read cannot be told: in contracts it
+// stands as fields, and the store after a record is that of the call on some such arguments.
 mod arguments;
 mod making;
 mod premise;
@@ -15,6 +15,7 @@ ghost use mathlib.Core.Path.{_≡_};
 ghost use Prim.Native.Nat.{_≤_};
 ghost use lib.ListN.{length, replicate};
 ghost use Rattle.scheme.specs.Store.{make as makeOf};
+ghost use Rattle.scenario.specs.Given.{Called, MadeIn, Overwritten, Resized, Recorded, RanAll};
 
 // Writes a title.
 fn title()
@@ -36,7 +37,7 @@ fn make(p: u64, m: u64, c: u64, s: u64, slice: &mut [u8])
 
 // Makes a store of the length asked for, and tells that length.
 fn make_in(room: &mut [u8]) -> usize
-    ensures { λ r. ⌜ (r ≤ length (now (room .entry))) × (length (now (room .exit)) ≡ length (now (room .entry))) ⌝ }
+    ensures { λ r. ⌜ (r ≤ length (now (room .entry))) × MadeIn (now (room .entry)) r (now (room .exit)) ⌝ }
 {
     let p = records::read_number();
     let m = records::read_number();
@@ -52,7 +53,7 @@ fn make_in(room: &mut [u8]) -> usize
 
 // Writes over bytes of the store: damage, forged rows.
 fn set(room: &mut [u8])
-    ensures { λ _. ⌜ length (now (room .exit)) ≡ length (now (room .entry)) ⌝ }
+    ensures { λ _. ⌜ Overwritten (now (room .entry)) (now (room .exit)) ⌝ }
 {
     let at = records::read_number() as usize;
     let mut bytes = [0u8; 4096];
@@ -64,7 +65,7 @@ fn set(room: &mut [u8])
 
 // Another length for the store.
 fn resize(room: usize) -> usize
-    ensures { λ r. ⌜ r ≤ room ⌝ }
+    ensures { λ r. ⌜ (r ≤ room) × Resized room r ⌝ }
 {
     let n = records::read_number() as usize;
     if room < n { 0 } else { n }
@@ -72,7 +73,7 @@ fn resize(room: usize) -> usize
 
 // A call on the store.
 fn call(kind: u64, store: &mut [u8])
-    ensures { λ _. ⌜ length (now (store .exit)) ≡ length (now (store .entry)) ⌝ }
+    ensures { λ _. ⌜ Called (now (store .entry)) kind (now (store .exit)) ⌝ }
 {
     match kind {
         4 => arguments::insert(store),
@@ -107,7 +108,7 @@ fn other(kind: u64)
 // One record; tells the store's length after it.
 fn record(room: &mut [u8], n: usize) -> usize
     requires { ⌜ n ≤ length (now room) ⌝ }
-    ensures { λ r. ⌜ (r ≤ length (now (room .entry))) × (length (now (room .exit)) ≡ length (now (room .entry))) ⌝ }
+    ensures { λ r. ⌜ (r ≤ length (now (room .entry))) × Recorded n (now (room .entry)) r (now (room .exit)) ⌝ }
 {
     let kind = records::read_byte();
     match kind {
@@ -130,7 +131,7 @@ fn record(room: &mut [u8], n: usize) -> usize
 
 // All records.
 fn run(room: &mut [u8])
-    ensures { λ _. ⌜ length (now (room .exit)) ≡ length (now (room .entry)) ⌝ }
+    ensures { λ _. ⌜ RanAll (now (room .entry)) (now (room .exit)) ⌝ }
 {
     let mut n = 0;
     let mut left = records::read_number();
