@@ -1,8 +1,12 @@
--- The worked examples hold: the checker computes both sides. The store runs over a small suite: F a sum of multiples, E the reversal.
-use Prim.Native.Nat.{_+_, _*_}
-use mathlib.Core.Path.{refl}
-use mathlib.Core.List.{reverse, reverse-reverse}
-use lib.ListN.{length-reverse}
+-- The examples hold: the checker computes both sides. Where a suite has to compute, it is a small one: F a sum of multiples, E a mirroring.
+use Prim.Native.Nat.{ℕ, _+_, _*_, _-_, _%_}
+use mathlib.Core.Path.{_≡_, refl}
+use mathlib.Core.Bool.{Bool, true, false, cond}
+use mathlib.Core.List.{List, [], _∷_, map}
+use native.Mathlib.Omega.{arith}
+use lib.Dec.{ltb}
+use lib.ListN.{length-map}
+use borrow.Author.Tests.{ltb-false, le-ltb}
 use Rattle.table.specs.Lists.{All}
 use Rattle.table.specs.Table.{lookup, holds, placeOf}
 use Rattle.scheme.specs.Suite.{Suite, number8, valueOf}
@@ -25,17 +29,32 @@ use Rattle.scheme.specs.Examples.{examples}
 use Rattle.octets.specs.Number.{bytes, continued}
 use Rattle.octets.proofs.Numbers.{length-bytes}
 
--- a suite that computes: different keys and messages of the examples give different sums
+-- mirrored at a number that key and nonce give; what is above that number stays
+abbrev mirrored : ℕ → ℕ → ℕ
+mirrored s x = cond (ltb s x) x (s - x)
+
+mirrored-twice : (s x : ℕ) → mirrored s (mirrored s x) ≡ x
+mirrored-twice s x = go (ltb s x) refl
+  where
+    go : (b : Bool) → ltb s x ≡ b → mirrored s (cond b x (s - x)) ≡ x
+    go true h = rw h
+    go false h = let k = ltb-false s x h in rw (le-ltb s (s - x) (omega arith)) (omega arith)
+
+pub all-mirrored-twice : (s : ℕ) (t : List ℕ) → map (mirrored s) (map (mirrored s) t) ≡ t
+all-mirrored-twice s [] = refl
+all-mirrored-twice s (x ∷ t) = rw (mirrored-twice s x, all-mirrored-twice s t)
+
+-- a suite that computes: different keys, messages and nonces of the examples give different results
 abbrev small : Suite
 small = record {
   F = λ k x. bytes 32 (1000003 * continued 0 k + 7919 * continued 1 x);
-  E = λ k n t. reverse t;
+  E = λ k n t. map (mirrored (128 + (continued 1 k + 3 * continued 1 n) % 127)) t;
   F-length = λ k x. length-bytes 32 (1000003 * continued 0 k + 7919 * continued 1 x);
-  E-length = λ k n t. length-reverse t;
-  E-undoes = λ k n t. reverse-reverse t;
+  E-length = λ k n t. length-map t (mirrored (128 + (continued 1 k + 3 * continued 1 n) % 127));
+  E-undoes = λ k n t. all-mirrored-twice (128 + (continued 1 k + 3 * continued 1 n) % 127) t;
 }
 
 pub examples-hold : All Holds (examples small)
 unfolding bytes continued lookup holds placeOf number8 valueOf sameField fieldLengthsBad sevens label KM KC KS MTof MEof CLof share MT ME CL CT CE insertToken findToken countToken compactionToken tokenP tokenMT tokenME tokenCL tokenLog findMT findME findCL sizesBad lengthFor headerOf sizesOf cut joined headerBad marksBad stateTests fresh makeTests make entryTag entryRow reverseRow counterTag anchorTag countedRow counterRow anchorRow idIn plainIn clIn logRow reverseId reverseTag numbersAt anchorsHeld anchorNumbers startOf countersHeld counterNumbers isDamage reading insertTokenTests fieldTokenTests keyTests insertInputTests eraseInputTests compactionInputTests tokenTests insertReading newCount insertStateTests insertVerdict newEntries newReverses newCounter newLog insertedStore eraseVerdict isReverse erasedTags isErased erasedStore erase shareReading idsOfShare idsFound findVerdict find countVerdict sumOfCounts Count.count logOf freeLog compactVerdict freedCounters nextAnchor logged compactedStore samePair empty H removed withPair ledgerInsertVerdict appended afterInsert afterErase ledgerIds ledgerSum ledgerFindVerdict ledgerCompactVerdict afterCompaction ledgerStep findCall countCall insertedLowest insertLowest treatedLowest compactLowest callLowest
 examples-hold =
-    (refl, (refl, (refl, (refl, (refl, (refl, (refl, (refl, ((λ suite k nonce id. refl), (refl, (refl, (refl, (refl, (refl, (refl, tt)))))))))))))))
+    (refl, (refl, (refl, (refl, (refl, (refl, (refl, (refl, ((λ suite k l nonce id. refl), (refl, (refl, (refl, (refl, (refl, (refl, tt)))))))))))))))

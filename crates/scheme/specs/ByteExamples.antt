@@ -7,9 +7,10 @@ use Rattle.scheme.specs.Suite.{Suite, number8, valueOf}
 use Rattle.scheme.specs.Labels.{Field}
 use Rattle.scheme.specs.Keys.{KM, KC, KS, MT, ME, CL, CT, CE, insertToken, findToken, countToken, compactionToken, tokenP, tokenMT, tokenME, tokenCL, tokenLog, findMT, findME, findCL}
 use Rattle.scheme.specs.Store.{Sizes, Which, tableM, tableV, tableC, tableS, headerOf, sizesOf, startOf, lengthFor, cut, fresh, make, entryTag, entryRow, reverseRow, counterTag, anchorTag, counterRow, anchorRow, idIn, plainIn, clIn, logRow, reverseId, reverseTag}
+use Rattle.scheme.specs.Layout.{spanOf}
 use Rattle.scheme.specs.Erase.{erase}
 use Rattle.scheme.specs.Lowest.{insertLowest}
-use Rattle.scheme.specs.Example.{Equation, _is_, fieldOf, zeros, places, eight}
+use Rattle.scheme.specs.Example.{Equation, _is_, Case, _gives_, fieldOf, zeros, places, eight, number}
 
 -- the field of L2, and its label x
 abbrev pub field : Field
@@ -18,7 +19,7 @@ field = fieldOf (0x61 ∷ 0x62 ∷ []) (0x63 ∷ [])
 abbrev pub x : List ℕ
 x = 0x02 ∷ 0x61 ∷ 0x62 ∷ 0x63 ∷ []
 
--- sizes with a bound of each kind, and sizes whose numbers have two bytes
+-- p, m, c and s
 abbrev pub sizes : ℕ → ℕ → ℕ → ℕ → Sizes
 sizes p m c s = record { p = p; m = m; c = c; s = s }
 
@@ -32,10 +33,28 @@ numberBytes =
     ∷ ((valueOf (places 1 8) ∷ []) is (0x0102030405060708 ∷ []))
     ∷ []
 
-module _ (suite : Suite) (k nonce id : List ℕ) where
+module _ (suite : Suite) (k l nonce id : List ℕ) where
   open Suite suite using (F, E)
 
-  -- keys and tokens: master key k, label x, p = 9, share 5
+  -- with master key k, label x and share 5: KM, KS, F(F(KM, 1), x), F(F(KM, 2), x), F(KC, x), and CL [01:KT2 KT4 KT5 KT6]
+  abbrev km : List ℕ
+  km = F k (eight 1)
+
+  abbrev ks : List ℕ
+  ks = F k (eight 3)
+
+  abbrev mtx : List ℕ
+  mtx = F (F km (eight 1)) x
+
+  abbrev mex : List ℕ
+  mex = F (F km (eight 2)) x
+
+  abbrev clx : List ℕ
+  clx = F (F k (eight 2)) x
+
+  abbrev cl : List ℕ
+  cl = F clx (eight 5)
+
   abbrev pub keyBytes : List Equation
   keyBytes =
       -- KM, KC, KS = F(K, 1), F(K, 2), F(K, 3) [01:KT2]
@@ -43,28 +62,19 @@ module _ (suite : Suite) (k nonce id : List ℕ) where
       ∷ (KC suite k is F k (eight 2))
       ∷ (KS suite k is F k (eight 3))
       -- MT = F(F(F(KM, 1), x), u) and ME = F(F(F(KM, 2), x), u) [01:KT4 KT5]
-      ∷ (MT suite k field 5 is F (F (F (F k (eight 1)) (eight 1)) x) (eight 5))
-      ∷ (ME suite k field 5 is F (F (F (F k (eight 1)) (eight 2)) x) (eight 5))
+      ∷ (MT suite k field 5 is F (F (F km (eight 1)) x) (eight 5))
+      ∷ (ME suite k field 5 is F (F (F km (eight 2)) x) (eight 5))
       -- CL = F(F(KC, x), u), CT = F(CL, 1), CE = F(CL, 2) [01:KT6]
       ∷ (CL suite k field 5 is F (F (F k (eight 2)) x) (eight 5))
       ∷ (CT suite k is F k (eight 1))
       ∷ (CE suite k is F k (eight 2))
-      -- insert token: p, MT, ME, CL, a nonce n, E(KS, n, CL) [01:KT7]
-      ∷ (insertToken suite k field 9 5 nonce is
-      (9
-      ∷ F (F (F (F k (eight 1)) (eight 1)) x) (eight 5)
-      ++ (F (F (F (F k (eight 1)) (eight 2)) x) (eight 5)
-      ++ (F (F (F k (eight 2)) x) (eight 5)
-      ++ (nonce
-      ++ E (F k (eight 3)) nonce (F (F (F k (eight 2)) x) (eight 5)))))))
+      -- insert token: p (here 9), MT, ME, CL, a nonce n, E(KS, n, CL) [01:KT7]
+      ∷ (insertToken suite k field 9 5 nonce is (9 ∷ F mtx (eight 5) ++ (F mex (eight 5) ++ (cl ++ (nonce ++ E ks nonce cl)))))
       -- find token: F(F(KM, 1), x), F(F(KM, 2), x), F(KC, x) [01:KT8]
-      ∷ (findToken suite k field is
-      (F (F (F k (eight 1)) (eight 1)) x
-      ++ (F (F (F k (eight 1)) (eight 2)) x
-      ++ F (F k (eight 2)) x)))
+      ∷ (findToken suite k field is (mtx ++ (mex ++ clx)))
       -- count token: F(KC, x); compaction token: KS [01:KT9 KT10 KT11]
-      ∷ (countToken suite k field is F (F k (eight 2)) x)
-      ∷ (compactionToken suite k is F k (eight 3))
+      ∷ (countToken suite k field is clx)
+      ∷ (compactionToken suite k is ks)
       -- the parts of an insert token of 141 bytes, and of a find token of 96 [01:KT7 KT8]
       ∷ ((tokenP (places 7 141) ∷ []) is (7 ∷ []))
       ∷ (tokenMT (places 0 141) is places 1 32)
@@ -76,25 +86,22 @@ module _ (suite : Suite) (k nonce id : List ℕ) where
       ∷ (findCL (places 0 96) is places 64 32)
       ∷ []
 
-  -- rows, for any MT, ME or CL k
   abbrev pub rowBytes : List Equation
   rowBytes =
-      -- M: mark, tag F(MT, address), nonce, E(ME, nonce, id) [01:ST6]
+      -- M: mark, tag F(MT, address), nonce, E(ME, nonce, id); MT is k and ME is l [01:ST6]
       (entryTag suite k 258 is F k (0 ∷ 0 ∷ 0 ∷ 0 ∷ 0 ∷ 0 ∷ 1 ∷ 2 ∷ []))
-      ∷ (entryRow suite k id 7 nonce id is (1 ∷ F k (eight 7) ++ (nonce ++ E id nonce id)))
+      ∷ (entryRow suite k l 7 nonce id is (1 ∷ F k (eight 7) ++ (nonce ++ E l nonce id)))
       -- V: mark, id, that M row's tag [01:ST8]
       ∷ (reverseRow suite k 7 id is (1 ∷ id ++ F k (eight 7)))
-      -- C: mark, tag F(CT, byte 1 then a), nonce, number 0 and the count under CE [01:ST9 ST10]
-      ∷ (counterRow suite k 7 nonce 9 is
-      (1 ∷ F (F k (eight 1)) (1 ∷ eight 7) ++ (nonce ++ E (F k (eight 2)) nonce (eight 0 ++ eight 9))))
-      -- C: mark, tag F(CT, byte 2 then b), nonce, position and count under CE [01:ST9 ST11]
-      ∷ (anchorRow suite k 7 nonce 8 9 is
-      (1 ∷ F (F k (eight 1)) (2 ∷ eight 7) ++ (nonce ++ E (F k (eight 2)) nonce (eight 8 ++ eight 9))))
+      -- C: mark, tag F(CT, byte 1 then a), nonce, number 0 and the count under CE; CL is k [01:ST9 ST10]
       ∷ (counterTag suite k 258 is F (F k (eight 1)) (1 ∷ 0 ∷ 0 ∷ 0 ∷ 0 ∷ 0 ∷ 0 ∷ 1 ∷ 2 ∷ []))
+      ∷ (counterRow suite k 7 nonce 9 is (1 ∷ F (F k (eight 1)) (1 ∷ eight 7) ++ (nonce ++ E (F k (eight 2)) nonce (eight 0 ++ eight 9))))
+      -- C: mark, tag F(CT, byte 2 then b), nonce, position and count under CE [01:ST9 ST11]
       ∷ (anchorTag suite k 258 is F (F k (eight 1)) (2 ∷ 0 ∷ 0 ∷ 0 ∷ 0 ∷ 0 ∷ 0 ∷ 1 ∷ 2 ∷ []))
-      -- S: mark, nonce, E(KS, nonce, CL) [01:ST12]
-      ∷ (logRow (nonce ++ E k nonce id) is (1 ∷ nonce ++ E k nonce id))
-      -- what is read of a row after its mark: 32 bytes of tag, 12 of nonce and 16 of text in M and C [01:ST6 ST9]
+      ∷ (anchorRow suite k 7 nonce 8 9 is (1 ∷ F (F k (eight 1)) (2 ∷ eight 7) ++ (nonce ++ E (F k (eight 2)) nonce (eight 8 ++ eight 9))))
+      -- S: mark, then the token's nonce and E(KS, nonce, CL) [01:ST12]
+      ∷ (logRow (nonce ++ E k nonce l) is (1 ∷ nonce ++ E k nonce l))
+      -- what is read of a row after its mark: 32 bytes of tag, 12 of nonce and 16 of text in M and C [01:ST6 ST7 ST9]
       ∷ (idIn suite k (places 1 60) is E k (places 33 12) (places 45 16))
       ∷ (plainIn suite k (places 1 60) is E (F k (eight 2)) (places 33 12) (places 45 16))
       -- 16 bytes of id and 32 of tag in V, 12 of nonce and 32 of text in S [01:ST8 ST12]
@@ -115,14 +122,21 @@ sizeNumbers z = z .p ∷ z .m ∷ z .c ∷ z .s ∷ []
 abbrev pub starts : Sizes → List ℕ
 starts z = startOf z tableM ∷ startOf z tableV ∷ startOf z tableC ∷ startOf z tableS ∷ lengthFor z ∷ []
 
+abbrev pub ends : Sizes → List ℕ
+ends z = spanOf z tableM .end ∷ spanOf z tableV .end ∷ spanOf z tableC .end ∷ spanOf z tableS .end ∷ []
+
 abbrev pub storeBytes : List Equation
 storeBytes =
     -- the header: version 1, p, then m, c, s, two bytes each, big-endian [01:ST2]
     (headerOf (sizes 9 258 772 1286) is (1 ∷ 9 ∷ 1 ∷ 2 ∷ 3 ∷ 4 ∷ 5 ∷ 6 ∷ []))
+    ∷ (headerOf (sizes 0 255 256 4096) is (1 ∷ 0 ∷ 0 ∷ 255 ∷ 1 ∷ 0 ∷ 16 ∷ 0 ∷ []))
+    ∷ (headerOf (sizes 15 256 4096 255) is (1 ∷ 15 ∷ 1 ∷ 0 ∷ 16 ∷ 0 ∷ 0 ∷ 255 ∷ []))
+    ∷ (headerOf (sizes 1 4096 255 256) is (1 ∷ 1 ∷ 16 ∷ 0 ∷ 0 ∷ 255 ∷ 1 ∷ 0 ∷ []))
     ∷ (sizeNumbers (sizesOf (1 ∷ 9 ∷ 1 ∷ 2 ∷ 3 ∷ 4 ∷ 5 ∷ 6 ∷ [])) is (9 ∷ 258 ∷ 772 ∷ 1286 ∷ []))
     -- m rows of M, m of V, c of C, s of S, from byte 8 on, and where they end [01:ST3]
     ∷ (starts (sizes 0 1 1 1) is (8 ∷ 69 ∷ 118 ∷ 179 ∷ 224 ∷ []))
     ∷ (starts (sizes 1 4 4 4) is (8 ∷ 252 ∷ 448 ∷ 692 ∷ 872 ∷ []))
+    ∷ (ends (sizes 1 4 4 4) is (252 ∷ 448 ∷ 692 ∷ 872 ∷ []))
     ∷ (starts (sizes 15 10 100 1000) is (8 ∷ 618 ∷ 1108 ∷ 7208 ∷ 52208 ∷ []))
     -- each table is the part that holds it [01:ST4]
     ∷ (flat (cut numbered .table tableM) is places 8 61)
@@ -142,23 +156,34 @@ storeBytes =
 abbrev pub roomForTwo : List ℕ
 roomForTwo = 1 ∷ 0 ∷ 0 ∷ 2 ∷ 0 ∷ 1 ∷ 0 ∷ 1 ∷ []
 
--- ids 1 to 16 and 17 to 32, nonces 1 to 12, 13 to 24 and 25 to 36; the token's p is 0 and its other bytes are their places [01:OP1 OP2]
+-- what an insert writes with a token of which p is 0 and the other bytes are their places: MT 1 to 32, ME 33 to 64, CL 65 to 96, then
+-- the 44 bytes of an S row. A row of M and of V, by address, the first byte of the nonce and of the id; a row of C, by position, the first
+-- byte of the nonce and the count [01:OP1 OP2]
 module _ (suite : Suite) where
   open Suite suite using (F, E)
 
+  abbrev pub newM : ℕ → ℕ → ℕ → List ℕ
+  newM address nonce id = 1 ∷ F (places 1 32) (eight address) ++ (places nonce 12 ++ E (places 33 32) (places nonce 12) (places id 16))
+
+  abbrev pub newV : ℕ → ℕ → List ℕ
+  newV address id = 1 ∷ places id 16 ++ F (places 1 32) (eight address)
+
+  abbrev pub newC : ℕ → ℕ → ℕ → List ℕ
+  newC position nonce n =
+      1 ∷ F (F (places 65 32) (eight 1)) (1 ∷ eight position) ++ (places nonce 12 ++ E (F (places 65 32) (eight 2)) (places nonce 12) (eight 0 ++ eight n))
+
+  abbrev pub newS : List ℕ
+  newS = 1 ∷ places 97 44
+
+  -- ids 1 to 16 and 17 to 32; nonces 1 to 12 and 13 to 24 for them, 25 to 36 for the counter
   abbrev pub insertBytes : List Equation
   insertBytes =
       (insertLowest suite (roomForTwo ++ zeros 326) (places 1 32) (places 1 36) (places 0 141) .store is
       (roomForTwo
-      ++ (flat ((1 ∷ F (places 1 32) (eight 1) ++ (places 1 12 ++ E (places 33 32) (places 1 12) (places 1 16)))
-      ∷ (1 ∷ F (places 1 32) (eight 2) ++ (places 13 12 ++ E (places 33 32) (places 13 12) (places 17 16)))
-      ∷ [])
-      ++ (flat ((1 ∷ places 1 16 ++ F (places 1 32) (eight 1)) ∷ (1 ∷ places 17 16 ++ F (places 1 32) (eight 2)) ∷ [])
-      ++ (flat ((1
-      ∷ F (F (places 65 32) (eight 1)) (1 ∷ eight 1)
-      ++ (places 25 12 ++ E (F (places 65 32) (eight 2)) (places 25 12) (eight 0 ++ eight 2)))
-      ∷ [])
-      ++ (flat ((1 ∷ places 97 44) ∷ []) ++ []))))))
+      ++ (flat (newM 1 1 1 ∷ newM 2 13 17 ∷ [])
+      ++ (flat (newV 1 1 ∷ newV 2 17 ∷ [])
+      ++ (flat (newC 1 25 2 ∷ [])
+      ++ (flat (newS ∷ []) ++ []))))))
       ∷ []
 
 -- rows of M and V with a given tag
@@ -168,20 +193,21 @@ markedM mark tag = mark ∷ places tag 32 ++ places 5 28
 abbrev pub markedV : ℕ → ℕ → ℕ → List ℕ
 markedV mark id tag = mark ∷ places id 16 ++ places tag 32
 
--- the id's V rows are the first and the third; a free row is not read, and keeps its bytes [01:OP4 OP5 ST5 ST14]
+-- the id's V rows are the first and the third, with tags that three M rows have; a free row is not read, and keeps its bytes
+-- [01:OP4 OP5 ST5 ST14]
 abbrev pub beforeErase : List ℕ
 beforeErase =
-    1 ∷ 0 ∷ 0 ∷ 4 ∷ 0 ∷ 1 ∷ 0 ∷ 1 ∷ []
-    ++ (markedM 1 40 ++ (markedM 1 20 ++ (markedM 0 30 ++ (markedM 1 30
-    ++ (markedV 1 9 30 ++ (markedV 1 8 40 ++ (markedV 1 9 20 ++ (markedV 0 9 40
-    ++ (places 1 61 ++ places 1 45)))))))))
+    1 ∷ 0 ∷ 0 ∷ 5 ∷ 0 ∷ 1 ∷ 0 ∷ 1 ∷ []
+    ++ (markedM 1 40 ++ (markedM 1 20 ++ (markedM 0 30 ++ (markedM 1 30 ++ (markedM 1 20
+    ++ (markedV 1 9 30 ++ (markedV 1 8 40 ++ (markedV 1 9 20 ++ (markedV 0 9 40 ++ (zeros 49
+    ++ (places 1 61 ++ places 1 45)))))))))))
 
 abbrev pub afterErase : List ℕ
 afterErase =
-    1 ∷ 0 ∷ 0 ∷ 4 ∷ 0 ∷ 1 ∷ 0 ∷ 1 ∷ []
-    ++ (markedM 1 40 ++ (zeros 61 ++ (markedM 0 30 ++ (zeros 61
-    ++ (zeros 49 ++ (markedV 1 8 40 ++ (zeros 49 ++ (markedV 0 9 40
-    ++ (places 1 61 ++ places 1 45)))))))))
+    1 ∷ 0 ∷ 0 ∷ 5 ∷ 0 ∷ 1 ∷ 0 ∷ 1 ∷ []
+    ++ (markedM 1 40 ++ (zeros 61 ++ (markedM 0 30 ++ (zeros 61 ++ (zeros 61
+    ++ (zeros 49 ++ (markedV 1 8 40 ++ (zeros 49 ++ (markedV 0 9 40 ++ (zeros 49
+    ++ (places 1 61 ++ places 1 45)))))))))))
 
 abbrev pub eraseBytes : List Equation
 eraseBytes =
@@ -190,6 +216,9 @@ eraseBytes =
     ∷ (erase beforeErase (places 9 15) .store is beforeErase)
     ∷ []
 
-abbrev pub byteEquations : Suite → List ℕ → List ℕ → List ℕ → List Equation
-byteEquations suite k nonce id =
-    numberBytes ++ (keyBytes suite k nonce id ++ (rowBytes suite k nonce id ++ (storeBytes ++ (insertBytes suite ++ eraseBytes))))
+abbrev pub eraseCases : List Case
+eraseCases = (erase beforeErase (places 9 16) .answer gives number 2) ∷ (erase beforeErase (places 10 16) .answer gives number 0) ∷ []
+
+abbrev pub byteEquations : Suite → List ℕ → List ℕ → List ℕ → List ℕ → List Equation
+byteEquations suite k l nonce id =
+    numberBytes ++ (keyBytes suite k l nonce id ++ (rowBytes suite k l nonce id ++ (storeBytes ++ (insertBytes suite ++ eraseBytes))))

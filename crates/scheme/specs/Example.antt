@@ -18,12 +18,12 @@ pub data Equation : Type 0 where
 pub data Case : Type 0 where
   _gives_ : Answer → Answer → Case
 
--- a label, what calls tell, bytes, bytes for every suite and any three byte lists, answers
+-- a label, what calls tell, bytes, bytes for every suite and any four byte lists, answers
 pub data Example : Type 0 where
   _yields_ : List ℕ → List ℕ → Example
   _tells_ : List Told → List Told → Example
   bytes : List Equation → Example
-  every : (Suite → List ℕ → List ℕ → List ℕ → List Equation) → Example
+  every : (Suite → List ℕ → List ℕ → List ℕ → List ℕ → List Equation) → Example
   cases : List Case → Example
 
 abbrev pub leftBytes : Equation → List ℕ
@@ -42,7 +42,7 @@ abbrev pub Holds : Example → Type 0
 Holds (a yields b) = a ≡ b
 Holds (a tells b) = a ≡ b
 Holds (bytes es) = map leftBytes es ≡ map rightBytes es
-Holds (every es) = (suite : Suite) (k nonce id : List ℕ) → map leftBytes (es suite k nonce id) ≡ map rightBytes (es suite k nonce id)
+Holds (every es) = (suite : Suite) (k l nonce id : List ℕ) → map leftBytes (es suite k l nonce id) ≡ map rightBytes (es suite k l nonce id)
 Holds (cases cs) = map leftAnswer cs ≡ map rightAnswer cs
 
 -- ---- what examples are written with
@@ -58,7 +58,7 @@ abbrev pub places : ℕ → ℕ → List ℕ
 places a zero = []
 places a (suc n) = a ∷ places (suc a) n
 
--- the 8 bytes of a number below 256 [01:KF6]
+-- the 8 bytes of a number below 256
 abbrev pub eight : ℕ → List ℕ
 eight n = 0 ∷ 0 ∷ 0 ∷ 0 ∷ 0 ∷ 0 ∷ 0 ∷ n ∷ []
 

@@ -7,9 +7,9 @@ use Rattle.table.specs.Lists.{flat}
 use Rattle.scheme.specs.Suite.{Suite}
 use Rattle.scheme.specs.Labels.{Field, label}
 use Rattle.scheme.specs.Example.{Example, _yields_, _tells_, bytes, every, cases, fieldOf}
-use Rattle.scheme.specs.ByteExamples.{byteEquations}
-use Rattle.scheme.specs.RefusalExamples.{makingCases, storeMakingCases, inputCases, stateCases, insertCases, queryCases}
-use Rattle.scheme.specs.ReadingExamples.{readingBytes, compactionCases, compactionBytes}
+use Rattle.scheme.specs.ByteExamples.{byteEquations, eraseCases}
+use Rattle.scheme.specs.RefusalExamples.{makingCases, storeMakingCases, inputCases, stateCases, insertCases, queryCases, queryBytes}
+use Rattle.scheme.specs.ReadingExamples.{readingBytes, laterBytes, compactionCases, compactionBytes}
 use Rattle.scheme.specs.Store.{Sizes, fresh}
 use Rattle.scheme.specs.Call
 use Rattle.scheme.specs.Call.{Call, Told}
@@ -124,10 +124,10 @@ examples suite =
     ((ledgerTells (boundsOf workedSizes) empty workedCalls tells workedTold)
     ∷ (tellsLowest suite workedCalls (fresh workedSizes) tells workedTold)
     ∷ every byteEquations
-    ∷ bytes (readingBytes suite ++ compactionBytes suite)
+    ∷ bytes (readingBytes suite ++ (laterBytes suite ++ (compactionBytes suite ++ queryBytes suite)))
     ∷ cases (makingCases ++ storeMakingCases)
     ∷ cases (inputCases suite)
     ∷ cases (stateCases suite)
-    ∷ cases (insertCases suite ++ queryCases suite)
+    ∷ cases (insertCases suite ++ (eraseCases ++ queryCases suite))
     ∷ cases (compactionCases suite)
     ∷ [])

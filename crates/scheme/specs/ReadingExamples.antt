@@ -1,4 +1,4 @@
--- Examples of readings and compactions (document 01, "Reading a counter", "Operations"), most of them on stores that no list of calls
+-- Examples of readings, inserts and compactions (document 01, "Reading a counter", "Operations"), most of them on stores that no list of calls
 -- makes: rows that are missing, stand twice or are damaged. The claim does not see these.
 use Prim.Native.Nat.{ℕ}
 use mathlib.Core.Path.{refl}
@@ -9,9 +9,10 @@ use Rattle.answer.specs.Answer.{done, refused}
 use Rattle.scheme.specs.Suite.{Suite}
 use Rattle.scheme.specs.Reading.{Reading, damage, counter, reading}
 use Rattle.scheme.specs.Refusals.{Result}
-use Rattle.scheme.specs.Lowest.{compactLowest}
+use Rattle.scheme.specs.Lowest.{insertLowest, compactLowest}
 use Rattle.scheme.specs.Example.{Equation, _is_, Case, _gives_, zeros, places, eight, by}
-use Rattle.scheme.specs.RefusalExamples.{rowC, counterIs, anchorIs, atLimit, aboveLimit}
+use Rattle.scheme.specs.ByteExamples.{newM, newV, newC, newS}
+use Rattle.scheme.specs.RefusalExamples.{withC, rowC, counterIs, anchorIs, atLimit, aboveLimit}
 
 -- a suite in which one row of C holds every counter and every anchor
 abbrev pub blind : Suite
@@ -65,6 +66,18 @@ module _ (suite : Suite) where
       -- B and k are at most c
       ∷ (read blind (blindRow 7 ∷ []) is (1 ∷ 0 ∷ 1 ∷ 7 ∷ []))
       ∷ (read blind (zeros 61 ∷ blindRow 7 ∷ zeros 61 ∷ []) is (3 ∷ 0 ∷ 3 ∷ 7 ∷ []))
+      ∷ []
+
+-- ---- an insert where anchor 1 (position 5, count 7) and counter 6 (count 9) are held: address 10, position 7, count 10 [01:OP1 OP3]
+
+module _ (suite : Suite) where
+  abbrev pub heldC : List (List ℕ)
+  heldC = rowC suite (places 65 32) 2 (eight 1) (eight 5) (eight 7) ∷ rowC suite (places 65 32) 1 (eight 6) (eight 0) (eight 9) ∷ []
+
+  abbrev pub laterBytes : List Equation
+  laterBytes =
+      (insertLowest suite (withC 0 3 (heldC ++ (zeros 61 ∷ []))) (places 1 16) (places 1 24) (places 0 141) .store is
+      (1 ∷ 0 ∷ 0 ∷ 1 ∷ 0 ∷ 3 ∷ 0 ∷ 1 ∷ newM suite 10 1 1 ++ (newV suite 10 1 ++ (flat (heldC ++ (newC suite 7 13 10 ∷ [])) ++ newS suite))))
       ∷ []
 
 -- ---- compactions: p = 0, m = 1, with these rows in C and S
@@ -126,20 +139,27 @@ module _ (suite : Suite) where
       ∷ [])
       (zeros 45 ∷ [])
 
+  -- two rows, of which the first is every counter and every anchor
+  abbrev pub blindTwice : List ℕ
+  blindTwice = withCS (blindRow 7 ∷ blindRow 9 ∷ []) ((1 ∷ zeros 12 ++ clA) ∷ [])
+
   abbrev pub compactionCases : List Case
   compactionCases =
       -- anchors written, counters freed [01:OP13]
       (compacted suite mixed 36 .answer gives done (2 ∷ 3 ∷ []))
       ∷ (compacted suite anchoredBefore 24 .answer gives done (1 ∷ 1 ∷ []))
       ∷ (compacted suite farBefore 12 .answer gives done (1 ∷ 1 ∷ []))
+      -- the sum of the k, also where one row is two of the counters
+      ∷ (compacted blind blindTwice 12 .answer gives done (1 ∷ 2 ∷ []))
       -- 19: a nonce for every used S row [01:RS5]
       ∷ (compacted suite mixed 24 .answer gives by 19)
       ∷ (compacted suite mixed 48 .answer gives done (2 ∷ 3 ∷ []))
+      ∷ (compacted suite (withCS (zeros 61 ∷ []) (replicate 12 (logOf clA))) 132 .answer gives by 19)
+      ∷ (compacted suite (withCS (zeros 61 ∷ []) (replicate 12 (logOf clA))) 144 .answer gives done (0 ∷ 0 ∷ []))
       -- 13 carries both numbers so far; 19 before 13 [01:RS6 RS13 RS1]
       ∷ (compacted suite damagedSecond 24 .answer gives refused 13 (1 ∷ 1 ∷ []))
       ∷ (compacted suite damagedFirst 24 .answer gives refused 13 (0 ∷ 0 ∷ []))
       ∷ (compacted suite damagedFirst 12 .answer gives by 19)
-      ∷ (compacted suite farAfter 0 .answer gives done (0 ∷ 0 ∷ []))
       ∷ (compacted suite (withCS (rowC suite clA 2 (eight 1) aboveLimit (eight 7) ∷ []) (logOf clA ∷ [])) 12 .answer gives refused 13 (0 ∷ 0 ∷ []))
       ∷ []
 
@@ -157,7 +177,7 @@ module _ (suite : Suite) where
       ∷ (compacted suite mixed 24 .store is mixed)
       ∷ (compacted suite damagedSecond 24 .store is withCS (anchorOf clA (places 1 12) 1 2 ∷ damagedB ∷ []) (zeros 45 ∷ logOf clB ∷ []))
       ∷ (compacted suite damagedFirst 24 .store is damagedFirst)
-      -- the rows that the reading held are freed, and no other: here the first row is counter 1 and counter 2 [01:OP11]
-      ∷ (compacted blind (withCS (blindRow 7 ∷ blindRow 9 ∷ []) ((1 ∷ zeros 12 ++ clA) ∷ [])) 12 .store is
+      -- the rows that the reading held are freed, and no other [01:OP11]
+      ∷ (compacted blind blindTwice 12 .store is
       withCS ((1 ∷ zeros 32 ++ (places 1 12 ++ (eight 2 ++ eight 7))) ∷ blindRow 9 ∷ []) (zeros 45 ∷ []))
       ∷ []

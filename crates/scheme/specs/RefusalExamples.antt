@@ -1,19 +1,19 @@
 -- Examples of refusals (document 01, "Refusals from the input", "Refusals from the state"): each number of each call on both sides of its
 -- limit, and where two conditions hold, the earlier one. The claim sees none of 1 to 8, which store and ledger share, nor 10, 11 and 13.
-use Prim.Native.Nat.{ℕ, _+_, _*_}
+use Prim.Native.Nat.{ℕ, _+_}
 use mathlib.Core.List.{List, [], _∷_, _++_}
-use lib.ListN.{take, set}
+use lib.ListN.{length, take, set}
 use Rattle.table.specs.Lists.{flat}
 use Rattle.answer.specs.Answer.{Answer, done, refused}
 use Rattle.answer.specs.Verdict.{verdict, answerOr}
 use Rattle.scheme.specs.Suite.{Suite}
-use Rattle.scheme.specs.Refusals.{insertTokenTests, fieldTokenTests, keyTests, insertInputTests}
+use Rattle.scheme.specs.Refusals.{insertTokenTests, fieldTokenTests, keyTests}
 use Rattle.scheme.specs.Store.{make}
 use Rattle.scheme.specs.Erase
 use Rattle.scheme.specs.Find
 use Rattle.scheme.specs.Count
 use Rattle.scheme.specs.Lowest.{insertLowest, compactLowest}
-use Rattle.scheme.specs.Example.{Case, _gives_, fieldOf, zeros, places, eight, accepted, number, by}
+use Rattle.scheme.specs.Example.{Equation, _is_, Case, _gives_, fieldOf, zeros, places, eight, accepted, number, by}
 
 -- ---- making tokens, by the lengths of key, name and value, p, u and the length of the nonce
 
@@ -105,7 +105,7 @@ storeMakingCases =
 
 -- ---- the calls on a store
 
--- 4,294,967,294 to 4,294,967,297 as 8 bytes
+-- 4,294,967,294 to 4,294,967,296 as 8 bytes
 abbrev pub belowLimit : List ℕ
 belowLimit = 0 ∷ 0 ∷ 0 ∷ 0 ∷ 255 ∷ 255 ∷ 255 ∷ 254 ∷ []
 
@@ -148,11 +148,16 @@ module _ (suite : Suite) where
   abbrev pub inserting : List ℕ → ℕ → ℕ → ℕ → ℕ → Answer
   inserting store ids nonces token p = insertLowest suite store (zeros ids) (zeros nonces) (p ∷ zeros token) .answer
 
+  -- of one id, in a store with these rows and a free one in C
+  abbrev pub insertOver : List (List ℕ) → Answer
+  insertOver rows = inserting (withC 0 (length rows + 1) (rows ++ (zeros 61 ∷ []))) 16 24 140 0
+
+  -- find and count, by the token's length; a find token's bytes are their places, and a count token is its third part
   abbrev pub finding : List ℕ → ℕ → ℕ → Answer
-  finding store token output = Find.find suite store (zeros token) (zeros output) .answer
+  finding store token output = Find.find suite store (places 0 token) (zeros output) .answer
 
   abbrev pub counting : List ℕ → ℕ → Answer
-  counting store token = Count.count suite store (zeros token) .answer
+  counting store token = Count.count suite store (places 64 token) .answer
 
   abbrev pub compacting : List ℕ → ℕ → ℕ → Answer
   compacting store nonces token = compactLowest suite store (zeros nonces) (zeros token) .answer
@@ -217,12 +222,13 @@ module _ (suite : Suite) where
       -- version 1
       ∷ (counting (slice 0 0 1 1 1 216) 32 gives by 10)
       ∷ (counting (slice 2 0 1 1 1 216) 32 gives by 10)
-      -- p at most 15, m, c and s at least 1; what is above 4,096 is refused under 7 by the same test
+      -- p at most 15, m, c and s from 1 to 4,096; m and c above it are tried under 7, by the same test
       ∷ (counting (slice 1 15 1 1 1 216) 32 gives number 0)
       ∷ (counting (slice 1 16 1 1 1 216) 32 gives by 10)
       ∷ (counting (slice 1 0 0 1 1 106) 32 gives by 10)
       ∷ (counting (slice 1 0 1 0 1 155) 32 gives by 10)
       ∷ (counting (slice 1 0 1 1 0 171) 32 gives by 10)
+      ∷ (counting (1 ∷ 0 ∷ 0 ∷ 1 ∷ 0 ∷ 1 ∷ 16 ∷ 1 ∷ zeros 184536) 32 gives by 10)
       -- the length is the formula's
       ∷ (counting (slice 1 0 1 1 1 215) 32 gives by 10)
       ∷ (counting (slice 1 0 1 1 1 217) 32 gives by 10)
@@ -266,29 +272,31 @@ module _ (suite : Suite) where
       ∷ (inserting (slice 1 15 1 1 1 216) 16 24 140 14 gives by 12)
       ∷ (inserting (slice 1 15 1 1 1 216) 16 24 140 0 gives by 12)
       -- 13: the first number of counter Start + k is 0, and its count is at most 4,294,967,295; 14: so is the new count
-      ∷ (inserting (withC 0 2 (counterIs 1 (eight 0) (eight 7) ∷ zeros 61 ∷ [])) 16 24 140 0 gives number 8)
-      ∷ (inserting (withC 0 2 (counterIs 1 (eight 1) (eight 7) ∷ zeros 61 ∷ [])) 16 24 140 0 gives by 13)
-      ∷ (inserting (withC 0 2 (counterIs 1 (eight 0) belowLimit ∷ zeros 61 ∷ [])) 16 24 140 0 gives number 4294967295)
-      ∷ (inserting (withC 0 2 (counterIs 1 (eight 0) atLimit ∷ zeros 61 ∷ [])) 16 24 140 0 gives by 14)
-      ∷ (inserting (withC 0 2 (counterIs 1 (eight 0) aboveLimit ∷ zeros 61 ∷ [])) 16 24 140 0 gives by 13)
+      ∷ (insertOver (counterIs 1 (eight 0) (eight 7) ∷ []) gives number 8)
+      ∷ (insertOver (counterIs 1 (eight 1) (eight 7) ∷ []) gives by 13)
+      ∷ (insertOver (counterIs 1 (eight 0) belowLimit ∷ []) gives number 4294967295)
+      ∷ (insertOver (counterIs 1 (eight 0) atLimit ∷ []) gives by 14)
+      ∷ (insertOver (counterIs 1 (eight 0) aboveLimit ∷ []) gives by 13)
+      ∷ (insertOver (counterIs 1 (1 ∷ zeros 7) (eight 7) ∷ []) gives by 13)
+      ∷ (insertOver (counterIs 1 (eight 0) (1 ∷ zeros 7) ∷ []) gives by 13)
       -- only that counter is read [01:RC6]
-      ∷ (inserting (withC 0 3 (counterIs 1 (eight 1) aboveLimit ∷ counterIs 2 (eight 0) (eight 7) ∷ zeros 61 ∷ [])) 16 24 140 0 gives number 8)
-      ∷ (inserting (withC 0 3 (counterIs 1 (eight 0) (eight 7) ∷ counterIs 2 (eight 1) (eight 8) ∷ zeros 61 ∷ [])) 16 24 140 0 gives by 13)
+      ∷ (insertOver (counterIs 1 (eight 1) aboveLimit ∷ counterIs 2 (eight 0) (eight 7) ∷ []) gives number 8)
+      ∷ (insertOver (counterIs 1 (eight 0) (eight 7) ∷ counterIs 2 (eight 1) (eight 8) ∷ []) gives by 13)
       -- 13: the numbers of anchor B are at most 4,294,967,295
-      ∷ (inserting (withC 0 2 (anchorIs 1 (eight 5) (eight 7) ∷ zeros 61 ∷ [])) 16 24 140 0 gives number 8)
-      ∷ (inserting (withC 0 2 (anchorIs 1 atLimit belowLimit ∷ zeros 61 ∷ [])) 16 24 140 0 gives number 4294967295)
-      ∷ (inserting (withC 0 2 (anchorIs 1 atLimit atLimit ∷ zeros 61 ∷ [])) 16 24 140 0 gives by 14)
-      ∷ (inserting (withC 0 2 (anchorIs 1 aboveLimit (eight 7) ∷ zeros 61 ∷ [])) 16 24 140 0 gives by 13)
-      ∷ (inserting (withC 0 2 (anchorIs 1 (eight 5) aboveLimit ∷ zeros 61 ∷ [])) 16 24 140 0 gives by 13)
+      ∷ (insertOver (anchorIs 1 (eight 5) (eight 7) ∷ []) gives number 8)
+      ∷ (insertOver (anchorIs 1 atLimit belowLimit ∷ []) gives number 4294967295)
+      ∷ (insertOver (anchorIs 1 atLimit atLimit ∷ []) gives by 14)
+      ∷ (insertOver (anchorIs 1 aboveLimit (eight 7) ∷ []) gives by 13)
+      ∷ (insertOver (anchorIs 1 (eight 5) aboveLimit ∷ []) gives by 13)
       -- also where a counter follows it
-      ∷ (inserting (withC 0 3 (anchorIs 1 (eight 5) (eight 7) ∷ counterIs 6 (eight 0) (eight 9) ∷ zeros 61 ∷ [])) 16 24 140 0 gives number 10)
-      ∷ (inserting (withC 0 3 (anchorIs 1 (eight 5) (eight 7) ∷ counterIs 6 (eight 1) (eight 9) ∷ zeros 61 ∷ [])) 16 24 140 0 gives by 13)
-      ∷ (inserting (withC 0 3 (anchorIs 1 (eight 5) (eight 7) ∷ counterIs 6 (eight 0) aboveLimit ∷ zeros 61 ∷ [])) 16 24 140 0 gives by 13)
-      ∷ (inserting (withC 0 3 (anchorIs 1 (eight 5) aboveLimit ∷ counterIs 6 (eight 0) (eight 9) ∷ zeros 61 ∷ [])) 16 24 140 0 gives by 13)
-      ∷ (inserting (withC 0 3 (anchorIs 1 atLimit (eight 7) ∷ rowC (zeros 32) 1 aboveLimit (eight 0) (eight 9) ∷ zeros 61 ∷ [])) 16 24 140 0 gives number 10)
-      ∷ (inserting (withC 0 3 (anchorIs 1 aboveLimit (eight 7) ∷ rowC (zeros 32) 1 (0 ∷ 0 ∷ 0 ∷ 1 ∷ 0 ∷ 0 ∷ 0 ∷ 1 ∷ []) (eight 0) (eight 9) ∷ zeros 61 ∷ [])) 16 24 140 0 gives by 13)
+      ∷ (insertOver (anchorIs 1 (eight 5) (eight 7) ∷ counterIs 6 (eight 0) (eight 9) ∷ []) gives number 10)
+      ∷ (insertOver (anchorIs 1 (eight 5) (eight 7) ∷ counterIs 6 (eight 1) (eight 9) ∷ []) gives by 13)
+      ∷ (insertOver (anchorIs 1 (eight 5) (eight 7) ∷ counterIs 6 (eight 0) aboveLimit ∷ []) gives by 13)
+      ∷ (insertOver (anchorIs 1 (eight 5) aboveLimit ∷ counterIs 6 (eight 0) (eight 9) ∷ []) gives by 13)
+      ∷ (insertOver (anchorIs 1 atLimit (eight 7) ∷ rowC (zeros 32) 1 aboveLimit (eight 0) (eight 9) ∷ []) gives number 10)
+      ∷ (insertOver (anchorIs 1 aboveLimit (eight 7) ∷ rowC (zeros 32) 1 (0 ∷ 0 ∷ 0 ∷ 1 ∷ 0 ∷ 0 ∷ 0 ∷ 1 ∷ []) (eight 0) (eight 9) ∷ []) gives by 13)
       -- only anchor B is read
-      ∷ (inserting (withC 0 3 (anchorIs 1 aboveLimit aboveLimit ∷ anchorIs 2 (eight 5) (eight 7) ∷ zeros 61 ∷ [])) 16 24 140 0 gives number 8)
+      ∷ (insertOver (anchorIs 1 aboveLimit aboveLimit ∷ anchorIs 2 (eight 5) (eight 7) ∷ []) gives number 8)
       -- 15: as many free rows of M and of V as ids
       ∷ (inserting (slice 1 0 2 1 1 326) 32 36 140 0 gives number 2)
       ∷ (inserting (slice 1 0 2 1 1 326) 48 48 140 0 gives by 15)
@@ -306,30 +314,55 @@ module _ (suite : Suite) where
       ∷ (inserting (set (set one 118 1) 179 1) 16 24 140 0 gives by 16)
       ∷ []
 
-  -- find and count: 13, with every share read first, and 18 [01:RS6 RS11]; share u of a token of zeros has CL F(0.., u)
-  abbrev pub ofShare : ℕ → List ℕ → List ℕ → List ℕ
-  ofShare u a n = rowC (F (zeros 32) (eight u)) 1 (eight 1) a n
+  -- find and count: 13, with every share read first, and 18 [01:RS6 RS11]; rows of C under the CL of share u
+  abbrev pub ofShare : ℕ → ℕ → List ℕ → List ℕ → List ℕ
+  ofShare u i a n = rowC (F (places 64 32) (eight u)) 1 (eight i) a n
 
-  -- one id at address 1 of share 0
-  abbrev pub oneFound : List (List ℕ) → List ℕ
-  oneFound rows =
-      1 ∷ 1 ∷ 0 ∷ 1 ∷ 0 ∷ 2 ∷ 0 ∷ 1 ∷ []
-      ++ ((1 ∷ F (F (zeros 32) (eight 0)) (eight 1) ++ (zeros 12 ++ E (F (zeros 32) (eight 0)) (zeros 12) (places 1 16)))
-      ++ (zeros 49 ++ (flat rows ++ zeros 45)))
+  -- the row of M for an id at address 1 of share u
+  abbrev pub entryOf : ℕ → List ℕ → List ℕ
+  entryOf u id = 1 ∷ F (F (places 0 32) (eight u)) (eight 1) ++ (zeros 12 ++ E (F (places 32 32) (eight u)) (zeros 12) id)
+
+  -- one id in share 0 and one in share 1; m = 2, c = 3, s = 1, and these rows in C
+  abbrev pub twoEntries : ℕ → List (List ℕ) → List ℕ
+  twoEntries p rows = 1 ∷ p ∷ 0 ∷ 2 ∷ 0 ∷ 3 ∷ 0 ∷ 1 ∷ entryOf 0 (places 1 16) ++ (entryOf 1 (places 17 16) ++ (zeros 98 ++ (flat rows ++ zeros 45)))
+
+  -- share 0 has made 1 entry, share 1 has made 4, of which 3 are gone
+  abbrev pub bothShares : List (List ℕ)
+  bothShares = ofShare 0 1 (eight 0) (eight 1) ∷ ofShare 1 1 (eight 0) (eight 4) ∷ zeros 61 ∷ []
+
+  abbrev pub damagedShare : List (List ℕ)
+  damagedShare = ofShare 0 1 (eight 0) (eight 1) ∷ ofShare 1 1 (eight 1) (eight 4) ∷ zeros 61 ∷ []
 
   abbrev pub queryCases : List Case
   queryCases =
-      (counting (withC 1 2 (ofShare 0 (eight 0) (eight 3) ∷ ofShare 1 (eight 0) (eight 4) ∷ [])) 32 gives number 7)
-      ∷ (counting (withC 1 2 (ofShare 0 (eight 1) (eight 3) ∷ ofShare 1 (eight 0) (eight 4) ∷ [])) 32 gives by 13)
-      ∷ (counting (withC 1 2 (ofShare 0 (eight 0) (eight 3) ∷ ofShare 1 (eight 0) aboveLimit ∷ [])) 32 gives by 13)
-      ∷ (counting (withC 1 2 (ofShare 0 (eight 0) atLimit ∷ ofShare 1 (eight 0) atLimit ∷ [])) 32 gives number 8589934590)
+      (counting (withC 1 2 (ofShare 0 1 (eight 0) (eight 3) ∷ ofShare 1 1 (eight 0) (eight 4) ∷ [])) 32 gives number 7)
+      ∷ (counting (withC 1 2 (ofShare 0 1 (eight 1) (eight 3) ∷ ofShare 1 1 (eight 0) (eight 4) ∷ [])) 32 gives by 13)
+      ∷ (counting (withC 1 2 (ofShare 0 1 (eight 0) (eight 3) ∷ ofShare 1 1 (eight 0) aboveLimit ∷ [])) 32 gives by 13)
+      ∷ (counting (withC 1 2 (ofShare 0 1 (eight 0) atLimit ∷ ofShare 1 1 (eight 0) atLimit ∷ [])) 32 gives number 8589934590)
+      ∷ (counting (withC 0 2 (ofShare 0 1 (eight 0) (eight 3) ∷ ofShare 0 2 (eight 0) (eight 5) ∷ [])) 32 gives number 5)
       -- share 1 of a store with p = 0 is not read
-      ∷ (counting (withC 0 2 (ofShare 0 (eight 0) (eight 3) ∷ ofShare 1 (eight 1) (eight 4) ∷ [])) 32 gives number 3)
-      ∷ (finding (oneFound (ofShare 0 (eight 0) (eight 1) ∷ ofShare 1 (eight 0) (eight 4) ∷ [])) 96 16 gives number 1)
-      ∷ (finding (oneFound (ofShare 0 (eight 0) (eight 1) ∷ ofShare 1 (eight 0) (eight 4) ∷ [])) 96 15 gives refused 18 (1 ∷ []))
-      ∷ (finding (oneFound (ofShare 0 (eight 0) (eight 1) ∷ ofShare 1 (eight 0) aboveLimit ∷ [])) 96 16 gives by 13)
+      ∷ (counting (withC 0 2 (ofShare 0 1 (eight 0) (eight 3) ∷ ofShare 1 1 (eight 0) (eight 4) ∷ [])) 32 gives number 3)
+      ∷ (counting (withC 0 2 (ofShare 0 1 (eight 0) (eight 3) ∷ ofShare 1 1 (eight 1) (eight 4) ∷ [])) 32 gives number 3)
+      ∷ (finding (twoEntries 0 bothShares) 96 16 gives number 1)
+      ∷ (finding (twoEntries 0 bothShares) 96 15 gives refused 18 (1 ∷ []))
+      ∷ (finding (twoEntries 0 damagedShare) 96 16 gives number 1)
+      ∷ (finding (twoEntries 1 bothShares) 96 32 gives number 2)
+      ∷ (finding (twoEntries 1 bothShares) 96 31 gives refused 18 (2 ∷ []))
+      ∷ (finding (twoEntries 1 damagedShare) 96 32 gives by 13)
       -- in order [01:RS1]
-      ∷ (finding (oneFound (ofShare 0 (eight 0) (eight 1) ∷ ofShare 1 (eight 1) (eight 4) ∷ [])) 96 15 gives by 13)
-      ∷ (finding (set (oneFound (ofShare 0 (eight 0) (eight 1) ∷ ofShare 1 (eight 1) (eight 4) ∷ [])) 69 2) 96 15 gives by 11)
-      ∷ (counting (set (withC 1 2 (ofShare 0 (eight 1) (eight 3) ∷ zeros 61 ∷ [])) 8 2) 32 gives by 11)
+      ∷ (finding (twoEntries 1 damagedShare) 96 15 gives by 13)
+      ∷ (finding (set (twoEntries 1 damagedShare) 130 2) 96 15 gives by 11)
+      ∷ (counting (set (twoEntries 1 damagedShare) 130 2) 32 gives by 11)
+      ∷ []
+
+  -- ids go to the start of the output and later bytes stay; a refusal leaves all of it [01:OP6 OP7 RS13]
+  abbrev pub finds : List ℕ → ℕ → List ℕ
+  finds store output = Find.find suite store (places 0 96) (places 101 output) .output
+
+  abbrev pub queryBytes : List Equation
+  queryBytes =
+      (finds (twoEntries 1 bothShares) 40 is (places 1 32 ++ places 133 8))
+      ∷ (finds (twoEntries 0 bothShares) 40 is (places 1 16 ++ places 117 24))
+      ∷ (finds (twoEntries 1 bothShares) 31 is places 101 31)
+      ∷ (finds (twoEntries 1 damagedShare) 40 is places 101 40)
       ∷ []
