@@ -1,6 +1,6 @@
--- The premise can be met for every list of calls: by a suite that is made for the list's fields. Its F gives the message's index among the
--- labels of the fields, the message's last 9 bytes and the first 22 of the key. (All of these are bytes where key and message are, for lists
--- that name up to 255 fields.) So the claim does not hold for want of lists under its premise.
+-- The premise asks for no more than document 01 says. And it can be met, for every list of calls, so that the claim does not hold for
+-- want of lists under its premise: by a suite that is made for the fields of the list. Its F gives the message's index among the fields'
+-- labels, the last 9 bytes of the message and the first 22 of the key; bytes all of them, where a list names fields up to 255 times.
 use Prim.Native.Nat.{ℕ, zero, suc, _+_, _*_, _≤_, _<_}
 use mathlib.Core.Path.{_≡_, refl, sym, ap, _∙_}
 use mathlib.Core.Logic.{⊎-elim}
@@ -12,13 +12,35 @@ use lib.Seq.{take-at, drop-at, take-take, drop-drop, take-append-le, length-take
 use Rattle.table.specs.Lists.{same, flat}
 use Rattle.table.proofs.Counting.{same-true, same-ne}
 use Rattle.scheme.specs.Suite.{Suite, number8, valueOf}
-use Rattle.scheme.specs.Labels.{Field, label}
+use Rattle.scheme.specs.Labels.{Field, label, fieldLengthsBad}
 use Rattle.scheme.specs.Keys.{MT, CL, MTof, CLof, KM, KC, share, CT}
 use Rattle.scheme.specs.Store.{entryTag, counterTag, anchorTag}
 use Rattle.scheme.specs.Call.{Call}
 use Rattle.scheme.specs.Premise.{fieldsOf, Named, From1, Kind, counter, anchor, tagOf, Premise}
 use Rattle.scheme.proofs.Numbers.{number-length, number-value}
 use Rattle.scheme.proofs.Labels.{labels-differ}
+
+-- the fields that a list of calls names
+abbrev pub namedIn : List Call → List Field
+namedIn calls = flat (map fieldsOf calls)
+
+-- ---- the premise from what document 01 says: fields named in the list, of valid lengths; shares 0 to p; addresses 1 to 64 × n; positions
+-- and anchor numbers 1 to n + 1 [01:LG13]
+
+module _ (suite : Suite) (K : List ℕ) (p : ℕ) (calls : List Call)
+    (entries : (f g : Field) (u v a b : ℕ) → List·Memᴰ f (namedIn calls) → List·Memᴰ g (namedIn calls) → fieldLengthsBad f ≡ false → fieldLengthsBad g ≡ false → u ≤ p → v ≤ p
+    → 1 ≤ a → a ≤ 64 * length calls → 1 ≤ b → b ≤ 64 * length calls
+    → entryTag suite (MT suite K f u) a ≡ entryTag suite (MT suite K g v) b → (f ≡ g) × (u ≡ v) × (a ≡ b))
+    (counters : (f g : Field) (u v : ℕ) (h k : Kind) (i j : ℕ) → List·Memᴰ f (namedIn calls) → List·Memᴰ g (namedIn calls) → fieldLengthsBad f ≡ false → fieldLengthsBad g ≡ false → u ≤ p → v ≤ p
+    → 1 ≤ i → i ≤ length calls + 1 → 1 ≤ j → j ≤ length calls + 1
+    → tagOf suite (CL suite K f u) h i ≡ tagOf suite (CL suite K g v) k j → (f ≡ g) × (u ≡ v) × (h ≡ k) × (i ≡ j)) where
+  pub premise-from : Premise suite K p calls
+  premise-from = record {
+    entries = λ f g u v a b nf ng ia ib e.
+        entries f g u v a b (nf .named) (ng .named) (nf .valid) (ng .valid) (nf .shared) (ng .shared) (ia .low) (ia .high) (ib .low) (ib .high) e;
+    counters = λ f g u v h k i j nf ng ii ij e.
+        counters f g u v h k i j (nf .named) (ng .named) (nf .valid) (ng .valid) (nf .shared) (ng .shared) (ii .low) (ii .high) (ij .low) (ij .high) e;
+  }
 
 -- ---- the index of a label among those of some fields; their number for any other message
 
@@ -156,10 +178,7 @@ code-kind fs h k a b e =
     reverse-same (h ∷ number8 a) (k ∷ number8 b)
     (sym (front-nine (h ∷ number8 a) (ap suc (number-length a))) ∙ tail-eq-of-cons-eq e ∙ front-nine (k ∷ number8 b) (ap suc (number-length b)))
 
--- ---- the premise
-
-abbrev pub namedIn : List Call → List Field
-namedIn calls = flat (map fieldsOf calls)
+-- ---- the premise is met
 
 module _ (K : List ℕ) (p : ℕ) (calls : List Call) (few : 64 * length calls + 1 < 18446744073709551616) (shares : p < 18446744073709551616) where
   abbrev suite : Suite

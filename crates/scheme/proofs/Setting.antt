@@ -169,7 +169,7 @@ module _ (x : Setting) where
   pub mtags : (a b : Pair) (i j : ℕ) → OK a → OK b → 1 ≤ i → i ≤ 64 * length calls → 1 ≤ j → j ≤ 64 * length calls
       → mtag a i ≡ mtag b j → (a ≡ b) × (i ≡ j)
   mtags a b i j oa ob li hi lj hj e =
-      let r = premise .entries (a .field) (b .field) (a .u) (b .u) i j oa ob (record { low = li; high = hi }) (record { low = lj; high = hj }) e in
+      let r = premise .entries (a .field) (b .field) (a .u) (b .u) i j oa ob (record { low = li; high = omega arith }) (record { low = lj; high = omega arith }) e in
       (pair-eq a b (r .0) (r .1), r .2)
 
 pub counter≢anchor : counter ≡ anchor → ⊥
