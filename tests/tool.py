@@ -5,7 +5,7 @@
   tool.py --kills N       with as many interrupted runs (default 1000; 300 where they take more than a minute)
   tool.py --only NAME     one test, by the name that its last line has
 
-Tests: the worked list of document 01 ('A day in the ledger'), bad words, files that are no store,
+Tests: the worked list of document 01 ('A day in the ledger'), bad words, office and server apart, files that are no store,
 refusals from the state, the largest store on a small stack, a disk that is full, a folder that cannot
 be written, no randomness, links, owner and mode, several tools at once, each call of the system failing or
 never reached, every state that a power cut may leave, and runs interrupted by kill -9. What the tool leaves
@@ -36,6 +36,8 @@ from primitives import Real  # noqa: E402
 
 BUILT = HERE.parent / "target" / "bin" / "mazhkuri"
 NOBODY = 65534
+# the first word of a command that is not done: by a rule, by its words, by the system
+UNDONE = ("refused", "misused", "failed")
 checks = 0
 shim = None  # tests/calls.c, compiled
 
@@ -67,8 +69,9 @@ class Bench:
             expect(self.run("key", "key") == ("", ""), "a new key answers nothing")
 
     def start(self, *words, **more):
-        return subprocess.Popen([self.program, *map(str, words)], cwd=self.folder, stdin=subprocess.DEVNULL,
-                                stdout=subprocess.PIPE, stderr=subprocess.PIPE, text=True, **more)
+        more = {"cwd": self.folder, **more}
+        return subprocess.Popen([self.program, *map(str, words)], stdin=subprocess.DEVNULL, stdout=subprocess.PIPE,
+                                stderr=subprocess.PIPE, text=True, **more)
 
     def run(self, *words, **more):
         return self.start(*words, **more).communicate(timeout=60)
@@ -161,33 +164,33 @@ def worked_list(b):
 
 def bad_words(b):
     a = ident(1)
-    b.refused([], "refused", "expected: a command of: new")
-    b.refused(["look"], "refused", "expected: a command of: new")
-    b.refused(["find", "store", "key", "hue"], "refused", "expected: mazhkuri find STORE KEYFILE FIELD VALUE")
-    b.refused(["insert", "store", "key", "hue", "red"], "refused", "expected: mazhkuri insert")
+    b.refused([], "misused", "expected: a command of: new")
+    b.refused(["look"], "misused", "expected: a command of: new")
+    b.refused(["find", "store", "key", "hue"], "misused", "expected: mazhkuri find STORE KEYFILE FIELD VALUE")
+    b.refused(["insert", "store", "key", "hue", "red"], "misused", "expected: mazhkuri insert")
     b.refused(["insert", "store", "key", "hue", "red", 0], "refused 5", "5: an insert takes 1 to 64 ids")
     b.refused(["insert", "store", "key", "hue", "red", 0] + [a] * 65, "refused 5", "5: ")
     b.refused(["insert", "store", "key", "hue", "red", 2, a], "refused 3", "3: SHARE must be 0 to 1")
     for share in ("", "-1", "1x", "9999999999"):
-        b.refused(["insert", "store", "key", "hue", "red", share, a], "refused", "not a number")
+        b.refused(["insert", "store", "key", "hue", "red", share, a], "misused", "not a number")
     for word in ("", a[:31], a + "0", a[:31] + "g"):
-        b.refused(["insert", "store", "key", "hue", "red", 0, a, word], "refused", "not an id")
-        b.refused(["erase", "store", word], "refused", "not an id")
+        b.refused(["insert", "store", "key", "hue", "red", 0, a, word], "misused", "not an id")
+        b.refused(["erase", "store", word], "misused", "not an id")
     b.refused(["find", "store", "key", "", "red"], "refused 2", "2: FIELD")
     b.refused(["find", "store", "key", "f" * 256, "red"], "refused 2", "2: FIELD")
     b.refused(["count", "store", "key", "hue", "v" * 1025], "refused 2", "2: FIELD")
     for n in (4096, 4097, 60000):
         b.refused(["count", "store", "key", "hue", "v" * n], "refused 2", "2: FIELD")
-    b.refused(["count", "store", "key", "hue", "v" * 70000], "refused", "\n")
+    b.refused(["count", "store", "key", "hue", "v" * 70000], "failed", "\n")
     expect(b.answer("count", "store", "key", "f" * 255, "v" * 1024) == "0\n", "the longest field")
     for path in ("s" * n for n in (4090, 4096, 4097)):
         for words in (["show", path], ["find", "store", path, "hue", "red"], ["erase", path, a], ["insert", path, "key", "hue", "red", 0, a],
                       ["compact", path, "key"], ["new", path, 1, 4, 4, 4], ["key", path]):
-            b.refused(words, "refused", "File name too long")
-    b.refused(["new", "store", 1, 4, 4, 4], "refused", "there already")
+            b.refused(words, "failed", "File name too long")
+    b.refused(["new", "store", 1, 4, 4, 4], "failed", "there already")
     for sizes in ([16, 4, 4, 4], [1, 0, 4, 4], [1, 4, 4097, 4], [1, 4, 4, 99999]):
         b.refused(["new", "other", *sizes], "refused 7", "7: P must be 0 to 15")
-    b.refused(["key", "key"], "refused", "File exists")
+    b.refused(["key", "key"], "failed", "File exists")
     (b.folder / "short").write_bytes(b"x" * 31)
     (b.folder / "long").write_bytes(b"x" * 33)
     for key in ("short", "long"):
@@ -198,6 +201,91 @@ def bad_words(b):
     b.refused(["compact", "store", "key2"], "refused", "not the one that the store was filled with")
     for words in (["help"], ["help", "insert"]):
         expect("mazhkuri insert STORE" in b.answer(*words), "help")
+
+
+def halves(b):
+    """An office's folder with the key and no store, a server's with the store and no key: tokens go from one to the other. Each
+    token is the model's, each call with it does what the call with the key does."""
+    office, server = b.folder / "office", b.folder / "server"
+    for folder, moved in ((office, b.key), (server, b.store)):
+        folder.mkdir()
+        moved.rename(folder / moved.name)
+    key, store, model = (office / "key").read_bytes(), server / "store", scheme.Scheme(Real)
+
+    def made(*words):
+        out, err = b.run("token", *words, cwd=office)
+        expect(err == "" and out.endswith("\n") and out == out.lower(), f"{words}: {out!r} {err!r}")
+        return out[:-1]
+
+    def refused(words, cwd, first, part):
+        before = store.read_bytes()
+        out, err = b.run(*words, cwd=cwd)
+        expect(out == first + "\n" and part in err, f"{words}: {out!r} {err!r}")
+        expect(store.read_bytes() == before and not list(cwd.glob("*.lock")), f"{words}: the store changed, or is locked")
+
+    def served(*words):
+        out, err = b.run(*words, cwd=server)
+        expect(err == "", f"{words}: {out!r} {err!r}")
+        return out
+
+    A, B, C = (ident(n) for n in range(3))
+    find, count, compact = made("find", "key", "hue", "red"), made("count", "key", "hue", "red"), made("compact", "key")
+    expect(find == model.find_token(key, b"hue", b"red").hex(), "a find token is the model's")
+    expect(count == model.count_token(key, b"hue", b"red").hex(), "a count token is the model's")
+    expect(compact == model.compact_token(key).hex(), "a compaction token is the model's")
+    insert, again, other = (made("insert", "key", "hue", "red", 1, u) for u in (0, 0, 1))
+    nonce = bytes.fromhex(insert)[97:109]
+    expect(insert == model.insert_token(key, b"hue", b"red", 1, 0, nonce).hex(), "an insert token is the model's")
+    expect(insert[194:218] != again[194:218], "each insert token has a nonce of its own")
+    for name, text in (("insert", insert), ("bare", find), ("line", find + "\n"), ("two", find + "\n\n"), ("upper", find.upper() + "\n")):
+        (server / name).write_text(text)
+    expect(served("insert", "store", "--token", "@insert", A, B) == "2\n" and served("insert", "store", "--token", other, C) == "1\n", "inserts with tokens")
+    for word in (find, find.upper(), "@bare", "@line", "@upper", f"@{server}/line"):
+        expect(served("find", "store", "--token", word) == f"{A}\n{B}\n{C}\n", f"a find with a token: {word}")
+    expect(served("count", "store", "--token", count) == "3\n", "a count with a token")
+    expect(served("erase", "store", B) == "1\n" and served("compact", "store", "--token", compact) == "2 2\n", "a compaction with a token")
+    expect(served("find", "store", "--token", find) == f"{A}\n{C}\n", "a find after it")
+    shutil.copy(office / "key", server / "key")
+    expect(served("find", "store", "key", "hue", "red") == f"{A}\n{C}\n", "the same with the key")
+    (server / "key").unlink()
+    output = bytearray(16 * 4)
+    expect(model.find(store.read_bytes(), bytes.fromhex(find), output).values == (2,), "the model finds the same")
+
+    # the server's refusals: 6 for what is no token of the call, 12 for another P, 5 for the ids; a file that is not there
+    takes = {"insert": (insert, [A]), "find": (find, []), "count": (count, []), "compact": (compact, [])}
+    for command, (good, ids) in takes.items():
+        wrong = [t for t in (insert, find, count) if len(t) != len(good)] + ["", "00", good[:-1], good[:-2], good + "0", good + "00", good[:-1] + "g", " " + good[1:], "@two"]
+        for word in wrong:
+            refused([command, "store", "--token", word, *ids], server, "refused 6", "6: this is no token for this command")
+        refused([command, "store", "--token", "@", *ids], server, "failed", "cannot open")
+        refused([command, "store", "--token", "@none", *ids], server, "failed", "cannot open none: No such file")
+        refused([command, "store", "--token"], server, "misused", f"expected: mazhkuri {command} STORE")
+    for command in ("find", "count", "compact"):
+        refused([command, "store", "--token", takes[command][0], A], server, "misused", f"expected: mazhkuri {command} STORE")
+    refused(["insert", "store", "--token", insert], server, "refused 5", "5: an insert takes 1 to 64 ids")
+    refused(["insert", "store", "--token", insert] + [A] * 65, server, "refused 5", "5: ")
+    refused(["insert", "store", "--token", insert, A, A[:31]], server, "misused", "not an id")
+    refused(["insert", "store", "--token", made("insert", "key", "hue", "red", 2, 0), A], server, "refused 12", "12: the token was made for another P than the store's, which is 1: make one for this P")
+    refused(["find", "none", "--token", find], server, "failed", "cannot open none: No such file")
+    refused(["insert", "store", "key", "hue", "red", 0, A], server, "failed", "cannot open key: No such file")
+    (office / "key2").write_bytes(os.urandom(32))
+    served("insert", "store", "--token", insert, B)
+    refused(["compact", "store", "--token", made("compact", "key2")], server, "refused", "not the one that the store was filled with")
+    # the office's: 1 to 3, and words
+    (office / "short").write_bytes(b"x" * 31)
+    for command, more in (("insert", [1, 0]), ("find", []), ("count", [])):
+        refused(["token", command, "short", "hue", "red", *more], office, "refused 1", "1: the key file must hold 32 bytes")
+        refused(["token", command, "key", "", "red", *more], office, "refused 2", "2: FIELD")
+        refused(["token", command, "none", "hue", "red", *more], office, "failed", "cannot open none: No such file")
+        refused(["token", command, "key", "hue"], office, "misused", "expected: mazhkuri token insert KEYFILE")
+    refused(["token", "compact", "short"], office, "refused 1", "1: ")
+    refused(["token", "insert", "key", "hue", "red", 1, 2], office, "refused 3", "3: SHARE must be 0 to 1, which is P")
+    refused(["token", "insert", "key", "hue", "red", 16, 0], office, "refused 3", "3: P must be 0 to 15, and SHARE 0 to P")
+    expect(made("insert", "key", "hue", "red", 15, 15)[:2] == "0f", "the greatest P and SHARE")
+    refused(["token", "insert", "key", "hue", "red", 1, "x"], office, "misused", "not a number")
+    refused(["token", "insert", "key", "hue", "red", "x", 1], office, "misused", "not a number")
+    for words in (["token"], ["token", "erase", "key"], ["token", "look", "key", "hue", "red"], ["token", "compact", "key", "hue"]):
+        refused(words, office, "misused", "expected: mazhkuri token insert KEYFILE")
 
 
 def no_stores(b):
@@ -221,10 +309,10 @@ def no_stores(b):
         b.refused(words, "refused 11", "11: a row of the file is marked neither free nor used")
     b.store.unlink()
     for words in commands:
-        b.refused(words, "refused", "cannot open store: No such file")
+        b.refused(words, "failed", "cannot open store: No such file")
     b.store.mkdir()
     out, err = b.run(*commands[1])
-    expect(out == "refused\n" and "Is a directory" in err, "a folder for a store")
+    expect(out == "failed\n" and "Is a directory" in err, "a folder for a store")
     b.store.rmdir()
     b.store.write_bytes(good)
     b.store.chmod(0o644)
@@ -304,7 +392,7 @@ def no_room(b):
     changing = [insert, ["erase", "store", ident(1)], ["compact", "store", "key"]]
     for limit in (0, 1, 500):
         for words in changing:
-            b.refused(words, "refused", "cannot write store.new: File too large", restore_signals=False,
+            b.refused(words, "failed", "cannot write store.new: File too large", restore_signals=False,
                       preexec_fn=lambda: resource.setrlimit(resource.RLIMIT_FSIZE, (limit, limit)))
     tried = ["a limit on a file's size"]
     if shutil.which("cc"):
@@ -319,7 +407,7 @@ def no_room(b):
                           "  return syscall(SYS_write, fd, from, n);\n}\n")
         subprocess.run(["cc", "-shared", "-fPIC", "-o", full, source], check=True)
         for words in changing:
-            b.refused(words, "refused", "cannot write store.new: No space left", env={"LD_PRELOAD": str(full)})
+            b.refused(words, "failed", "cannot write store.new: No space left", env={"LD_PRELOAD": str(full)})
         tried.append("a full disk")
     else:
         left_out("a full disk", "there is no cc")
@@ -336,7 +424,7 @@ def no_room(b):
                 except OSError:
                     pass
             out, err = b.run("insert", "disk/store", "key", "hue", "red", 0, ident(2))
-            expect(out == "refused\n" and "No space left" in err, f"a full disk: {out!r} {err!r}")
+            expect(out == "failed\n" and "No space left" in err, f"a full disk: {out!r} {err!r}")
             expect((room / "store").read_bytes() == before, "a full disk: the store changed")
             tried.append("a full file system")
         finally:
@@ -344,11 +432,11 @@ def no_room(b):
     if os.geteuid() == 0:
         os.chmod(b.key, 0o644)
         for words in changing:
-            b.refused(words, "refused", "cannot make store.lock: Permission denied", user=NOBODY)
+            b.refused(words, "failed", "cannot make store.lock: Permission denied", user=NOBODY)
         out, err = b.run("find", "store", "key", "hue", "red", user=NOBODY)
         expect((out, err) == (ident(1) + "\n", ""), "reading needs no right to write")
         os.chmod(b.key, 0o600)
-        b.refused(["find", "store", "key", "hue", "red"], "refused", "cannot open key: Permission denied", user=NOBODY)
+        b.refused(["find", "store", "key", "hue", "red"], "failed", "cannot open key: Permission denied", user=NOBODY)
         tried.append("a folder that may not be written")
     else:
         left_out("a folder that may not be written", "only root can run the tool as another user")
@@ -357,7 +445,7 @@ def no_room(b):
         source.write_text("int getentropy(void *p, unsigned long n) { return -1; }\n")
         subprocess.run(["cc", "-shared", "-fPIC", "-o", none, source], check=True)
         for words in changing[:1] + changing[2:] + [["key", "key3"]]:
-            b.refused(words, "refused", "cannot get random bytes", env={"LD_PRELOAD": str(none)})
+            b.refused(words, "failed", "cannot get random bytes", env={"LD_PRELOAD": str(none)})
         expect(not (b.folder / "key3").exists(), "a key of no randomness")
         tried.append("no randomness")
     else:
@@ -371,12 +459,12 @@ def links(b):
     b.store.symlink_to("target")
     insert = ["insert", "store", "key", "hue", "red", 0, ident(1)]
     for words in (insert, ["erase", "store", ident(1)], ["compact", "store", "key"], ["new", "store", 1, 4, 4, 4]):
-        b.refused(words, "refused", "store is a link: give the name of the file itself")
+        b.refused(words, "failed", "store is a link: give the name of the file itself")
     expect(b.answer("insert", "target", *insert[2:]) == "1\n" and b.found() == [ident(1)], "a store is read through a link")
     target.unlink()
-    b.refused(["new", "store", 1, 4, 4, 4], "refused", "store is a link")
+    b.refused(["new", "store", 1, 4, 4, 4], "failed", "store is a link")
     expect(b.store.is_symlink() and not target.exists(), "a link that leads nowhere is left")
-    b.refused(["key", "store"], "refused", "cannot make store: File exists")
+    b.refused(["key", "store"], "failed", "cannot make store: File exists")
 
 
 def modes(b):
@@ -390,7 +478,7 @@ def modes(b):
             os.chown(b.store, uid, gid)
             os.chmod(b.store, mode)
             out, err = b.run(*words, **who)
-            expect(err == "" and not out.startswith("refused"), f"modes: {words}: {out!r} {err!r}")
+            expect(err == "" and not out.startswith(UNDONE), f"modes: {words}: {out!r} {err!r}")
             expect(has() == then, f"modes: {words} on {mode:o}: {has()}, expected {then}")
 
     me, mine = os.geteuid(), os.getegid()
@@ -416,7 +504,7 @@ def modes(b):
         os.chmod(b.store, 0o600)
         for words in (["insert", "store", "key", "hue", "red", 0, ident(1)], ["erase", "store", ident(1)], ["compact", "store", "key"], ["key", "key2"]):
             out, err, _, calls = b.watched(words, umask=0o022)
-            expect(err == "" and not out.startswith("refused"), f"modes: {words}: {out!r} {err!r}")
+            expect(err == "" and not out.startswith(UNDONE), f"modes: {words}: {out!r} {err!r}")
             before = [int(c.words[1], 8) for c in calls if c.name == "fchmod"]
             expect(before and not any(mode & 0o077 for mode in before), f"modes: {words}: open to others before its mode is set: {before}")
     else:
@@ -433,9 +521,9 @@ def at_once(b, tools=4, each=25):
             words = ["insert", "store", "key", "hue", "red", t % 2, ident(1000 * t + n)]
             while True:
                 out, err = b.run(*words)
-                if not out.startswith("refused"):
+                if not out.startswith(UNDONE):
                     break
-                expect(out == "refused\n" and "another mazhkuri is changing this store" in err, f"at once: {out!r} {err!r}")
+                expect(out == "failed\n" and "another mazhkuri is changing this store" in err, f"at once: {out!r} {err!r}")
                 expect(time.monotonic() < until, "at once: the lock is never given back")
                 met += 1
         return met
@@ -522,8 +610,8 @@ def every_point(b):
             now = state()
             expect(now in (old, new), f"{where}: neither the old store nor the new one")
             expect(now == new or out != answer, f"{where}: answered and not made")
-            expect(now == old or not out.startswith("refused"), f"{where}: refused and made")
-            expect(out in ("", "refused\n", answer), f"{where}: {out!r}")
+            expect(now == old or not out.startswith(UNDONE), f"{where}: refused and made")
+            expect(out in ("", "failed\n", answer), f"{where}: {out!r}")
             expect(err or not fail or now == new, f"{where}: nothing is said")
 
         calls += points(b, words, clean, check)
@@ -533,7 +621,7 @@ def every_point(b):
         def check(where, out, err, fail):
             # a key's name is taken by an empty file first
             expect(not made.exists() or made.stat().st_size in (size, 0 if words[0] == "key" else size), f"{where}: half a file")
-            expect(out != "refused\n" or not made.exists(), f"{where}: refused and made")
+            expect(out != "failed\n" or not made.exists(), f"{where}: refused and made")
             expect(err or not fail or made.stat().st_size == size, f"{where}: nothing is said")
 
         calls += points(b, words, clean, check)
@@ -560,7 +648,7 @@ def power_cut(b):
         """The whole run of a command, held to the order; the disk's states after each call, and what the run printed."""
         before = b.files()
         out, err, _, calls = b.watched(words)
-        expect(err == "" and not out.startswith("refused"), f"{words}: {out!r} {err!r}")
+        expect(err == "" and not out.startswith(UNDONE), f"{words}: {out!r} {err!r}")
         last, states = disk.cuts(b.folder, before, calls)
         expect(last.files() == b.files(), f"{words}: the calls told give other files than there are")
         folder, file = os.path.dirname(name) or ".", last.names[name]
@@ -637,7 +725,7 @@ def interrupted(b, kills):
         time.sleep(r.uniform(0, 1.2 * usual))
         run.kill()
         out, err = run.communicate()
-        expect("refused" not in out, f"interrupted: {out!r} {err!r}")
+        expect(not out.startswith(UNDONE), f"interrupted: {out!r} {err!r}")
         ended += run.returncode != 0
         compactions += compacting
         if not compacting:
@@ -670,7 +758,7 @@ def main():
     global shim
     if not BUILT.exists():
         sys.exit("tests/tool.py: there is no target/bin/mazhkuri: run `rt check mazhkuri` first")
-    tests = [("the worked list", worked_list, [1, 4, 4, 4]), ("bad words", bad_words, [1, 4, 4, 4]), ("files that are no store", no_stores, [1, 4, 4, 4]),
+    tests = [("the worked list", worked_list, [1, 4, 4, 4]), ("bad words", bad_words, [1, 4, 4, 4]), ("office and server", halves, [1, 8, 8, 8]), ("files that are no store", no_stores, [1, 4, 4, 4]),
              ("refusals from the state", states, [0, 8, 4, 2]), ("the largest store", small_stack, [15, 4096, 4096, 4096]),
              ("writes that fail", lambda b: (b.answer("insert", "store", "key", "hue", "red", 0, ident(1)), no_room(b)), [1, 8, 8, 8]),
              ("links", links, [1, 4, 4, 4]), ("modes", modes, [1, 64, 64, 64]), ("tools at once", at_once, [1, 200, 200, 200]),

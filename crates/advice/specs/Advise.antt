@@ -9,12 +9,16 @@ use Rattle.store.specs.declared.Checked.{Checked}
 use Rattle.store.specs.declared.Checked.the-variants.{Fit, Refused}
 use Rattle.advice.specs.declared.Room.{Room}
 use Rattle.advice.specs.declared.Advice.{Advice}
-use Rattle.advice.specs.declared.Advice.the-variants.{Key, Field, Share, Ids, Sizes, NoStore, Marks, Count, Entries, Compact, Larger, Log, Output, Fault}
-use Rattle.advice.specs.declared.Advice.the-variants.{Damage as Damage₀}
+use Rattle.advice.specs.declared.Advice.the-variants.{Key, Field, Share, Shares, Ids, Token, Sizes, NoStore, Marks, Count, Entries, Compact, Larger, Log, Output, Fault}
+use Rattle.advice.specs.declared.Advice.the-variants.{Damage as Damage₀, TokenShares as TokenShares₀}
+
+-- of no store, where p is given
+abbrev pub roomFor : ℕ → Room
+roomFor p = record { p = p; entries = 0; logged = 0 }
 
 -- of what is no store
 abbrev pub noRoom : Room
-noRoom = record { p = 0; entries = 0; logged = 0 }
+noRoom = roomFor 0
 
 -- entries take a row of M and one of V; a row of S is used for each insert since the last compaction
 abbrev pub roomOf : Checked → Room
@@ -25,21 +29,21 @@ abbrev pub pickAdvice : Bool → Advice → Advice → Advice
 pickAdvice true a b = a
 pickAdvice false a b = b
 
--- by the refusal, the store's p, the entries that it has room for and its used rows of S; Fault where the tool's own doing
--- (nonces, tokens, lengths) is refused
+-- by the refusal, the store's p (in a token's making, the one given), the entries that it has room for and its used rows of S; Fault
+-- where the tool's own doing (nonces, lengths) is refused
 abbrev pub adviceOf : Refusal → ℕ → ℕ → ℕ → Advice
 adviceOf KeyLength p e l = Key
 adviceOf FieldLength p e l = Field
-adviceOf ShareRange p e l = Share p
+adviceOf ShareRange p e l = pickAdvice (ltb 15 p) Shares (Share p)
 adviceOf NonceLength p e l = Fault
 adviceOf IdLength p e l = Ids
-adviceOf TokenLength p e l = Fault
+adviceOf TokenLength p e l = Token
 adviceOf SizeRange p e l = Sizes
 adviceOf SliceLength p e l = Fault
 adviceOf TextLength p e l = Fault
 adviceOf Header p e l = NoStore
 adviceOf Mark p e l = Marks
-adviceOf TokenShares p e l = Fault
+adviceOf TokenShares p e l = TokenShares₀ p
 adviceOf Damage p e l = Damage₀
 adviceOf CountRange p e l = Count
 adviceOf EntryRows p e l = Entries e

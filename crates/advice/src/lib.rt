@@ -20,10 +20,13 @@ pub enum Advice {
     Key,
     Field,
     Share(u64),
+    Shares,
     Ids,
+    Token,
     Sizes,
     NoStore,
     Marks,
+    TokenShares(u64),
     Damage,
     Count,
     Entries(usize),
@@ -55,6 +58,17 @@ pub fn room_in(store: &[u8]) -> Room
     }
 }
 
+// What to say of a share above p, or of a p that no store has.
+fn share(p: u64) -> Advice
+    ensures { λ r. ⌜ r ≡ adviceOf Refusal.ShareRange p 0 0 ⌝ }
+{
+    if 15 < p {
+        Advice::Shares
+    } else {
+        Advice::Share(p)
+    }
+}
+
 // What to do about a missing row of C: a compaction helps where S has used rows.
 fn counters(logged: usize) -> Advice
     ensures { λ r. ⌜ r ≡ adviceOf Refusal.CounterRows 0 0 logged ⌝ }
@@ -66,23 +80,23 @@ fn counters(logged: usize) -> Advice
     }
 }
 
-// What to say of a refusal by a store with this room.
+// What to say of a refusal by a store with this room; of a token's making, p is the one given.
 pub fn advise(r: Refusal, p: u64, entries: usize, logged: usize) -> Advice
     ensures { λ a. ⌜ a ≡ adviceOf r p entries logged ⌝ }
 {
     match r {
         Refusal::KeyLength => Advice::Key,
         Refusal::FieldLength => Advice::Field,
-        Refusal::ShareRange => Advice::Share(p),
+        Refusal::ShareRange => share(p),
         Refusal::NonceLength => Advice::Fault,
         Refusal::IdLength => Advice::Ids,
-        Refusal::TokenLength => Advice::Fault,
+        Refusal::TokenLength => Advice::Token,
         Refusal::SizeRange => Advice::Sizes,
         Refusal::SliceLength => Advice::Fault,
         Refusal::TextLength => Advice::Fault,
         Refusal::Header => Advice::NoStore,
         Refusal::Mark => Advice::Marks,
-        Refusal::TokenShares => Advice::Fault,
+        Refusal::TokenShares => Advice::TokenShares(p),
         Refusal::Damage => Advice::Damage,
         Refusal::CountRange => Advice::Count,
         Refusal::EntryRows => Advice::Entries(entries),

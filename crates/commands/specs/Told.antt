@@ -15,7 +15,7 @@ use Rattle.store.specs.Check.{checkedOf}
 use Rattle.store.specs.declared.Checked.{Checked}
 use Rattle.store.specs.declared.Checked.the-variants.{Fit, Refused as Refused₀}
 use Rattle.commands.specs.declared.Outcome.{Outcome}
-use Rattle.commands.specs.declared.Outcome.the-variants.{Number, Compacted, Damaged, WrongKey, Refused, Done, Failed}
+use Rattle.commands.specs.declared.Outcome.the-variants.{Number, Compacted, Damaged, WrongKey, Refused, Done, BadWords}
 
 -- the answer that an outcome tells; a failure of the tool's own is no answer of a call, and 0 no rule's number
 abbrev pub told : Outcome → Answer
@@ -25,7 +25,7 @@ told (WrongKey t) = done (t .anchors ∷ t .counters ∷ [])
 told (Damaged t) = refused 13 (t .anchors ∷ t .counters ∷ [])
 told (Refused r room) = refusal r
 told Done = done []
-told Failed = refused 0 []
+told BadWords = refused 0 []
 
 abbrev pub pickOutcome : Bool → Outcome → Outcome → Outcome
 pickOutcome true a b = a
@@ -43,7 +43,7 @@ withRoom x (WrongKey t) = compacted (x .logged) t
 withRoom x (Damaged t) = Damaged t
 withRoom x (Refused r room) = Refused r x
 withRoom x Done = Done
-withRoom x Failed = Failed
+withRoom x BadWords = BadWords
 
 -- what is said of a refusal goes by the room that the store had before the call
 abbrev pub Roomed : List ℕ → Outcome → Type 0

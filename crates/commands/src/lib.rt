@@ -1,5 +1,9 @@
 // The tool's commands on the bytes of a store: the calls of crates/calls, each with what the tool tells
-// of it. The answers are the calls' own; p of an insert is the store's.
+// of it. The answers are the calls' own; p of an insert is the store's. A call is also there in two
+// halves: office makes a token, server takes one.
+pub mod office;
+pub mod server;
+
 ghost use mathlib.Core.Path.{_≡_};
 ghost use mathlib.Core.List.{[]};
 ghost use Rattle.answer.specs.Answer.{counted, completion};
@@ -31,8 +35,8 @@ pub enum Outcome {
     // The refusal, and the room that the store had.
     Refused(Refusal, Room),
     Done,
-    // What is no rule's refusal.
-    Failed,
+    // No command: the words ask for none.
+    BadWords,
 }
 
 fn of_counted(r: Counted, room: Room) -> Outcome

@@ -5,7 +5,7 @@ use Rattle.answer.specs.Answer.{numberOf}
 use Rattle.text.specs.Ascii.{ascii}
 use Rattle.compact.specs.declared.Tally.{Tally}
 use Rattle.commands.specs.declared.Outcome.{Outcome}
-use Rattle.commands.specs.declared.Outcome.the-variants.{Number, Compacted, Damaged, WrongKey, Refused, Done, Failed}
+use Rattle.commands.specs.declared.Outcome.the-variants.{Number, Compacted, Damaged, WrongKey, Refused, Done, BadWords}
 use Rattle.buffer.specs.Decimal.{counted}
 
 -- anchors written and counters freed
@@ -23,4 +23,4 @@ answerLine (Damaged t) = refusedLine 13
 answerLine (WrongKey t) = ascii "refused\n"
 answerLine (Refused r room) = refusedLine (numberOf r)
 answerLine Done = []
-answerLine Failed = ascii "refused\n"
+answerLine BadWords = ascii "misused\n"

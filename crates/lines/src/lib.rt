@@ -9,7 +9,8 @@ ghost use Prim.Native.Nat.{_+_, _*_, _≤_};
 ghost use lib.ListN.{length};
 ghost use Rattle.buffer.specs.Put.{Put};
 ghost use Rattle.lines.specs.Answer.{tallyLine, refusedLine, answerLine};
-ghost use Rattle.lines.specs.Ids.{idLine, idLines};
+ghost use Rattle.text.specs.Hex.{hexOf};
+ghost use Rattle.lines.specs.Ids.{hexLine, idLines};
 
 // Puts what a compaction has done.
 pub fn put_tally(to: &mut [u8], at: usize, t: Tally) -> usize
@@ -41,19 +42,29 @@ pub fn answer(o: Outcome, to: &mut [u8]) -> usize
         Outcome::WrongKey(_) => put(to, 0, b"refused\n"),
         Outcome::Refused(r, _) => put_refused(to, answer::number(r)),
         Outcome::Done => 0,
-        Outcome::Failed => put(to, 0, b"refused\n"),
+        Outcome::BadWords => put(to, 0, b"misused\n"),
     }
 }
 
-// An id's line, after the first `at` bytes.
-fn put_id(to: &mut [u8], at: usize, id: &[u8]) -> usize
-    requires { ⌜ (length (now id) ≡ 16) × (at + 33 ≤ length (now to)) ⌝ }
-    ensures { λ r. ⌜ (Put (now (to .entry)) at (idLine (now (id .entry))) (now (to .exit)) r) × (r ≡ at + 33) ⌝ }
+// The line of so many digits, which go to a lent slice first.
+fn put_digits(to: &mut [u8], at: usize, bytes: &[u8], digits: &mut [u8]) -> usize
+    requires { ⌜ (length (now digits) ≡ 2 * length (now bytes)) × (at + (2 * length (now bytes) + 1) ≤ length (now to)) ⌝ }
+    ensures { λ r. ⌜ (Put (now (to .entry)) at (hexLine (now (bytes .entry))) (now (to .exit)) r) × (r ≡ at + (2 * length (now (bytes .entry)) + 1)) ⌝ }
+    ensures { λ _. ⌜ now (digits .exit) ≡ hexOf (now (bytes .entry)) (2 * length (now (bytes .entry))) ⌝ }
 {
-    let mut digits = [0u8; 32];
-    text::hex(id, &mut digits);
-    let e = put(to, at, &digits);
+    text::hex(bytes, digits);
+    let e = put(to, at, digits);
     put(to, e, b"\n")
+}
+
+// The line of an id's or a token's digits, after the first `at` bytes.
+pub fn put_hex(to: &mut [u8], at: usize, bytes: &[u8]) -> usize
+    requires { ⌜ (length (now bytes) ≤ 141) × (at + (2 * length (now bytes) + 1) ≤ length (now to)) ⌝ }
+    ensures { λ r. ⌜ (Put (now (to .entry)) at (hexLine (now (bytes .entry))) (now (to .exit)) r) × (r ≡ at + (2 * length (now (bytes .entry)) + 1)) ⌝ }
+{
+    let mut digits = [0u8; 282];
+    let n = 2 * bytes.len();
+    put_digits(to, at, bytes, &mut digits[..n])
 }
 
 // The lines of the first n ids of a slice.
@@ -66,7 +77,7 @@ pub fn ids(found: &[u8], n: usize, to: &mut [u8]) -> usize
     while i < n {
         let a = 16 * i;
         let e = a + 16;
-        at = put_id(to, at, &found[a..e]);
+        at = put_hex(to, at, &found[a..e]);
         i += 1;
     }
     at

@@ -1,11 +1,12 @@
--- Where the system stood in the way nothing is claimed; and a buffer's front that was filled.
+-- Where the system stood in the way nothing is claimed; a buffer's front that was filled; a word that names a file.
 use Prim.Native.Nat.{ℕ, _≤_}
 use mathlib.Core.Path.{_≡_, sym, ap, _∙_}
 use mathlib.Core.Bool.{true, true≢false}
-use mathlib.Core.List.{List, _++_}
+use mathlib.Core.List.{List, [], _∷_, _++_}
 use native.Mathlib.Omega.{arith}
 use lib.ListN.{length, take, drop, length-append}
 use lib.Seq.{length-take-le}
+use Rattle.request.specs.Token.{namesFile}
 use Rattle.mazhkuri.specs.declared.Served.{Served}
 use Rattle.mazhkuri.specs.Served.{unservedOf, ServedIf}
 
@@ -23,3 +24,8 @@ module _ (m : ℕ) (buffer : List ℕ) (h : m ≤ length buffer) where
 
     pub filled-length : m ≡ length (take m (filled ++ drop m buffer))
     filled-length = sym (length-take-le m (filled ++ drop m buffer) filled-room)
+
+-- there is an `@` in a word that names a file
+pub named : (word : List ℕ) → namesFile word ≡ true → 1 ≤ length word
+named [] e = absurd (true≢false (sym e))
+named (b ∷ bs) e = omega arith

@@ -5,14 +5,14 @@ use mathlib.Core.Bool.{true, false}
 use mathlib.Core.List.{List}
 use lib.ListN.{length}
 use Rattle.request.specs.Request.{requestOf}
-use Rattle.commands.specs.declared.Outcome.the-variants.{Failed}
+use Rattle.commands.specs.declared.Outcome.the-variants.{BadWords}
 use Rattle.tool.specs.Run.{Ends}
 use Rattle.tool.specs.declared.Ran.{Ran}
 use Rattle.mazhkuri.specs.declared.Served.{Served}
 
 -- where the system stood in the way
 abbrev pub unservedOf : Served
-unservedOf = record { ran = record { outcome = Failed; out = 0; err = 0 }; kept = false }
+unservedOf = record { ran = record { outcome = BadWords; out = 0; err = 0 }; kept = false }
 
 -- a run on what files and the source of randomness gave: nothing tells which bytes these are, so they stand as fields
 pub record ServedBy (line out err : List ℕ) (r : Ran) (outAfter errAfter : List ℕ) : Type 0 where

@@ -4,11 +4,11 @@
 // A command that changes the store makes STORE.lock, reads the store, runs, writes STORE.new, syncs it,
 // renames it to STORE and removes STORE.lock; the answer is printed after that.
 use commands::Outcome;
+use demand::Needs;
 use files::Loaded;
 use libc::STDERR_FILENO;
 use libc::STDOUT_FILENO;
-use request::Request;
-use tool::Needs;
+use request::token;
 use tool::Ran;
 use words::line;
 ghost use mathlib.Core.Path.{_≡_};
@@ -19,7 +19,7 @@ ghost use Rattle.io.specs.Counts.{Counts};
 ghost use Rattle.words.specs.Line.{wordAt};
 ghost use Rattle.request.specs.Request.{requestOf};
 ghost use Rattle.files.specs.System.{OfSystem, OfSystemAt};
-ghost use Rattle.tool.specs.Needs.{changes};
+ghost use Rattle.demand.specs.Needs.{changes};
 ghost use Rattle.tool.specs.Run.{Ends};
 ghost use Rattle.mazhkuri.specs.Served.{unservedOf, ServedIf, Printable};
 
@@ -61,7 +61,7 @@ fn unserved() -> Served
 {
     Served {
         ran: Ran {
-            outcome: Outcome::Failed,
+            outcome: Outcome::BadWords,
             out: 0,
             err: 0,
         },
@@ -92,18 +92,33 @@ fn apply(
 {
     let ran = tool::run(line, store, key, random, out, err);
     let o = ran.outcome;
-    if !tool::changes(request::read(line), o) {
+    if !demand::changes(request::read(line), o) {
         return Served { ran, kept: true };
     }
     let kept = keep(line, store, o);
     Served { ran, kept }
 }
 
-// The bytes of the key file, where the request takes one.
+// The bytes of the file that the line's token names, where it names one.
+fn token_of(line: &[u8], to: &mut [u8]) -> Loaded
+    ensures { λ r. ⌜ Counts (r .n) (now (to .exit)) ⌝ }
+{
+    let word = line::word(line, 3);
+    if !token::names_file(word) {
+        return Loaded { n: 0, whole: true };
+    }
+    files::load(&word[1..], to)
+}
+
+// The bytes of the file with the key or the token, where the request takes one.
 fn key_of(line: &[u8], to: &mut [u8]) -> Loaded
     ensures { λ r. ⌜ Counts (r .n) (now (to .exit)) ⌝ }
 {
-    if !tool::takes_key(request::read(line)) {
+    let q = request::read(line);
+    if demand::takes_token(q) {
+        return token_of(line, to);
+    }
+    if !demand::takes_key(q) {
         return Loaded { n: 0, whole: true };
     }
     files::load(line::word(line, 2), to)
@@ -126,10 +141,13 @@ fn absent(line: &[u8], n: usize, room: usize) -> Loaded
     }
 }
 
-// The store's bytes, or room for a new one's.
+// The store's bytes, or room for a new one's; none where there is no store.
 fn fetch(line: &[u8], needs: Needs, to: &mut [u8]) -> Loaded
     ensures { λ r. ⌜ Counts (r .n) (now (to .exit)) ⌝ }
 {
+    if let Needs::KeyAlone = needs {
+        return Loaded { n: 0, whole: true };
+    }
     let Needs::NewStore(n) = needs else {
         return files::load(line::word(line, 1), to);
     };
@@ -148,14 +166,14 @@ fn on_store(line: &[u8], needs: Needs, out: &mut [u8], err: &mut [u8]) -> Served
     if !got.whole {
         return unserved();
     }
-    let mut key = [0u8; 64];
+    let mut key = [0u8; 512];
     let given = key_of(line, &mut key);
     let k = given.n;
     if !given.whole {
         return unserved();
     }
     let mut random = io::large_buffer();
-    let m = tool::random_for(request::read(line), &store[..n]);
+    let m = demand::random_for(request::read(line), &store[..n]);
     if !files::randomize(&mut random[..m]) {
         return unserved();
     }
@@ -203,10 +221,11 @@ fn serve(line: &[u8], out: &mut [u8], err: &mut [u8]) -> Served
     requires { ⌜ (135168 ≤ length (now out)) × (length (now line) + 256 ≤ length (now err)) ⌝ }
     ensures { λ r. ⌜ ServedIf (now (line .entry)) (now (out .entry)) (now (err .entry)) r (now (out .exit)) (now (err .exit)) ⌝ }
 {
-    let needs = tool::needed(request::read(line));
+    let needs = demand::needed(request::read(line));
     match needs {
         Needs::Words => on_words(line, out, err),
         Needs::KeyFile => on_key(line, out, err),
+        Needs::KeyAlone => on_store(line, needs, out, err),
         Needs::Store => on_store(line, needs, out, err),
         Needs::Lock => locked(line, needs, out, err),
         Needs::NewStore(_) => locked(line, needs, out, err),
@@ -219,7 +238,7 @@ fn print(r: Served, out: &[u8], err: &[u8])
     ensures { λ u. ⌜ u ≡ tt ⌝ }
 {
     if !r.kept {
-        io::write_all(STDOUT_FILENO, b"refused\n");
+        io::write_all(STDOUT_FILENO, b"failed\n");
         return;
     }
     let n = r.ran.out;
@@ -235,7 +254,7 @@ fn main() {
     let got = arguments::gather(&mut words);
     let n = got.n;
     if !got.whole {
-        io::write_all(STDOUT_FILENO, b"refused\n");
+        io::write_all(STDOUT_FILENO, b"failed\n");
         return;
     }
     let r = serve(&words[..n], &mut out, &mut err);

@@ -7,9 +7,9 @@ use Rattle.answer.specs.Answer.{numberOf}
 use Rattle.text.specs.Ascii.{ascii}
 use Rattle.advice.specs.Advise.{adviceOf}
 use Rattle.advice.specs.declared.Advice.{Advice}
-use Rattle.advice.specs.declared.Advice.the-variants.{Key, Field, Share, Ids, Sizes, NoStore, Marks, Damage, Count, Entries, Compact, Larger, Log, Output, Fault}
+use Rattle.advice.specs.declared.Advice.the-variants.{Key, Field, Share, Shares, Ids, Token, Sizes, NoStore, Marks, TokenShares, Damage, Count, Entries, Compact, Larger, Log, Output, Fault}
 use Rattle.commands.specs.declared.Outcome.{Outcome}
-use Rattle.commands.specs.declared.Outcome.the-variants.{Number, Compacted, Damaged, WrongKey, Refused, Done, Failed}
+use Rattle.commands.specs.declared.Outcome.the-variants.{Number, Compacted, Damaged, WrongKey, Refused, Done, BadWords}
 use Rattle.buffer.specs.Decimal.{counted}
 use Rattle.lines.specs.Answer.{tallyLine}
 
@@ -29,12 +29,15 @@ entriesSentence n given =
 unfoldable pub sentenceOf : Advice → ℕ → List ℕ
 sentenceOf Key given = ascii "the key file must hold 32 bytes: make one with mazhkuri key KEYFILE\n"
 sentenceOf Field given = ascii "FIELD must be 1 to 255 bytes long and VALUE at most 1024: shorten them\n"
-sentenceOf (Share p) given = ascii "SHARE must be 0 to " ++ counted p (ascii " in this store: give one of these\n")
+sentenceOf (Share p) given = ascii "SHARE must be 0 to " ++ counted p (ascii ", which is P: give one of these\n")
+sentenceOf Shares given = ascii "P must be 0 to 15, and SHARE 0 to P: give others\n"
 sentenceOf Ids given = ascii "an insert takes 1 to 64 ids: give more or fewer\n"
+sentenceOf Token given = ascii "this is no token for this command: make one with mazhkuri token\n"
 sentenceOf Sizes given = ascii "P must be 0 to 15, and M, C and S 1 to 4096 each: choose other sizes\n"
 sentenceOf NoStore given =
     ascii "the file is no store, or not whole: its header or its length is wrong: check the name, or take a copy that is whole\n"
 sentenceOf Marks given = ascii "a row of the file is marked neither free nor used: it was damaged: take a copy that is whole\n"
+sentenceOf (TokenShares p) given = ascii "the token was made for another P than the store's, which is " ++ counted p (ascii ": make one for this P\n")
 sentenceOf Damage given = ascii "a counter in the file does not hold what was written: it was damaged: take a copy that is whole\n"
 sentenceOf Count given = ascii "the count of this share would pass 4294967295: use another share\n"
 sentenceOf (Entries n) given = entriesSentence n given
@@ -52,8 +55,8 @@ messageLine (Damaged t) given =
     ascii "13: a counter in the file does not hold what was written: it was damaged; anchors written and counters freed before it: "
     ++ tallyLine t
 messageLine (WrongKey t) given =
-    ascii "none of the logged counters was found: this key file is not the one that the store was filled with, or the file was damaged: nothing was changed\n"
+    ascii "none of the logged counters was found: this key is not the one that the store was filled with, or the file was damaged: nothing was changed\n"
 messageLine (Refused r room) given =
     counted (numberOf r) (ascii ": ") ++ sentenceOf (adviceOf r (room .p) (room .entries) (room .logged)) given
 messageLine Done given = []
-messageLine Failed given = []
+messageLine BadWords given = []

@@ -19,6 +19,10 @@ const FIELD: [u8; 71] =
 
 const IDS: [u8; 48] = *b"an insert takes 1 to 64 ids: give more or fewer\n";
 
+const SHARES: [u8; 49] = *b"P must be 0 to 15, and SHARE 0 to P: give others\n";
+
+const TOKEN: [u8; 64] = *b"this is no token for this command: make one with mazhkuri token\n";
+
 const SIZES: [u8; 69] = *b"P must be 0 to 15, and M, C and S 1 to 4096 each: choose other sizes\n";
 
 const NO_STORE: [u8; 116] =
@@ -43,8 +47,8 @@ const FAULT: [u8; 47] = *b"the tool made a wrong call: please report this\n";
 const DAMAGED: [u8; 120] =
     *b"13: a counter in the file does not hold what was written: it was damaged; anchors written and counters freed before it: ";
 
-const WRONG_KEY: [u8; 145] =
-    *b"none of the logged counters was found: this key file is not the one that the store was filled with, or the file was damaged: nothing was changed\n";
+const WRONG_KEY: [u8; 140] =
+    *b"none of the logged counters was found: this key is not the one that the store was filled with, or the file was damaged: nothing was changed\n";
 
 // Puts a number with the words for one, or for another number.
 fn put_plural(to: &mut [u8], at: usize, n: u64, one: &[u8], many: &[u8]) -> usize
@@ -79,7 +83,20 @@ fn put_share(to: &mut [u8], at: usize, p: u64) -> usize
     ensures { λ r. ⌜ Put (now (to .entry)) at (sentenceOf (Advice.Share p) 0) (now (to .exit)) r ⌝ }
 {
     let e = put(to, at, b"SHARE must be 0 to ");
-    put_counted(to, e, p, b" in this store: give one of these\n")
+    put_counted(to, e, p, b", which is P: give one of these\n")
+}
+
+// What to say where a token was made for another p.
+fn put_token_shares(to: &mut [u8], at: usize, p: u64) -> usize
+    requires { ⌜ at + 200 ≤ length (now to) ⌝ }
+    ensures { λ r. ⌜ Put (now (to .entry)) at (sentenceOf (Advice.TokenShares p) 0) (now (to .exit)) r ⌝ }
+{
+    let e = put(
+        to,
+        at,
+        b"the token was made for another P than the store's, which is ",
+    );
+    put_counted(to, e, p, b": make one for this P\n")
 }
 
 // What to say where n ids were found, more than a store can hold.
@@ -104,10 +121,13 @@ fn put_sentence(to: &mut [u8], at: usize, a: Advice, given: u64) -> usize
         Advice::Key => put(to, at, &KEY),
         Advice::Field => put(to, at, &FIELD),
         Advice::Share(p) => put_share(to, at, p),
+        Advice::Shares => put(to, at, &SHARES),
         Advice::Ids => put(to, at, &IDS),
+        Advice::Token => put(to, at, &TOKEN),
         Advice::Sizes => put(to, at, &SIZES),
         Advice::NoStore => put(to, at, &NO_STORE),
         Advice::Marks => put(to, at, &MARKS),
+        Advice::TokenShares(p) => put_token_shares(to, at, p),
         Advice::Damage => put(to, at, &DAMAGE),
         Advice::Count => put(to, at, &COUNT),
         Advice::Entries(n) => put_entries(to, at, n as u64, given),
@@ -150,6 +170,6 @@ pub fn message(o: Outcome, given: u64, to: &mut [u8]) -> usize
         Outcome::WrongKey(_) => put(to, 0, &WRONG_KEY),
         Outcome::Refused(r, room) => put_refusal(to, r, room, given),
         Outcome::Done => 0,
-        Outcome::Failed => 0,
+        Outcome::BadWords => 0,
     }
 }

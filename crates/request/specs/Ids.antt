@@ -10,7 +10,7 @@ use Rattle.words.specs.Line.{wordAt}
 abbrev pub idOf : List ℕ → List ℕ
 idOf word = cond (isIdOf word) (unhexOf word 16) (replicate 16 0)
 
--- the ids of n words from the seventh on
-unfoldable pub idsOf : ℕ → List ℕ → List ℕ
-idsOf zero line = []
-idsOf (suc n) line = idsOf n line ++ idOf (wordAt (6 + n) line)
+-- the ids of n words from a word on
+unfoldable pub idsOf : ℕ → ℕ → List ℕ → List ℕ
+idsOf first zero line = []
+idsOf first (suc n) line = idsOf first n line ++ idOf (wordAt (first + n) line)

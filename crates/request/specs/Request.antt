@@ -2,7 +2,9 @@
 use Prim.Native.Nat.{ℕ, zero, suc, _+_, _-_, min}
 use mathlib.Core.Bool.{Bool, true, false, cond}
 use mathlib.Core.List.{List}
-use lib.Dec.{ltb}
+use lib.Dec.{ltb, eqb}
+use Rattle.octets.specs.Compare.{same}
+use Rattle.text.specs.Ascii.{ascii}
 use Rattle.text.specs.Hex.{isIdOf}
 use Rattle.words.specs.Decimal.{decimalOf}
 use Rattle.words.specs.Words.{commandOf, wordsFit}
@@ -10,9 +12,9 @@ use Rattle.words.specs.Line.{wordAt, wordCount}
 use Rattle.words.specs.declared.Parsed.{Parsed}
 use Rattle.words.specs.declared.Parsed.the-variants.{Number, Bad}
 use Rattle.words.specs.declared.Command.{Command}
-use Rattle.words.specs.declared.Command.the-variants.{New as New₀, Key as Key₀, Insert as Insert₀, Find as Find₀, Count as Count₀, Erase as Erase₀, Compact as Compact₀, Show as Show₀, Help as Help₀, Unknown}
+use Rattle.words.specs.declared.Command.the-variants.{New as New₀, Key as Key₀, Insert as Insert₀, Find as Find₀, Count as Count₀, Erase as Erase₀, Compact as Compact₀, Token as Token₀, Show as Show₀, Help as Help₀, Unknown}
 use Rattle.request.specs.declared.Request.{Request}
-use Rattle.request.specs.declared.Request.the-variants.{Help, Misused, NotNumber, NotId, New, Key, Insert, Find, Count, Erase, Compact, Show}
+use Rattle.request.specs.declared.Request.the-variants.{Help, Misused, NotNumber, NotId, New, Key, Insert, Find, Count, Erase, Compact, Show, InsertToken, FindToken, CountToken, CompactionToken, InsertBy, FindBy, CountBy, CompactBy}
 
 abbrev pub pickRequest : Bool → Request → Request → Request
 pickRequest true a b = a
@@ -36,38 +38,72 @@ firstBad zero i line = i
 firstBad (suc n) i line = cond (isIdOf (wordAt i line)) (firstBad n (i + 1) line) i
 
 -- so many ids: a 65th is enough to be refused by their number
-abbrev pub idsGiven : List ℕ → ℕ
-idsGiven line = min (wordCount line - 6) 65
+abbrev pub idsGiven : ℕ → List ℕ → ℕ
+idsGiven first line = min (wordCount line - first) 65
 
-abbrev pub withIds : ℕ → ℕ → ℕ → Request
-withIds n bad u = pickRequest (ltb bad (6 + n)) (NotId bad) (Insert u n)
+-- n words from a word on, of which this is the first that is no id
+abbrev pub withIds : ℕ → ℕ → ℕ → Request → Request
+withIds first n bad q = pickRequest (ltb bad (first + n)) (NotId bad) q
+
+abbrev pub idsFrom : ℕ → List ℕ → (ℕ → Request) → Request
+idsFrom first line f = withIds first (idsGiven first line) (firstBad (idsGiven first line) first line) (f (idsGiven first line))
 
 -- insert STORE KEYFILE FIELD VALUE SHARE ID...
 unfoldable pub insertOf : List ℕ → Request
-insertOf line = numberAt 5 line (withIds (idsGiven line) (firstBad (idsGiven line) 6 line))
+insertOf line = numberAt 5 line (λ u. idsFrom 6 line (Insert u))
+
+-- insert STORE --token TOKEN ID...
+unfoldable pub insertByOf : List ℕ → Request
+insertByOf line = idsFrom 4 line InsertBy
 
 -- erase STORE ID
 unfoldable pub eraseOf : List ℕ → Request
 eraseOf line = pickRequest (isIdOf (wordAt 2 line)) Erase (NotId 2)
 
--- by the command; each has as many words as it takes
-abbrev pub requestBy : Command → List ℕ → Request
-requestBy New₀ line = newOf line
-requestBy Key₀ line = Key
-requestBy Insert₀ line = insertOf line
-requestBy Find₀ line = Find
-requestBy Count₀ line = Count
-requestBy Erase₀ line = eraseOf line
-requestBy Compact₀ line = Compact
-requestBy Show₀ line = Show
-requestBy Help₀ line = Help (commandOf (wordAt 1 line))
-requestBy Unknown line = Misused Unknown
+-- token insert KEYFILE FIELD VALUE P SHARE
+unfoldable pub insertTokenOf : List ℕ → Request
+insertTokenOf line = numberAt 5 line (λ p. numberAt 6 line (λ u. InsertToken p u))
 
-abbrev pub requestWith : Command → List ℕ → Request
-requestWith c line = pickRequest (wordsFit c (wordCount line)) (requestBy c line) (Misused c)
+-- token COMMAND KEYFILE, then for find and count FIELD VALUE
+abbrev pub makingBy : Command → ℕ → List ℕ → Request
+makingBy New₀ n line = Misused Token₀
+makingBy Key₀ n line = Misused Token₀
+makingBy Insert₀ n line = pickRequest (eqb n 7) (insertTokenOf line) (Misused Token₀)
+makingBy Find₀ n line = pickRequest (eqb n 5) FindToken (Misused Token₀)
+makingBy Count₀ n line = pickRequest (eqb n 5) CountToken (Misused Token₀)
+makingBy Erase₀ n line = Misused Token₀
+makingBy Compact₀ n line = pickRequest (eqb n 3) CompactionToken (Misused Token₀)
+makingBy Token₀ n line = Misused Token₀
+makingBy Show₀ n line = Misused Token₀
+makingBy Help₀ n line = Misused Token₀
+makingBy Unknown n line = Misused Token₀
+
+unfoldable pub makingOf : List ℕ → Request
+makingOf line = makingBy (commandOf (wordAt 1 line)) (wordCount line) line
+
+-- by the command, and whether a token stands in place of a key; each has as many words as it takes
+abbrev pub requestBy : Command → Bool → List ℕ → Request
+requestBy New₀ b line = newOf line
+requestBy Key₀ b line = Key
+requestBy Insert₀ b line = pickRequest b (insertByOf line) (insertOf line)
+requestBy Find₀ b line = pickRequest b FindBy Find
+requestBy Count₀ b line = pickRequest b CountBy Count
+requestBy Erase₀ b line = eraseOf line
+requestBy Compact₀ b line = pickRequest b CompactBy Compact
+requestBy Token₀ b line = makingOf line
+requestBy Show₀ b line = Show
+requestBy Help₀ b line = Help (commandOf (wordAt 1 line))
+requestBy Unknown b line = Misused Unknown
+
+-- whether word 2 is the one that a token follows
+abbrev pub hasToken : List ℕ → Bool
+hasToken line = same (wordAt 2 line) (ascii "--token")
+
+abbrev pub requestWith : Command → Bool → List ℕ → Request
+requestWith c b line = pickRequest (wordsFit c b (wordCount line)) (requestBy c b line) (Misused c)
 
 unfoldable pub requestOf : List ℕ → Request
-requestOf line = requestWith (commandOf (wordAt 0 line)) line
+requestOf line = requestWith (commandOf (wordAt 0 line)) (hasToken line) line
 
 -- how many ids a request brings
 abbrev pub idsIn : Request → ℕ
@@ -83,3 +119,11 @@ idsIn Count = 0
 idsIn Erase = 0
 idsIn Compact = 0
 idsIn Show = 0
+idsIn (InsertToken p u) = 0
+idsIn FindToken = 0
+idsIn CountToken = 0
+idsIn CompactionToken = 0
+idsIn (InsertBy n) = n
+idsIn FindBy = 0
+idsIn CountBy = 0
+idsIn CompactBy = 0

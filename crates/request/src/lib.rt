@@ -4,8 +4,11 @@ ghost use Prim.Native.Nat.{_+_, _*_, _≤_};
 ghost use lib.ListN.{length};
 ghost use Rattle.words.specs.Decimal.{decimalOf};
 ghost use Rattle.words.specs.Line.{wordAt};
-ghost use Rattle.request.specs.Request.{firstBad, newOf, insertOf, eraseOf, requestOf, idsIn};
+ghost use Rattle.request.specs.Request.{firstBad, idsGiven, newOf, insertOf, insertByOf, eraseOf, insertTokenOf, makingOf, requestBy, requestOf, idsIn};
 ghost use Rattle.request.specs.Ids.{idOf, idsOf};
+
+pub mod token;
+
 use words::Command;
 use words::Parsed;
 use words::line;
@@ -28,6 +31,16 @@ pub enum Request {
     Erase,
     Compact,
     Show,
+    // The making of a token: of an insert's for shares 0 to p, at share u.
+    InsertToken { p: u64, u: u64 },
+    FindToken,
+    CountToken,
+    CompactionToken,
+    // With a token in place of key file, field, value and share; so many ids.
+    InsertBy { n: usize },
+    FindBy,
+    CountBy,
+    CompactBy,
 }
 
 // The id that a word stands for, zeros where it is none.
@@ -42,16 +55,16 @@ pub fn id(word: &[u8], to: &mut [u8])
     }
 }
 
-// The ids of the words from the seventh on.
-pub fn ids(line: &[u8], n: usize, to: &mut [u8])
-    requires { ⌜ length (now to) ≡ 16 * n ⌝ }
-    ensures { λ _. ⌜ now (to .exit) ≡ idsOf n (now (line .entry)) ⌝ }
+// The ids of n words from word `first` on.
+pub fn ids(line: &[u8], first: usize, n: usize, to: &mut [u8])
+    requires { ⌜ (length (now to) ≡ 16 * n) × (first + n ≤ 4096) ⌝ }
+    ensures { λ _. ⌜ now (to .exit) ≡ idsOf first n (now (line .entry)) ⌝ }
 {
     let mut i = 0;
     while i < n {
         let a = 16 * i;
         let e = a + 16;
-        id(line::word(line, 6 + i), &mut to[a..e]);
+        id(line::word(line, first + i), &mut to[a..e]);
         i += 1;
     }
 }
@@ -98,19 +111,37 @@ fn new(line: &[u8]) -> Request
     Request::New { p, m, c, s }
 }
 
-// At most 65 ids are read: one more than an insert takes, so that it is refused by their number.
+// How many ids stand from word `first` on. At most 65 are read: one more than an insert takes, so that it
+// is refused by their number.
+fn ids_given(line: &[u8], first: usize) -> usize
+    ensures { λ r. ⌜ r ≡ idsGiven first (now (line .entry)) ⌝ }
+{
+    octets::least(octets::above(line::count(line), first), 65)
+}
+
 fn insert(line: &[u8]) -> Request
     ensures { λ r. ⌜ r ≡ insertOf (now (line .entry)) ⌝ }
 {
     let Parsed::Number(u) = number(line, 5) else {
         return Request::NotNumber(5);
     };
-    let n = octets::least(octets::above(line::count(line), 6), 65);
+    let n = ids_given(line, 6);
     let bad = first_bad(line, 6, n);
     if bad < 6 + n {
         return Request::NotId(bad);
     }
     Request::Insert { u, n }
+}
+
+fn insert_by(line: &[u8]) -> Request
+    ensures { λ r. ⌜ r ≡ insertByOf (now (line .entry)) ⌝ }
+{
+    let n = ids_given(line, 4);
+    let bad = first_bad(line, 4, n);
+    if bad < 4 + n {
+        return Request::NotId(bad);
+    }
+    Request::InsertBy { n }
 }
 
 fn erase(line: &[u8]) -> Request
@@ -123,25 +154,83 @@ fn erase(line: &[u8]) -> Request
     }
 }
 
+fn insert_token(line: &[u8]) -> Request
+    ensures { λ r. ⌜ r ≡ insertTokenOf (now (line .entry)) ⌝ }
+{
+    let Parsed::Number(p) = number(line, 5) else {
+        return Request::NotNumber(5);
+    };
+    let Parsed::Number(u) = number(line, 6) else {
+        return Request::NotNumber(6);
+    };
+    Request::InsertToken { p, u }
+}
+
+// A token's making, by the command that it is for.
+fn making(line: &[u8]) -> Request
+    ensures { λ r. ⌜ r ≡ makingOf (now (line .entry)) ⌝ }
+{
+    let n = line::count(line);
+    let misused = Request::Misused(Command::Token);
+    match words::command_of(line::word(line, 1)) {
+        Command::New => misused,
+        Command::Key => misused,
+        Command::Insert => if n == 7 { insert_token(line) } else { misused },
+        Command::Find => if n == 5 { Request::FindToken } else { misused },
+        Command::Count => if n == 5 { Request::CountToken } else { misused },
+        Command::Erase => misused,
+        Command::Compact => if n == 3 {
+            Request::CompactionToken
+        } else {
+            misused
+        },
+        Command::Token => misused,
+        Command::Show => misused,
+        Command::Help => misused,
+        Command::Unknown => misused,
+    }
+}
+
+// By the command, of a line with as many words as it takes.
+fn by_command(c: Command, token: bool, line: &[u8]) -> Request
+    ensures { λ r. ⌜ r ≡ requestBy c token (now (line .entry)) ⌝ }
+{
+    match c {
+        Command::New => new(line),
+        Command::Key => Request::Key,
+        Command::Insert => if token { insert_by(line) } else { insert(line) },
+        Command::Find => if token {
+            Request::FindBy
+        } else {
+            Request::Find
+        },
+        Command::Count => if token {
+            Request::CountBy
+        } else {
+            Request::Count
+        },
+        Command::Erase => erase(line),
+        Command::Compact => if token {
+            Request::CompactBy
+        } else {
+            Request::Compact
+        },
+        Command::Token => making(line),
+        Command::Show => Request::Show,
+        Command::Help => Request::Help(words::command_of(line::word(line, 1))),
+        Command::Unknown => Request::Misused(c),
+    }
+}
+
 // What a line asks for.
 pub fn read(line: &[u8]) -> Request
     ensures { λ r. ⌜ r ≡ requestOf (now (line .entry)) ⌝ }
     ensures { λ r. ⌜ idsIn r ≤ 65 ⌝ }
 {
     let c = words::command_of(line::word(line, 0));
-    if !words::fit(c, line::count(line)) {
+    let token = words::is(line::word(line, 2), b"--token");
+    if !words::fit(c, token, line::count(line)) {
         return Request::Misused(c);
     }
-    match c {
-        Command::New => new(line),
-        Command::Key => Request::Key,
-        Command::Insert => insert(line),
-        Command::Find => Request::Find,
-        Command::Count => Request::Count,
-        Command::Erase => erase(line),
-        Command::Compact => Request::Compact,
-        Command::Show => Request::Show,
-        Command::Help => Request::Help(words::command_of(line::word(line, 1))),
-        Command::Unknown => Request::Misused(c),
-    }
+    by_command(c, token, line)
 }

@@ -10,7 +10,7 @@ use lib.ListN.{length, getD, take, drop, set, drop-of-length-le}
 use lib.Seq.{take-suc-set, take-all, drop-cons}
 use borrow.Author.Tests.{eqb-true}
 use Rattle.text.specs.Tabulate.{tabulate}
-use Rattle.text.specs.Hex.{nibbleOf, allHex, isIdOf}
+use Rattle.text.specs.Hex.{nibbleOf, allHex, isHexOf}
 
 -- one more place is written
 pub grown : (f : ℕ → ℕ) (i v : ℕ) (to : List ℕ) → i < length to → v ≡ f i → take i to ≡ tabulate f i
@@ -36,10 +36,10 @@ pub hex-end : (w : List ℕ) (i : ℕ) → length w ≤ i → allHex (drop i w) 
 unfolding allHex
 hex-end w i h t = rw (drop-of-length-le w h) at t
 
--- an id's text is 32 digits long
-pub id-length : (w : List ℕ) → isIdOf w ≡ true → length w ≡ 32
-id-length w e = go (eqb (length w) 32) refl e
+-- a word of n digits is n bytes long
+pub hex-length : (n : ℕ) (w : List ℕ) → isHexOf n w ≡ true → length w ≡ n
+hex-length n w e = go (eqb (length w) n) refl e
   where
-    go : (b : Bool) → eqb (length w) 32 ≡ b → cond b (allHex w) false ≡ true → length w ≡ 32
-    go true k h = eqb-true (length w) 32 k
+    go : (b : Bool) → eqb (length w) n ≡ b → cond b (allHex w) false ≡ true → length w ≡ n
+    go true k h = eqb-true (length w) n k
     go false k h = absurd (true≢false (sym h))

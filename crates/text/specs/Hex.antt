@@ -17,9 +17,13 @@ unfoldable pub allHex : List ℕ → Bool
 allHex [] = true
 allHex (b ∷ bs) = cond (ltb 15 (nibbleOf b)) false (allHex bs)
 
+-- whether a word is so many digits
+abbrev pub isHexOf : ℕ → List ℕ → Bool
+isHexOf n word = cond (eqb (length word) n) (allHex word) false
+
 -- whether a word is an id's text
 abbrev pub isIdOf : List ℕ → Bool
-isIdOf word = cond (eqb (length word) 32) (allHex word) false
+isIdOf word = isHexOf 32 word
 
 -- the byte of two digits
 abbrev pub pairOf : ℕ → ℕ → ℕ

@@ -2,7 +2,7 @@
 ghost use mathlib.Core.Path.{_≡_};
 ghost use Prim.Native.Nat.{_*_, _≤_, _<_};
 ghost use lib.ListN.{length};
-ghost use Rattle.text.specs.Hex.{nibbleOf, allHex, isIdOf, unhexOf, pairOf, hexOf, digitAt};
+ghost use Rattle.text.specs.Hex.{nibbleOf, allHex, isHexOf, isIdOf, unhexOf, pairOf, hexOf, digitAt};
 ghost use Rattle.text.specs.Hex.{glyph as Hex·glyph};
 ghost use Rattle.text.specs.Bar.{barOf, barAt};
 
@@ -32,7 +32,7 @@ fn nibble(b: u8) -> u8
 }
 
 // Whether every byte is a hexadecimal digit.
-fn is_hex(word: &[u8]) -> bool
+fn all_hex(word: &[u8]) -> bool
     ensures { λ r. ⌜ r ≡ allHex (now (word .entry)) ⌝ }
 {
     let mut i = 0;
@@ -45,14 +45,21 @@ fn is_hex(word: &[u8]) -> bool
     true
 }
 
+// Whether a word is so many hexadecimal digits.
+pub fn is_hex(word: &[u8], n: usize) -> bool
+    ensures { λ r. ⌜ r ≡ isHexOf n (now (word .entry)) ⌝ }
+{
+    if word.len() != n {
+        return false;
+    }
+    all_hex(word)
+}
+
 // Whether a word is an id: 32 hexadecimal digits.
 pub fn is_id(word: &[u8]) -> bool
     ensures { λ r. ⌜ r ≡ isIdOf (now (word .entry)) ⌝ }
 {
-    if word.len() != 32 {
-        return false;
-    }
-    is_hex(word)
+    is_hex(word, 32)
 }
 
 // The byte of two digits.

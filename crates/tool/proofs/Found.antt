@@ -20,9 +20,13 @@ use Rattle.scheme.specs.Find.{shareReading, idsFound, findVerdict, find}
 use Rattle.scheme.specs.Run.{findCall, madeOr}
 use Rattle.scheme.proofs.Verdicts.{after-none, passed}
 use Rattle.suite.specs.Program.{program}
+use Rattle.commands.specs.Told.{told}
+use Rattle.commands.specs.declared.Outcome.{Outcome}
+use Rattle.commands.specs.declared.Outcome.the-variants.{Number, Compacted, Damaged, WrongKey, Refused, Done, BadWords}
+use Rattle.tool.specs.Run.{Holds}
 
 -- no refusal is an answer
-never-done : (ts : List Test) (l : List ℕ) → verdict ts ≡ some (done l) → ⊥
+pub never-done : (ts : List Test) (l : List ℕ) → verdict ts ≡ some (done l) → ⊥
 never-done [] l e = let z : _≡_ {A = ℕ} 0 1 = cc in omega arith
 never-done ((b ⇒ n) ∷ ts) l e = go b e (never-done ts l)
   where
@@ -45,7 +49,7 @@ module _ (before token output : List ℕ) (n : ℕ) where
       ∷ (ltb (length output) (16 * ids) ⇒ 18 carrying (ids ∷ []))
       ∷ []
 
-  find-room : find program before token output .answer ≡ done (n ∷ []) → 16 * n ≤ length output
+  pub find-room : find program before token output .answer ≡ done (n ∷ []) → 16 * n ≤ length output
   unfolding find findVerdict
   find-room e = go (findVerdict program before token output) refl e
     where
@@ -65,3 +69,13 @@ call-room before key output f n e = go (verdict (fieldTokenTests key f)) refl e
         → madeOr v (find program before (findToken program key f) output) before output .answer ≡ done (n ∷ []) → 16 * n ≤ length output
     go none q h = find-room before (findToken program key f) output n h
     go (some r) q h = absurd (never-done (fieldTokenTests key f) (n ∷ []) (q ∙ ap some h))
+
+-- what a find's outcome tells has room
+pub holds : (o : Outcome) (room : ℕ) → ((n : ℕ) → told o ≡ done (n ∷ []) → 16 * n ≤ room) → Holds o room
+holds (Number n) room h = h n refl
+holds (Compacted t) room h = tt
+holds (Damaged t) room h = tt
+holds (WrongKey t) room h = tt
+holds (Refused r x) room h = tt
+holds Done room h = tt
+holds BadWords room h = tt

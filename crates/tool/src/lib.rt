@@ -1,9 +1,17 @@
 // The command-line tool as one function on slices: of a command line, the bytes of a store and of a key
-// file, and random bytes, the outcome, the store after it and what is printed. What is left to the
-// program is to ask the system for these bytes, and to write what this function gives.
+// file (or of the file that holds a token), and random bytes, the outcome, the store after it and what is
+// printed. What is left to the program is to ask the system for these bytes, and to write what this
+// function gives.
 use buffer::put;
 use commands::Outcome;
+use commands::office;
+use commands::server;
+use format::COMPACTION_TOKEN;
+use format::COUNT_TOKEN;
+use format::FIND_TOKEN;
+use format::INSERT_TOKEN;
 use request::Request;
+use request::token;
 use store::Checked;
 use words::Command;
 use words::line;
@@ -15,12 +23,10 @@ ghost use Rattle.buffer.specs.Put.{Put};
 ghost use Rattle.lines.specs.Answer.{answerLine};
 ghost use Rattle.messages.specs.Message.{messageLine};
 ghost use Rattle.text.specs.Ascii.{ascii};
-ghost use Rattle.request.specs.Request.{requestOf, idsIn};
+ghost use Rattle.request.specs.Request.{requestOf};
 ghost use Rattle.request.specs.Ids.{idsOf};
 ghost use Rattle.usage.specs.Usage.{usageLine, helpText};
-ghost use Rattle.tool.specs.Needs.{needsOf, takesKey, randomOf};
-ghost use Rattle.tool.specs.Needs.{made as Needs·made, changes as Needs·changes};
-ghost use Rattle.tool.specs.Run.{lent, badWord, Ends};
+ghost use Rattle.tool.specs.Run.{lent, badWord, foundText, madeText, Holds, Ends};
 ghost use Rattle.store.specs.Check.{checkedOf};
 
 // The outcome, and how many bytes each lent slice holds of what is printed.
@@ -28,126 +34,6 @@ pub struct Ran {
     pub outcome: Outcome,
     pub out: usize,
     pub err: usize,
-}
-
-// What a request needs of the system.
-pub enum Needs {
-    Words,
-    KeyFile,
-    Store,
-    // A store that no other tool changes meanwhile.
-    Lock,
-    // A store of so many bytes that must not be there.
-    NewStore(usize),
-}
-
-pub fn needed(q: Request) -> Needs
-    ensures { λ r. ⌜ r ≡ needsOf q ⌝ }
-{
-    match q {
-        Request::Help(_) => Needs::Words,
-        Request::Misused(_) => Needs::Words,
-        Request::NotNumber(_) => Needs::Words,
-        Request::NotId(_) => Needs::Words,
-        Request::New { p: _, m, c, s } => Needs::NewStore(advice::length(m, c, s)),
-        Request::Key => Needs::KeyFile,
-        Request::Insert { u: _, n: _ } => Needs::Lock,
-        Request::Find => Needs::Store,
-        Request::Count => Needs::Store,
-        Request::Erase => Needs::Lock,
-        Request::Compact => Needs::Lock,
-        Request::Show => Needs::Store,
-    }
-}
-
-// Whether a request takes the bytes of a key file.
-pub fn takes_key(q: Request) -> bool
-    ensures { λ r. ⌜ r ≡ takesKey q ⌝ }
-{
-    match q {
-        Request::Help(_) => false,
-        Request::Misused(_) => false,
-        Request::NotNumber(_) => false,
-        Request::NotId(_) => false,
-        Request::New {
-            p: _,
-            m: _,
-            c: _,
-            s: _,
-        } => false,
-        Request::Key => false,
-        Request::Insert { u: _, n: _ } => true,
-        Request::Find => true,
-        Request::Count => true,
-        Request::Erase => false,
-        Request::Compact => true,
-        Request::Show => false,
-    }
-}
-
-// How many random bytes a request takes.
-pub fn random_for(q: Request, store: &[u8]) -> usize
-    requires { ⌜ idsIn q ≤ 65 ⌝ }
-    ensures { λ r. ⌜ (r ≡ randomOf q (checkedOf (now (store .entry)))) × (r ≤ 49152) ⌝ }
-{
-    match q {
-        Request::Help(_) => 0,
-        Request::Misused(_) => 0,
-        Request::NotNumber(_) => 0,
-        Request::NotId(_) => 0,
-        Request::New {
-            p: _,
-            m: _,
-            c: _,
-            s: _,
-        } => 0,
-        Request::Key => 0,
-        Request::Insert { u: _, n } => 12 * (n + 2),
-        Request::Find => 0,
-        Request::Count => 0,
-        Request::Erase => 0,
-        Request::Compact => 12 * advice::room_in(store).logged,
-        Request::Show => 0,
-    }
-}
-
-fn made(o: Outcome) -> bool
-    ensures { λ r. ⌜ r ≡ Needs·made o ⌝ }
-{
-    match o {
-        Outcome::Number(_) => true,
-        Outcome::Compacted(_) => true,
-        Outcome::Damaged(_) => true,
-        Outcome::WrongKey(_) => false,
-        Outcome::Refused(_, _) => false,
-        Outcome::Done => true,
-        Outcome::Failed => false,
-    }
-}
-
-// Whether the store's file gets the bytes after a run with this outcome.
-pub fn changes(q: Request, o: Outcome) -> bool
-    ensures { λ r. ⌜ r ≡ Needs·changes q o ⌝ }
-{
-    match q {
-        Request::Help(_) => false,
-        Request::Misused(_) => false,
-        Request::NotNumber(_) => false,
-        Request::NotId(_) => false,
-        Request::New {
-            p: _,
-            m: _,
-            c: _,
-            s: _,
-        } => made(o),
-        Request::Key => false,
-        Request::Insert { u: _, n: _ } => made(o),
-        Request::Find => false,
-        Request::Count => false,
-        Request::Erase => made(o),
-        Request::Compact => made(o),
-        Request::Show => false,
-    }
 }
 
 // Room for the ids of every row of M.
@@ -175,7 +61,7 @@ fn answered(o: Outcome, given: u64, out: &mut [u8], err: &mut [u8]) -> Ran
 
 // What `help` prints.
 fn help(c: Command, out: &mut [u8]) -> Ran
-    requires { ⌜ 1200 ≤ length (now out) ⌝ }
+    requires { ⌜ 1600 ≤ length (now out) ⌝ }
     ensures { λ r. ⌜ (r .outcome ≡ Outcome.Done) × (r .err ≡ 0) ⌝ }
     ensures { λ r. ⌜ Put (now (out .entry)) 0 (helpText c) (now (out .exit)) (r .out) ⌝ }
 {
@@ -190,12 +76,12 @@ fn help(c: Command, out: &mut [u8]) -> Ran
 // A failure that was told in so many bytes.
 fn failed(told: usize, out: &mut [u8]) -> Ran
     requires { ⌜ 256 ≤ length (now out) ⌝ }
-    ensures { λ r. ⌜ (r .outcome ≡ Outcome.Failed) × (r .err ≡ told) ⌝ }
-    ensures { λ r. ⌜ Put (now (out .entry)) 0 (answerLine Outcome.Failed) (now (out .exit)) (r .out) ⌝ }
+    ensures { λ r. ⌜ (r .outcome ≡ Outcome.BadWords) × (r .err ≡ told) ⌝ }
+    ensures { λ r. ⌜ Put (now (out .entry)) 0 (answerLine Outcome.BadWords) (now (out .exit)) (r .out) ⌝ }
 {
-    let n = lines::answer(Outcome::Failed, out);
+    let n = lines::answer(Outcome::BadWords, out);
     Ran {
-        outcome: Outcome::Failed,
+        outcome: Outcome::BadWords,
         out: n,
         err: told,
     }
@@ -204,8 +90,8 @@ fn failed(told: usize, out: &mut [u8]) -> Ran
 // Too many words, or too few.
 fn misused(c: Command, out: &mut [u8], err: &mut [u8]) -> Ran
     requires { ⌜ (256 ≤ length (now out)) × (256 ≤ length (now err)) ⌝ }
-    ensures { λ r. ⌜ r .outcome ≡ Outcome.Failed ⌝ }
-    ensures { λ r. ⌜ Put (now (out .entry)) 0 (answerLine Outcome.Failed) (now (out .exit)) (r .out) ⌝ }
+    ensures { λ r. ⌜ r .outcome ≡ Outcome.BadWords ⌝ }
+    ensures { λ r. ⌜ Put (now (out .entry)) 0 (answerLine Outcome.BadWords) (now (out .exit)) (r .out) ⌝ }
     ensures { λ r. ⌜ Put (now (err .entry)) 0 (ascii "expected: " ++ usageLine c) (now (err .exit)) (r .err) ⌝ }
 {
     let a = put(err, 0, b"expected: ");
@@ -216,14 +102,50 @@ fn misused(c: Command, out: &mut [u8], err: &mut [u8]) -> Ran
 // A word that is not what it has to be.
 fn bad_word(what: &[u8], word: &[u8], out: &mut [u8], err: &mut [u8]) -> Ran
     requires { ⌜ (256 ≤ length (now out)) × (length (now what) + length (now word) < length (now err)) ⌝ }
-    ensures { λ r. ⌜ r .outcome ≡ Outcome.Failed ⌝ }
-    ensures { λ r. ⌜ Put (now (out .entry)) 0 (answerLine Outcome.Failed) (now (out .exit)) (r .out) ⌝ }
+    ensures { λ r. ⌜ r .outcome ≡ Outcome.BadWords ⌝ }
+    ensures { λ r. ⌜ Put (now (out .entry)) 0 (answerLine Outcome.BadWords) (now (out .exit)) (r .out) ⌝ }
     ensures { λ r. ⌜ Put (now (err .entry)) 0 (badWord (now (what .entry)) (now (word .entry))) (now (err .exit)) (r .err) ⌝ }
 {
     let a = put(err, 0, what);
     let b = put(err, a, word);
     let m = put(err, b, b"\n");
     failed(m, out)
+}
+
+// The digits of a token that was made; or its refusal.
+fn told_token(o: Outcome, token: &[u8], out: &mut [u8], err: &mut [u8]) -> Ran
+    requires { ⌜ (length (now token) ≤ 141) × ((512 ≤ length (now out)) × (256 ≤ length (now err))) ⌝ }
+    ensures { λ r. ⌜ r .outcome ≡ o ⌝ }
+    ensures { λ r. ⌜ Put (now (out .entry)) 0 (madeText o (now (token .entry))) (now (out .exit)) (r .out) ⌝ }
+    ensures { λ r. ⌜ Put (now (err .entry)) 0 (messageLine o 0) (now (err .exit)) (r .err) ⌝ }
+{
+    let Outcome::Done = o else {
+        return answered(o, 0, out, err);
+    };
+    let n = lines::put_hex(out, 0, token);
+    Ran {
+        outcome: o,
+        out: n,
+        err: 0,
+    }
+}
+
+// The ids that a find gave, each on a line; or its refusal.
+fn told_ids(o: Outcome, ids: &[u8], out: &mut [u8], err: &mut [u8]) -> Ran
+    requires { ⌜ (Holds o (length (now ids))) × ((length (now ids) ≤ 65536) × ((135168 ≤ length (now out)) × (256 ≤ length (now err)))) ⌝ }
+    ensures { λ r. ⌜ r .outcome ≡ o ⌝ }
+    ensures { λ r. ⌜ Put (now (out .entry)) 0 (foundText o (now (ids .entry))) (now (out .exit)) (r .out) ⌝ }
+    ensures { λ r. ⌜ Put (now (err .entry)) 0 (messageLine o 0) (now (err .exit)) (r .err) ⌝ }
+{
+    let Outcome::Number(n) = o else {
+        return answered(o, 0, out, err);
+    };
+    let k = lines::ids(ids, n as usize, out);
+    Ran {
+        outcome: o,
+        out: k,
+        err: 0,
+    }
 }
 
 // An insert whose ids go to a lent slice first.
@@ -238,11 +160,11 @@ fn insert_ids(
     out: &mut [u8],
     err: &mut [u8],
 ) -> Ran
-    requires { ⌜ (length (now ids) ≡ 16 * n) × ((256 ≤ length (now out)) × (256 ≤ length (now err))) ⌝ }
+    requires { ⌜ ((length (now ids) ≡ 16 * n) × (n ≤ 65)) × ((256 ≤ length (now out)) × (256 ≤ length (now err))) ⌝ }
     ensures { λ r. ⌜ Ends (Request.Insert u n) (now (line .entry)) (now (store .entry)) (now (key .entry)) (now (random .entry)) (now (out .entry)) (now (err .entry)) r (now (store .exit)) (now (out .exit)) (now (err .exit)) ⌝ }
-    ensures { λ _. ⌜ now (ids .exit) ≡ idsOf n (now (line .entry)) ⌝ }
+    ensures { λ _. ⌜ now (ids .exit) ≡ idsOf 6 n (now (line .entry)) ⌝ }
 {
-    request::ids(line, n, ids);
+    request::ids(line, 6, n, ids);
     let a = octets::least(12, random.len());
     let o = commands::insert(
         store,
@@ -287,15 +209,7 @@ fn find(line: &[u8], store: &[u8], key: &[u8], out: &mut [u8], err: &mut [u8]) -
         line::word(line, 4),
         &mut ids,
     );
-    let Outcome::Number(n) = o else {
-        return answered(o, 0, out, err);
-    };
-    let k = lines::ids(&ids, n as usize, out);
-    Ran {
-        outcome: o,
-        out: k,
-        err: 0,
-    }
+    told_ids(o, &ids, out, err)
 }
 
 fn count(line: &[u8], store: &[u8], key: &[u8], out: &mut [u8], err: &mut [u8]) -> Ran
@@ -336,6 +250,135 @@ fn show(store: &[u8], out: &mut [u8], err: &mut [u8]) -> Ran
     }
 }
 
+// An insert with the line's token, whose ids go to a lent slice first.
+fn insert_ids_by(
+    line: &[u8],
+    n: usize,
+    ids: &mut [u8],
+    store: &mut [u8],
+    key: &[u8],
+    random: &[u8],
+    out: &mut [u8],
+    err: &mut [u8],
+) -> Ran
+    requires { ⌜ ((length (now ids) ≡ 16 * n) × (n ≤ 65)) × ((256 ≤ length (now out)) × (256 ≤ length (now err))) ⌝ }
+    ensures { λ r. ⌜ Ends (Request.InsertBy n) (now (line .entry)) (now (store .entry)) (now (key .entry)) (now (random .entry)) (now (out .entry)) (now (err .entry)) r (now (store .exit)) (now (out .exit)) (now (err .exit)) ⌝ }
+    ensures { λ _. ⌜ now (ids .exit) ≡ idsOf 4 n (now (line .entry)) ⌝ }
+{
+    request::ids(line, 4, n, ids);
+    let mut token = [0u8; INSERT_TOKEN];
+    let t = token::read(line, key, &mut token);
+    let o = server::insert(store, ids, random, &token[..t]);
+    answered(o, n as u64, out, err)
+}
+
+fn insert_by(
+    line: &[u8],
+    n: usize,
+    store: &mut [u8],
+    key: &[u8],
+    random: &[u8],
+    out: &mut [u8],
+    err: &mut [u8],
+) -> Ran
+    requires { ⌜ (n ≤ 65) × ((256 ≤ length (now out)) × (256 ≤ length (now err))) ⌝ }
+    ensures { λ r. ⌜ Ends (Request.InsertBy n) (now (line .entry)) (now (store .entry)) (now (key .entry)) (now (random .entry)) (now (out .entry)) (now (err .entry)) r (now (store .exit)) (now (out .exit)) (now (err .exit)) ⌝ }
+{
+    let mut ids = [0u8; 1040];
+    let e = 16 * n;
+    insert_ids_by(line, n, &mut ids[..e], store, key, random, out, err)
+}
+
+fn find_by(line: &[u8], store: &[u8], key: &[u8], out: &mut [u8], err: &mut [u8]) -> Ran
+    requires { ⌜ (135168 ≤ length (now out)) × (256 ≤ length (now err)) ⌝ }
+    ensures { λ r. ⌜ Ends Request.FindBy (now (line .entry)) (now (store .entry)) (now (key .entry)) [] (now (out .entry)) (now (err .entry)) r (now (store .entry)) (now (out .exit)) (now (err .exit)) ⌝ }
+{
+    let mut token = [0u8; FIND_TOKEN];
+    let t = token::read(line, key, &mut token);
+    let mut ids = blank();
+    let o = server::find(store, &token[..t], &mut ids);
+    told_ids(o, &ids, out, err)
+}
+
+fn count_by(line: &[u8], store: &[u8], key: &[u8], out: &mut [u8], err: &mut [u8]) -> Ran
+    requires { ⌜ (256 ≤ length (now out)) × (256 ≤ length (now err)) ⌝ }
+    ensures { λ r. ⌜ Ends Request.CountBy (now (line .entry)) (now (store .entry)) (now (key .entry)) [] (now (out .entry)) (now (err .entry)) r (now (store .entry)) (now (out .exit)) (now (err .exit)) ⌝ }
+{
+    let mut token = [0u8; COUNT_TOKEN];
+    let t = token::read(line, key, &mut token);
+    let o = server::count(store, &token[..t]);
+    answered(o, 0, out, err)
+}
+
+fn compact_by(
+    line: &[u8],
+    store: &mut [u8],
+    key: &[u8],
+    random: &[u8],
+    out: &mut [u8],
+    err: &mut [u8],
+) -> Ran
+    requires { ⌜ (256 ≤ length (now out)) × (256 ≤ length (now err)) ⌝ }
+    ensures { λ r. ⌜ Ends Request.CompactBy (now (line .entry)) (now (store .entry)) (now (key .entry)) (now (random .entry)) (now (out .entry)) (now (err .entry)) r (now (store .exit)) (now (out .exit)) (now (err .exit)) ⌝ }
+{
+    let mut token = [0u8; COMPACTION_TOKEN];
+    let t = token::read(line, key, &mut token);
+    let o = server::compact(store, random, &token[..t]);
+    answered(o, 0, out, err)
+}
+
+fn insert_token(
+    line: &[u8],
+    p: u64,
+    u: u64,
+    key: &[u8],
+    random: &[u8],
+    out: &mut [u8],
+    err: &mut [u8],
+) -> Ran
+    requires { ⌜ (512 ≤ length (now out)) × (256 ≤ length (now err)) ⌝ }
+    ensures { λ r. ⌜ Ends (Request.InsertToken p u) (now (line .entry)) [] (now (key .entry)) (now (random .entry)) (now (out .entry)) (now (err .entry)) r [] (now (out .exit)) (now (err .exit)) ⌝ }
+{
+    let mut token = [0u8; INSERT_TOKEN];
+    let o = office::insert_token(
+        key,
+        line::word(line, 3),
+        line::word(line, 4),
+        p,
+        u,
+        random,
+        &mut token,
+    );
+    told_token(o, &token, out, err)
+}
+
+fn find_token(line: &[u8], key: &[u8], out: &mut [u8], err: &mut [u8]) -> Ran
+    requires { ⌜ (512 ≤ length (now out)) × (256 ≤ length (now err)) ⌝ }
+    ensures { λ r. ⌜ Ends Request.FindToken (now (line .entry)) [] (now (key .entry)) [] (now (out .entry)) (now (err .entry)) r [] (now (out .exit)) (now (err .exit)) ⌝ }
+{
+    let mut token = [0u8; FIND_TOKEN];
+    let o = office::find_token(key, line::word(line, 3), line::word(line, 4), &mut token);
+    told_token(o, &token, out, err)
+}
+
+fn count_token(line: &[u8], key: &[u8], out: &mut [u8], err: &mut [u8]) -> Ran
+    requires { ⌜ (512 ≤ length (now out)) × (256 ≤ length (now err)) ⌝ }
+    ensures { λ r. ⌜ Ends Request.CountToken (now (line .entry)) [] (now (key .entry)) [] (now (out .entry)) (now (err .entry)) r [] (now (out .exit)) (now (err .exit)) ⌝ }
+{
+    let mut token = [0u8; COUNT_TOKEN];
+    let o = office::count_token(key, line::word(line, 3), line::word(line, 4), &mut token);
+    told_token(o, &token, out, err)
+}
+
+fn compaction_token(line: &[u8], key: &[u8], out: &mut [u8], err: &mut [u8]) -> Ran
+    requires { ⌜ (512 ≤ length (now out)) × (256 ≤ length (now err)) ⌝ }
+    ensures { λ r. ⌜ Ends Request.CompactionToken (now (line .entry)) [] (now (key .entry)) [] (now (out .entry)) (now (err .entry)) r [] (now (out .exit)) (now (err .exit)) ⌝ }
+{
+    let mut token = [0u8; COMPACTION_TOKEN];
+    let o = office::compaction_token(key, &mut token);
+    told_token(o, &token, out, err)
+}
+
 // A run of the tool.
 pub fn run(
     line: &[u8],
@@ -372,5 +415,13 @@ pub fn run(
         Request::Erase => erase(line, store, out, err),
         Request::Compact => { answered(commands::compact(store, key, random), 0, out, err) }
         Request::Show => show(store, out, err),
+        Request::InsertToken { p, u } => insert_token(line, p, u, key, random, out, err),
+        Request::FindToken => find_token(line, key, out, err),
+        Request::CountToken => count_token(line, key, out, err),
+        Request::CompactionToken => compaction_token(line, key, out, err),
+        Request::InsertBy { n } => insert_by(line, n, store, key, random, out, err),
+        Request::FindBy => find_by(line, store, key, out, err),
+        Request::CountBy => count_by(line, store, key, out, err),
+        Request::CompactBy => compact_by(line, store, key, random, out, err),
     }
 }

@@ -3,19 +3,20 @@ use Prim.Native.Nat.{ℕ}
 use mathlib.Core.List.{List, _++_}
 use Rattle.text.specs.Ascii.{ascii}
 use Rattle.words.specs.declared.Command.{Command}
-use Rattle.words.specs.declared.Command.the-variants.{New, Key, Insert, Find, Count, Erase, Compact, Show, Help, Unknown}
+use Rattle.words.specs.declared.Command.the-variants.{New, Key, Insert, Find, Count, Erase, Compact, Token, Show, Help, Unknown}
 
 unfoldable pub usageLine : Command → List ℕ
 usageLine New = ascii "mazhkuri new STORE P M C S: makes a store for shares 0 to P (at most 15) with M entries, C counters and S log rows (1 to 4096 each)\n"
 usageLine Key = ascii "mazhkuri key KEYFILE: makes a key file of 32 random bytes, for its owner alone\n"
-usageLine Insert = ascii "mazhkuri insert STORE KEYFILE FIELD VALUE SHARE ID...: inserts 1 to 64 ids of 32 hex digits each; prints the new count of this share\n"
-usageLine Find = ascii "mazhkuri find STORE KEYFILE FIELD VALUE: prints each id on a line\n"
-usageLine Count = ascii "mazhkuri count STORE KEYFILE FIELD VALUE: prints how many ids were ever inserted, erased ones among them\n"
+usageLine Insert = ascii "mazhkuri insert STORE KEYFILE FIELD VALUE SHARE ID..., or insert STORE --token TOKEN ID...: inserts 1 to 64 ids of 32 hex digits each; prints the new count of this share\n"
+usageLine Find = ascii "mazhkuri find STORE KEYFILE FIELD VALUE, or find STORE --token TOKEN: prints each id on a line\n"
+usageLine Count = ascii "mazhkuri count STORE KEYFILE FIELD VALUE, or count STORE --token TOKEN: prints how many ids were ever inserted, erased ones among them\n"
 usageLine Erase = ascii "mazhkuri erase STORE ID: erases an id from every field; prints how many entries it had\n"
-usageLine Compact = ascii "mazhkuri compact STORE KEYFILE: frees counter and log rows; prints the anchors written and the counters freed\n"
+usageLine Compact = ascii "mazhkuri compact STORE KEYFILE, or compact STORE --token TOKEN: frees counter and log rows; prints the anchors written and the counters freed\n"
+usageLine Token = ascii "mazhkuri token insert KEYFILE FIELD VALUE P SHARE, token find KEYFILE FIELD VALUE, token count KEYFILE FIELD VALUE, token compact KEYFILE: prints a TOKEN; @FILE stands for what a file holds\n"
 usageLine Show = ascii "mazhkuri show STORE: prints the sizes of a store and how full it is; takes no key\n"
 usageLine Help = ascii "mazhkuri help [COMMAND]: prints what a command takes\n"
-usageLine Unknown = ascii "a command of: new key insert find count erase compact show help\n"
+usageLine Unknown = ascii "a command of: new key insert find count erase compact token show help\n"
 
 -- the commands that make files, and those that take a field
 unfoldable pub firstLines : List ℕ
@@ -30,7 +31,8 @@ helpText Find = usageLine Find
 helpText Count = usageLine Count
 helpText Erase = usageLine Erase
 helpText Compact = usageLine Compact
+helpText Token = usageLine Token
 helpText Show = usageLine Show
 helpText Help = usageLine Help
 helpText Unknown =
-    firstLines ++ (usageLine Erase ++ (usageLine Compact ++ (usageLine Show ++ (usageLine Help ++ ascii "a refusal prints `refused` and its number to standard output, and what to do to standard error\n"))))
+    firstLines ++ (usageLine Erase ++ (usageLine Compact ++ (usageLine Token ++ (usageLine Show ++ (usageLine Help ++ ascii "a command that is not done prints `refused` and a rule's number, `misused` or `failed` to standard output, and what to do to standard error\n")))))

@@ -12,34 +12,39 @@ const NEW: [u8; 132] =
 const KEY: [u8; 79] =
     *b"mazhkuri key KEYFILE: makes a key file of 32 random bytes, for its owner alone\n";
 
-const INSERT: [u8; 133] =
-    *b"mazhkuri insert STORE KEYFILE FIELD VALUE SHARE ID...: inserts 1 to 64 ids of 32 hex digits each; prints the new count of this share\n";
+const INSERT: [u8; 170] =
+    *b"mazhkuri insert STORE KEYFILE FIELD VALUE SHARE ID..., or insert STORE --token TOKEN ID...: inserts 1 to 64 ids of 32 hex digits each; prints the new count of this share\n";
 
-const FIND: [u8; 66] = *b"mazhkuri find STORE KEYFILE FIELD VALUE: prints each id on a line\n";
+const FIND: [u8; 95] =
+    *b"mazhkuri find STORE KEYFILE FIELD VALUE, or find STORE --token TOKEN: prints each id on a line\n";
 
-const COUNT: [u8; 105] =
-    *b"mazhkuri count STORE KEYFILE FIELD VALUE: prints how many ids were ever inserted, erased ones among them\n";
+const COUNT: [u8; 135] =
+    *b"mazhkuri count STORE KEYFILE FIELD VALUE, or count STORE --token TOKEN: prints how many ids were ever inserted, erased ones among them\n";
 
 const ERASE: [u8; 87] =
     *b"mazhkuri erase STORE ID: erases an id from every field; prints how many entries it had\n";
 
-const COMPACT: [u8; 110] =
-    *b"mazhkuri compact STORE KEYFILE: frees counter and log rows; prints the anchors written and the counters freed\n";
+const COMPACT: [u8; 142] =
+    *b"mazhkuri compact STORE KEYFILE, or compact STORE --token TOKEN: frees counter and log rows; prints the anchors written and the counters freed\n";
+
+const TOKEN: [u8; 190] =
+    *b"mazhkuri token insert KEYFILE FIELD VALUE P SHARE, token find KEYFILE FIELD VALUE, token count KEYFILE FIELD VALUE, token compact KEYFILE: prints a TOKEN; @FILE stands for what a file holds\n";
 
 const SHOW: [u8; 82] =
     *b"mazhkuri show STORE: prints the sizes of a store and how full it is; takes no key\n";
 
 const HELP: [u8; 53] = *b"mazhkuri help [COMMAND]: prints what a command takes\n";
 
-const UNKNOWN: [u8; 64] = *b"a command of: new key insert find count erase compact show help\n";
+const UNKNOWN: [u8; 70] =
+    *b"a command of: new key insert find count erase compact token show help\n";
 
-const REFUSED: [u8; 95] =
-    *b"a refusal prints `refused` and its number to standard output, and what to do to standard error\n";
+const REFUSED: [u8; 140] =
+    *b"a command that is not done prints `refused` and a rule's number, `misused` or `failed` to standard output, and what to do to standard error\n";
 
 // What a command takes.
 pub fn put_usage(to: &mut [u8], at: usize, c: Command) -> usize
-    requires { ⌜ at + 133 ≤ length (now to) ⌝ }
-    ensures { λ r. ⌜ (Put (now (to .entry)) at (usageLine c) (now (to .exit)) r) × (r ≤ at + 133) ⌝ }
+    requires { ⌜ at + 200 ≤ length (now to) ⌝ }
+    ensures { λ r. ⌜ (Put (now (to .entry)) at (usageLine c) (now (to .exit)) r) × (r ≤ at + 200) ⌝ }
 {
     match c {
         Command::New => put(to, at, &NEW),
@@ -49,6 +54,7 @@ pub fn put_usage(to: &mut [u8], at: usize, c: Command) -> usize
         Command::Count => put(to, at, &COUNT),
         Command::Erase => put(to, at, &ERASE),
         Command::Compact => put(to, at, &COMPACT),
+        Command::Token => put(to, at, &TOKEN),
         Command::Show => put(to, at, &SHOW),
         Command::Help => put(to, at, &HELP),
         Command::Unknown => put(to, at, &UNKNOWN),
@@ -57,8 +63,8 @@ pub fn put_usage(to: &mut [u8], at: usize, c: Command) -> usize
 
 // What the commands that make files, and those that take a field, take.
 fn put_first(to: &mut [u8]) -> usize
-    requires { ⌜ 665 ≤ length (now to) ⌝ }
-    ensures { λ r. ⌜ (Put (now (to .entry)) 0 firstLines (now (to .exit)) r) × (r ≤ 665) ⌝ }
+    requires { ⌜ 765 ≤ length (now to) ⌝ }
+    ensures { λ r. ⌜ (Put (now (to .entry)) 0 firstLines (now (to .exit)) r) × (r ≤ 765) ⌝ }
 {
     let a = put(to, 0, &NEW);
     let b = put(to, a, &KEY);
@@ -69,20 +75,21 @@ fn put_first(to: &mut [u8]) -> usize
 
 // What every command takes.
 fn put_all(to: &mut [u8]) -> usize
-    requires { ⌜ 1200 ≤ length (now to) ⌝ }
+    requires { ⌜ 1600 ≤ length (now to) ⌝ }
     ensures { λ r. ⌜ Put (now (to .entry)) 0 (helpText Command.Unknown) (now (to .exit)) r ⌝ }
 {
     let a = put_first(to);
     let b = put(to, a, &ERASE);
     let c = put(to, b, &COMPACT);
-    let d = put(to, c, &SHOW);
-    let e = put(to, d, &HELP);
-    put(to, e, &REFUSED)
+    let d = put(to, c, &TOKEN);
+    let e = put(to, d, &SHOW);
+    let f = put(to, e, &HELP);
+    put(to, f, &REFUSED)
 }
 
 // What `help` prints of a command; of none, every command.
 pub fn put_help(to: &mut [u8], c: Command) -> usize
-    requires { ⌜ 1200 ≤ length (now to) ⌝ }
+    requires { ⌜ 1600 ≤ length (now to) ⌝ }
     ensures { λ r. ⌜ Put (now (to .entry)) 0 (helpText c) (now (to .exit)) r ⌝ }
 {
     if let Command::Unknown = c {

@@ -21,6 +21,7 @@ pub enum Command {
     Count,
     Erase,
     Compact,
+    Token,
     Show,
     Help,
     Unknown,
@@ -62,7 +63,7 @@ pub fn decimal(word: &[u8]) -> Parsed
 }
 
 // Whether a word is a name.
-fn is(word: &[u8], name: &[u8]) -> bool
+pub fn is(word: &[u8], name: &[u8]) -> bool
     ensures { λ r. ⌜ r ≡ sameBytes (now (word .entry)) (now (name .entry)) ⌝ }
 {
     if word.len() != name.len() {
@@ -80,6 +81,9 @@ fn reader_of(word: &[u8]) -> Command
     }
     if is(word, b"count") {
         return Command::Count;
+    }
+    if is(word, b"token") {
+        return Command::Token;
     }
     if is(word, b"show") {
         return Command::Show;
@@ -112,18 +116,19 @@ pub fn command_of(word: &[u8]) -> Command
     reader_of(word)
 }
 
-// Whether a command takes so many words, its own among them.
-pub fn fit(c: Command, n: usize) -> bool
-    ensures { λ r. ⌜ r ≡ wordsFit c n ⌝ }
+// Whether a command takes so many words, its own among them; with a token, other than with a key file.
+pub fn fit(c: Command, token: bool, n: usize) -> bool
+    ensures { λ r. ⌜ r ≡ wordsFit c token n ⌝ }
 {
     match c {
         Command::New => n == 6,
         Command::Key => n == 2,
-        Command::Insert => 6 <= n,
-        Command::Find => n == 5,
-        Command::Count => n == 5,
+        Command::Insert => if token { 4 <= n } else { 6 <= n },
+        Command::Find => if token { n == 4 } else { n == 5 },
+        Command::Count => if token { n == 4 } else { n == 5 },
         Command::Erase => n == 3,
-        Command::Compact => n == 3,
+        Command::Compact => if token { n == 4 } else { n == 3 },
+        Command::Token => 3 <= n,
         Command::Show => n == 2,
         Command::Help => true,
         Command::Unknown => false,

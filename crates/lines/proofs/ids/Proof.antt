@@ -25,7 +25,7 @@ loop-again : tie.Need-loop-again Inv-loop μ-loop
 loop-again c =
     let s = c .before .before .before .before .before .before .before .before .before in
     let l = c .before .before .before .before .before .before .loop in
-    let p = c .before .before .put-id in
+    let p = c .before .before .put-hex in
     (omega arith, search needs, omega (arith, p .ensures .1, l .inv .2), next-id (s .args .found .now) (l .i) ((16 * l .i + 16) - 16 * l .i) (omega arith) (l .inv .3) (p .ensures .0))
 
 returns : tie.Need-returns Inv-loop μ-loop

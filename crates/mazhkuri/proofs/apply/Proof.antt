@@ -4,7 +4,7 @@ use mathlib.Core.Bool.{true, true≢false}
 use borrow.Author.Tests.{not-false}
 use Rattle.request.specs.Request.{requestOf}
 use Rattle.request.specs.declared.Request.{Request}
-use Rattle.tool.specs.Needs.{changes}
+use Rattle.demand.specs.Needs.{changes}
 use borrow.Author.Needs.{needs}
 use Rattle.mazhkuri.proofs.apply.Statement.{statement}
 use Rattle.mazhkuri.proofs.apply.Tie as tie

@@ -5,7 +5,7 @@ use native.Mathlib.Omega.{arith}
 use lib.ListN.{length, replicate}
 use Prim.Native.Nat.{ℕ}
 use Rattle.text.specs.Hex.{unhexOf}
-use Rattle.text.proofs.Laws.{id-length}
+use Rattle.text.proofs.Laws.{hex-length}
 use Rattle.request.proofs.Laws.{id-is}
 use borrow.Author.Needs.{needs}
 use Rattle.request.proofs.id.Statement.{statement}
@@ -13,7 +13,7 @@ use Rattle.request.proofs.id.Tie as tie
 
 unhex-requires : tie.Need-unhex-requires
 unhex-requires c κs =
-    omega (arith, id-length (c .before .before .before .before .before .args .word .now) (sym (c .before .before .is-id .ensures) ∙ c .before .if1 .taken), c .before .before .before .before .before .pre)
+    omega (arith, hex-length 32 (c .before .before .before .before .before .args .word .now) (sym (c .before .before .is-id .ensures) ∙ c .before .if1 .taken), c .before .before .before .before .before .pre)
 
 returns : tie.Need-returns
 returns c =

@@ -11,10 +11,10 @@ use Rattle.request.proofs.ids.Statement.{statement}
 use Rattle.request.proofs.ids.Tie as tie
 
 abbrev Inv-loop : tie.InvT-loop
-Inv-loop line n to₀ i₀ to i = (i ≤ n) × (length to ≡ 16 * n) × (take (16 * i) to ≡ idsOf i line)
+Inv-loop line first n to₀ i₀ to i = (i ≤ n) × (length to ≡ 16 * n) × (take (16 * i) to ≡ idsOf first i line)
 
 abbrev μ-loop : tie.MeasureT-loop
-μ-loop line n to₀ i₀ to i = n - i
+μ-loop line first n to₀ i₀ to i = n - i
 
 loop-holds : tie.Need-loop-holds Inv-loop μ-loop
 unfolding idsOf
@@ -26,7 +26,7 @@ loop-again c =
     let d = c .before .before .id in (
       omega arith,
       search needs,
-      ids-more (l .to) (c .before .before .before .before .before .before .before .before .before .args .line .now) (d .last .1 .0) (l .i) (16 * l .i) (16 * l .i + 16) refl refl (omega arith) (omega (arith, d .kept .1 .0)) (l .inv .2) (d .ensures ∙ ap idOf (c .before .before .before .before .word .ensures)),
+      ids-more (l .to) (c .before .before .before .before .before .before .before .before .before .args .line .now) (d .last .1 .0) (c .before .before .before .before .before .before .before .before .before .args .first) (l .i) (16 * l .i) (16 * l .i + 16) refl refl (omega arith) (omega (arith, d .kept .1 .0)) (l .inv .2) (d .ensures ∙ ap idOf (c .before .before .before .before .word .ensures)),
     )
 
 returns : tie.Need-returns Inv-loop μ-loop
@@ -34,7 +34,7 @@ returns c =
     let l = c .before .loop in
     let n = c .before .before .before .before .args .n in
     let all : l .i ≡ n = omega arith in
-    sym (take-all (16 * l .i) (l .to) (omega arith)) ∙ l .inv .2 ∙ ap (λ (k : ℕ). idsOf k (c .before .before .before .before .args .line .now)) all
+    sym (take-all (16 * l .i) (l .to) (omega arith)) ∙ l .inv .2 ∙ ap (λ (k : ℕ). idsOf (c .before .before .before .before .args .first) k (c .before .before .before .before .args .line .now)) all
 
 pub ids-spec : {M : Type 1} → statement M
 ids-spec =

@@ -12,23 +12,24 @@ use borrow.Author.Needs.{needs}
 use Rattle.tool.proofs.insert_ids.Statement.{statement}
 use Rattle.tool.proofs.insert_ids.Tie as tie
 
+ids-requires : tie.Need-ids-requires
+ids-requires c κs = (c .before .before .before .before .before .before .before .before .pre .0 .0, omega (arith, c .before .before .before .before .before .before .before .before .pre .0 .1))
+
 slice-aggregate-insert : tie.Need-slice-aggregate-insert
-slice-aggregate-insert c =
-    sym (length-take-le (c .before .before .before .before .least .result) (c .before .before .before .before .before .before .before .before .before .before .before .before .before .before .before .before .args .random .now) (omega (arith, c .before .before .before .before .least .ensures)))
+slice-aggregate-insert c = sym (length-take-le (c .before .before .before .before .least .result) (c .before .before .before .before .before .before .before .before .before .before .before .before .before .before .before .before .args .random .now) (omega (arith, c .before .before .before .before .least .ensures)))
 
 returns : tie.Need-returns
 returns c =
     let s = c .before .before .before .before .before .before .before .before .before .before .before .before .before .before .before .before .before .before .before .before .before .before .before .before .before .before .before .before .args in
-    let a = c .before .before .before .before .answered in
-    let o = c .before .before .before .before .before .before .before .before .before .insert in
     let random = s .random .now in (
-      ended (Insert (s .u) (s .n)) (s .line .now) (s .store .now) (s .key .now) random (o .last .0) (o .result) (a .result) (a .ensures .0) (
-        inserted (checkedOf (s .store .now)) (s .store .now) (s .key .now) (o .last .0) (s .u) (o .result) (s .line .now) _ _ _ _ _ (take 12 random) (idsOf (s .n) (s .line .now)) (drop 12 random) (c .before .before .before .before .before .before .before .before .before .before .before .before .before .before .word .ensures) (c .before .before .before .before .before .before .before .before .before .before .before .before .before .word2 .ensures) (clipped random (c .before .before .before .before .before .before .before .before .before .before .before .before .before .before .before .before .least .result) (c .before .before .before .before .before .before .before .before .before .before .before .before .before .before .before .before .least .ensures)) (c .before .before .before .before .before .before .before .before .before .before .before .before .before .before .before .before .before .before .before .ids .ensures) (rest random (c .before .before .before .before .before .before .before .before .before .before .before .before .before .before .before .before .least .result) (c .before .before .before .before .before .before .before .before .before .before .before .before .before .before .before .before .least .ensures)) (o .ensures .0),
-        o .ensures .1,
-      ) (a .ensures .1 .0) (a .ensures .1 .1),
+      ended (Insert (s .u) (s .n)) (s .line .now) (s .store .now) (s .key .now) random (c .before .before .before .before .before .before .before .before .before .insert .last .0) (c .before .before .before .before .before .before .before .before .before .insert .result) (c .before .before .before .before .answered .result) (c .before .before .before .before .answered .ensures .0) (
+        inserted (checkedOf (s .store .now)) (s .store .now) (s .key .now) (c .before .before .before .before .before .before .before .before .before .insert .last .0) (s .u) (c .before .before .before .before .before .before .before .before .before .insert .result) (s .line .now) _ _ _ _ _ (take 12 random) (idsOf 6 (s .n) (s .line .now)) (drop 12 random) (c .before .before .before .before .before .before .before .before .before .before .before .before .before .before .word .ensures) (c .before .before .before .before .before .before .before .before .before .before .before .before .before .word2 .ensures) (clipped random (c .before .before .before .before .before .before .before .before .before .before .before .before .before .before .before .before .least .result) (c .before .before .before .before .before .before .before .before .before .before .before .before .before .before .before .before .least .ensures)) (c .before .before .before .before .before .before .before .before .before .before .before .before .before .before .before .before .before .before .before .ids .ensures) (rest random (c .before .before .before .before .before .before .before .before .before .before .before .before .before .before .before .before .least .result) (c .before .before .before .before .before .before .before .before .before .before .before .before .before .before .before .before .least .ensures)) (c .before .before .before .before .before .before .before .before .before .insert .ensures .0),
+        c .before .before .before .before .before .before .before .before .before .insert .ensures .1,
+      ) (c .before .before .before .before .answered .ensures .1 .0) (c .before .before .before .before .answered .ensures .1 .1),
       c .before .before .before .before .before .before .before .before .before .before .before .before .before .before .before .before .before .before .before .ids .ensures,
     )
 
 pub insert-ids-spec : {M : Type 1} → statement M
 insert-ids-spec =
-    tie.close (tie.spec (λ c κs. search needs) (λ c κs. search needs) (λ c κs. search needs) (λ c κs. search needs) slice-aggregate-insert (λ c. search needs) (λ c. search needs) (λ c. search needs) (λ c κs. search needs) (λ c κs. search needs) (λ c. search needs) (λ c. search needs) (λ c. search needs) (λ c. search needs) returns)
+    tie.close
+    (tie.spec ids-requires (λ c κs. search needs) (λ c κs. search needs) (λ c κs. search needs) slice-aggregate-insert (λ c. search needs) (λ c. search needs) (λ c. search needs) (λ c κs. search needs) (λ c κs. search needs) (λ c. search needs) (λ c. search needs) (λ c. search needs) (λ c. search needs) returns)

@@ -1,0 +1,14 @@
+-- The call's own contract.
+use mathlib.Core.Path.{_∙_}
+use Rattle.commands.proofs.Rooms.{roomed}
+use borrow.Author.Needs.{needs}
+use Rattle.commands.proofs.server.count.Statement.{statement}
+use Rattle.commands.proofs.server.count.Tie as tie
+
+returns : tie.Need-returns
+returns c = (c .of-counted .ensures .0 ∙ c .before .count .ensures, roomed _ _ _ (c .of-counted .ensures .1) (c .before .before .room-in .ensures .0))
+
+pub count-spec : {M : Type 1} → statement M
+count-spec =
+    tie.close
+    (tie.spec (λ c κs. search needs) (λ c κs. search needs) (λ c κs. search needs) returns)

@@ -1,0 +1,44 @@
+// The server's half: the calls with a token, on the bytes of a store, and no key.
+ghost use mathlib.Core.Path.{_≡_};
+ghost use Rattle.scheme.specs.Insert.{Insert};
+ghost use Rattle.scheme.specs.Find.{find as findOf};
+ghost use Rattle.scheme.specs.Count.{count as countOf};
+ghost use Rattle.scheme.specs.Compaction.{Compact};
+ghost use Rattle.suite.specs.Program.{program};
+ghost use Rattle.commands.specs.Told.{told, Roomed};
+use crate::Outcome;
+use crate::of_compaction;
+use crate::of_counted;
+
+pub fn insert(store: &mut [u8], ids: &[u8], nonces: &[u8], token: &[u8]) -> Outcome
+    ensures { λ o. ⌜ Insert program (now (store .entry)) (now (ids .entry)) (now (nonces .entry)) (now (token .entry)) (told o) (now (store .exit)) ⌝ }
+    ensures { λ o. ⌜ Roomed (now (store .entry)) o ⌝ }
+{
+    let room = advice::room_in(store);
+    of_counted(insert::insert(store, ids, nonces, token), room)
+}
+
+pub fn find(store: &[u8], token: &[u8], output: &mut [u8]) -> Outcome
+    ensures { λ o. ⌜ told o ≡ findOf program (now (store .entry)) (now (token .entry)) (now (output .entry)) .answer ⌝ }
+    ensures { λ _. ⌜ now (output .exit) ≡ findOf program (now (store .entry)) (now (token .entry)) (now (output .entry)) .output ⌝ }
+    ensures { λ o. ⌜ Roomed (now (store .entry)) o ⌝ }
+{
+    let room = advice::room_in(store);
+    of_counted(find::find(store, token, output), room)
+}
+
+pub fn count(store: &[u8], token: &[u8]) -> Outcome
+    ensures { λ o. ⌜ told o ≡ countOf program (now (store .entry)) (now (token .entry)) .answer ⌝ }
+    ensures { λ o. ⌜ Roomed (now (store .entry)) o ⌝ }
+{
+    let room = advice::room_in(store);
+    of_counted(count::count(store, token), room)
+}
+
+pub fn compact(store: &mut [u8], nonces: &[u8], token: &[u8]) -> Outcome
+    ensures { λ o. ⌜ Compact program (now (store .entry)) (now (nonces .entry)) (now (token .entry)) (told o) (now (store .exit)) ⌝ }
+    ensures { λ o. ⌜ Roomed (now (store .entry)) o ⌝ }
+{
+    let room = advice::room_in(store);
+    of_compaction(compact::compact(store, nonces, token), room)
+}

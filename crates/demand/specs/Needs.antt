@@ -1,0 +1,135 @@
+-- What a request needs of the system, and when the store's file is written.
+use Prim.Native.Nat.{ℕ, _+_, _*_, min}
+use mathlib.Core.Bool.{Bool, true, false}
+use Rattle.store.specs.declared.Checked.{Checked}
+use Rattle.advice.specs.Advise.{lengthOf, roomOf}
+use Rattle.request.specs.declared.Request.{Request}
+use Rattle.request.specs.declared.Request.the-variants.{Help, Misused, NotNumber, NotId, New, Key, Insert, Find, Count, Erase, Compact, Show, InsertToken, FindToken, CountToken, CompactionToken, InsertBy, FindBy, CountBy, CompactBy}
+use Rattle.commands.specs.declared.Outcome.{Outcome}
+use Rattle.commands.specs.declared.Outcome.the-variants.{Number, Compacted, Damaged, WrongKey, Refused, Done, BadWords}
+use Rattle.demand.specs.declared.Needs.{Needs}
+use Rattle.demand.specs.declared.Needs.the-variants.{Words, KeyFile, KeyAlone, Store, Lock, NewStore}
+
+abbrev pub needsOf : Request → Needs
+needsOf (Help c) = Words
+needsOf (Misused c) = Words
+needsOf (NotNumber i) = Words
+needsOf (NotId i) = Words
+needsOf (New p m c s) = NewStore (lengthOf m c s)
+needsOf Key = KeyFile
+needsOf (Insert u n) = Lock
+needsOf Find = Store
+needsOf Count = Store
+needsOf Erase = Lock
+needsOf Compact = Lock
+needsOf Show = Store
+needsOf (InsertToken p u) = KeyAlone
+needsOf FindToken = KeyAlone
+needsOf CountToken = KeyAlone
+needsOf CompactionToken = KeyAlone
+needsOf (InsertBy n) = Lock
+needsOf FindBy = Store
+needsOf CountBy = Store
+needsOf CompactBy = Lock
+
+abbrev pub takesKey : Request → Bool
+takesKey (Help c) = false
+takesKey (Misused c) = false
+takesKey (NotNumber i) = false
+takesKey (NotId i) = false
+takesKey (New p m c s) = false
+takesKey Key = false
+takesKey (Insert u n) = true
+takesKey Find = true
+takesKey Count = true
+takesKey Erase = false
+takesKey Compact = true
+takesKey Show = false
+takesKey (InsertToken p u) = true
+takesKey FindToken = true
+takesKey CountToken = true
+takesKey CompactionToken = true
+takesKey (InsertBy n) = false
+takesKey FindBy = false
+takesKey CountBy = false
+takesKey CompactBy = false
+
+-- whether a token stands in the line, or in the file that its word 3 names
+abbrev pub takesToken : Request → Bool
+takesToken (Help c) = false
+takesToken (Misused c) = false
+takesToken (NotNumber i) = false
+takesToken (NotId i) = false
+takesToken (New p m c s) = false
+takesToken Key = false
+takesToken (Insert u n) = false
+takesToken Find = false
+takesToken Count = false
+takesToken Erase = false
+takesToken Compact = false
+takesToken Show = false
+takesToken (InsertToken p u) = false
+takesToken FindToken = false
+takesToken CountToken = false
+takesToken CompactionToken = false
+takesToken (InsertBy n) = true
+takesToken FindBy = true
+takesToken CountBy = true
+takesToken CompactBy = true
+
+-- random bytes: a nonce for an insert's token, where it is made, one for each id and one for the counter; for a compaction, one for
+-- each used row of S
+abbrev pub randomOf : Request → Checked → ℕ
+randomOf (Help c) x = 0
+randomOf (Misused c) x = 0
+randomOf (NotNumber i) x = 0
+randomOf (NotId i) x = 0
+randomOf (New p m c s) x = 0
+randomOf Key x = 0
+randomOf (Insert u n) x = 12 * (n + 2)
+randomOf Find x = 0
+randomOf Count x = 0
+randomOf Erase x = 0
+randomOf Compact x = 12 * roomOf x .logged
+randomOf Show x = 0
+randomOf (InsertToken p u) x = 12
+randomOf FindToken x = 0
+randomOf CountToken x = 0
+randomOf CompactionToken x = 0
+randomOf (InsertBy n) x = 12 * (n + 1)
+randomOf FindBy x = 0
+randomOf CountBy x = 0
+randomOf CompactBy x = 12 * roomOf x .logged
+
+-- a refusal changes nothing, and a compaction with another key is not kept
+abbrev pub made : Outcome → Bool
+made (Number n) = true
+made (Compacted t) = true
+made (Damaged t) = true
+made (WrongKey t) = false
+made (Refused r room) = false
+made Done = true
+made BadWords = false
+
+-- whether the store's file gets the bytes after a run
+abbrev pub changes : Request → Outcome → Bool
+changes (Help c) o = false
+changes (Misused c) o = false
+changes (NotNumber i) o = false
+changes (NotId i) o = false
+changes (New p m c s) o = made o
+changes Key o = false
+changes (Insert u n) o = made o
+changes Find o = false
+changes Count o = false
+changes Erase o = made o
+changes Compact o = made o
+changes Show o = false
+changes (InsertToken p u) o = false
+changes FindToken o = false
+changes CountToken o = false
+changes CompactionToken o = false
+changes (InsertBy n) o = made o
+changes FindBy o = false
+changes CountBy o = false
+changes CompactBy o = made o
