@@ -14,6 +14,8 @@ use Rattle.words.specs.Decimal.{pickParsed, stepOf, further, decimalOf}
 use Rattle.words.specs.declared.Parsed.{Parsed}
 use Rattle.words.specs.declared.Parsed.the-variants.{Number, Bad}
 use Rattle.words.proofs.Laws.{first-digit}
+use Rattle.octets.specs.Compare.{same}
+use Rattle.holder.specs.Holder.{holderAt, holderOf}
 use Rattle.holder.specs.Line.{lineOf, before, upTo, beyond, isEnded, bodyOf, hostOf, isName, positiveOf, processOf}
 
 -- ---- a number's digits are read as the number
@@ -148,3 +150,7 @@ module _ (n : ℕ) (host : List ℕ) where
       ∙ ap (λ (l : List ℕ). positiveOf (decimalOf l)) (ap (upTo 32) body-is ∙ number-is)
       ∙ ap positiveOf (decimal-read n l)
       ∙ ap (λ (t : Bool). pickParsed t Bad (Number n)) (le-ltb n 1 (omega arith))
+
+  -- who finds the line is told of the process, and whether the host is the one at hand
+  pub holder-again : (here : List ℕ) → 0 < n → n < 1000000000 → isName host ≡ true → holderOf (lineOf n host) here ≡ holderAt (Number n) (same host here)
+  holder-again here h l named = ap₂ holderAt (process-again h l named) (ap (λ (t : List ℕ). same t here) host-again)
