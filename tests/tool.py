@@ -459,6 +459,23 @@ ssize_t write(int fd, const void *from, size_t n) {
 }
 """
 
+# A process that ends by itself, after its lock was read and before it is asked for: its lock is gone, or is another's.
+GONE = """
+#include <errno.h>
+#include <fcntl.h>
+#include <stdlib.h>
+#include <unistd.h>
+int getpgid(int process) {
+  unlink("store.lock");
+  if (getenv("NEXT")) {
+    int fd = open("store.lock", O_WRONLY | O_CREAT, 0600);
+    if (write(fd, "1 next\\n", 7) != 7) abort();
+    close(fd);
+  }
+  return errno = ESRCH, -1;
+}
+"""
+
 
 def lock(b):
     """What a lock says: its line, what a tool says that finds it, whatever it holds, and that a lock that cannot be written is not left."""
@@ -548,12 +565,17 @@ def lock(b):
     if not shutil.which("cc"):
         return left_out("a lock that is held, and a full disk", "there is no cc")
     libraries = {}
-    for kind, text in (("held", HELD), ("full", FULL)):
+    for kind, text in (("held", HELD), ("full", FULL), ("gone", GONE)):
         (b.folder / f"{kind}.c").write_text(text)
         libraries[kind] = b.folder / f"{kind}.so"
         subprocess.run(["cc", "-shared", "-fPIC", "-o", libraries[kind], b.folder / f"{kind}.c"], check=True)
     for room in (0, 1, 5):
         unwritten("cannot write store.lock: No space left on device\n", env={"LD_PRELOAD": str(libraries["full"]), "ROOM": str(room)})
+    for after in ({}, {"NEXT": "1"}):
+        at.write_text(f"{gone} {here}\n")
+        told = b.run(*erase, env={"LD_PRELOAD": str(libraries["gone"]), **after})
+        expect(told[0] in ("refused\n", "failed\n") and told[1] == unknown.format(at.name), f"lock: a process that ended by itself: {told}")
+        at.unlink(missing_ok=True)
     long = {"env": {"LD_PRELOAD": str(libraries["held"])}}
     for words, answer in ((changing[0], "1\n"), (erase, "1\n"), (changing[2], "1 1\n")):
         before = b.store.read_bytes()
