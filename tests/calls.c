@@ -48,7 +48,7 @@ static int due(void) {
   const char *at = getenv("AT");
   if (at == NULL || ++calls != atoi(at)) return 0;
   if (getenv("FAIL")) return errno = EIO, 1;
-  return kill(getpid(), SIGKILL), 1;
+  return kill(syscall(SYS_getpid), SIGKILL), 1;
 }
 
 #define CALL(type, name, parameters, arguments, format, ...) \
@@ -64,6 +64,9 @@ CALL(int, fchown, (int fd, uid_t owner, gid_t group), (fd, owner, group), "%d", 
 CALL(int, fstat, (int fd, struct stat *s), (fd, s), "%d", fd)
 CALL(int, fsync, (int fd), (fd), "%d", fd)
 CALL(int, getentropy, (void *bytes, size_t n), (bytes, n), "%zu", n)
+CALL(int, gethostname, (char *name, size_t n), (name, n), "%zu", n)
+CALL(pid_t, getpgid, (pid_t process), (process), "%d", process)
+CALL(pid_t, getpid, (void), (), "%d", 0)
 CALL(int, mkstemp, (char *name), (name), "%s", name)
 CALL(ssize_t, readlink, (const char *name, char *bytes, size_t n), (name, bytes, n), "%s", name)
 CALL(ssize_t, read, (int fd, void *bytes, size_t n), (fd, bytes, n), "%d", fd)

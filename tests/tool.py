@@ -7,10 +7,10 @@
 
 Tests: the worked list of document 01 ('A day in the ledger'), bad words, office and server apart, files that are no store,
 refusals from the state, the largest store on a small stack, a disk that is full, a folder that cannot
-be written, no randomness, links, owner and mode, several tools at once, each call of the system failing or
-never reached, every state that a power cut may leave, and runs interrupted by kill -9. What the tool leaves
-in a store is read back by the model (tests/model) too, which shares no code with it. A test that cannot be
-run here is left out with a line that says so; under the gate that is a failure.
+be written, no randomness, links, owner and mode, what a lock says, several tools at once, each call of the
+system failing or never reached, every state that a power cut may leave, and runs interrupted by kill -9. What
+the tool leaves in a store is read back by the model (tests/model) too, which shares no code with it. A test
+that cannot be run here is left out with a line that says so; under the gate that is a failure.
 """
 import argparse
 import concurrent.futures
@@ -21,6 +21,7 @@ import pathlib
 import random
 import resource
 import shutil
+import signal
 import stat
 import subprocess
 import sys
@@ -390,7 +391,7 @@ def no_room(b):
     """A write that fails: the store is as it was."""
     insert = ["insert", "store", "key", "hue", "red", 0, ident(2)]
     changing = [insert, ["erase", "store", ident(1)], ["compact", "store", "key"]]
-    for limit in (0, 1, 500):
+    for limit in (100, 500):
         for words in changing:
             b.refused(words, "failed", "cannot write store.new: File too large", restore_signals=False,
                       preexec_fn=lambda: resource.setrlimit(resource.RLIMIT_FSIZE, (limit, limit)))
@@ -512,6 +513,180 @@ def modes(b):
     expect(not [p.name for p in b.folder.iterdir() if p.suffix in (".new", ".lock") or len(p.suffix) == 7], "modes: something is left behind")
 
 
+# Stops the tool at its first sync, with the lock made. A host's name of 64 bytes has no 0 after it.
+HELD = """
+#define _GNU_SOURCE
+#include <signal.h>
+#include <stdlib.h>
+#include <string.h>
+#include <sys/syscall.h>
+#include <unistd.h>
+int fsync(int fd) {
+  if (getenv("STOP")) raise(SIGSTOP);
+  return syscall(SYS_fsync, fd);
+}
+int gethostname(char *name, size_t n) {
+  memset(name, 'h', n);
+  return n == 64 ? -1 : 0;
+}
+"""
+
+# Has no room for more bytes than ROOM in files.
+FULL = """
+#include <errno.h>
+#include <stdlib.h>
+#include <sys/syscall.h>
+#include <unistd.h>
+ssize_t write(int fd, const void *from, size_t n) {
+  static long left = -1;
+  if (left < 0) left = atoi(getenv("ROOM"));
+  if (fd > 2 && left == 0) return errno = ENOSPC, -1;
+  if (fd > 2 && (long)n > left) n = left;
+  if (fd > 2) left -= n;
+  return syscall(SYS_write, fd, from, n);
+}
+"""
+
+# A process that ends by itself, after its lock was read and before it is asked for: its lock is gone, or is another's.
+GONE = """
+#include <errno.h>
+#include <fcntl.h>
+#include <stdlib.h>
+#include <unistd.h>
+int getpgid(int process) {
+  unlink("store.lock");
+  if (getenv("NEXT")) {
+    int fd = open("store.lock", O_WRONLY | O_CREAT, 0600);
+    if (write(fd, "1 next\\n", 7) != 7) abort();
+    close(fd);
+  }
+  return errno = ESRCH, -1;
+}
+"""
+
+
+def lock(b):
+    """What a lock says: its line, what a tool says that finds it, whatever it holds, and that a lock that cannot be written is not left."""
+    here, at = os.uname().nodename, b.folder / "store.lock"
+    erase = ["erase", "store", ident(1)]
+    changing = [["insert", "store", "key", "hue", "red", 0, ident(1)], erase, ["compact", "store", "key"], ["new", "store", 1, 4, 4, 4]]
+    unknown = "another mazhkuri is changing this store: try again; if none is running, one was stopped: remove {}\n"
+    running = "process {} is changing this store: wait until it has ended, then try again (if that is no mazhkuri, remove {})\n"
+    stopped = "process {} was stopped while it was changing this store, which is whole: remove {}, then try again\n"
+    elsewhere = "process {} on {} is changing this store: look there whether it runs; if not, remove {}, then try again\n"
+
+    def says(said, words=erase, **more):
+        before, held = b.store.read_bytes(), at.read_bytes() if at.is_file() else None
+        out, err = b.run(*words, **more)
+        expect(out == "failed\n" and err == said, f"lock: {held!r}: {out!r} {err!r}, expected {said!r}")
+        expect(b.store.read_bytes() == before and at.exists(), f"lock: {held!r}: the store or the lock changed")
+        expect(not at.is_file() or os.geteuid() != 0 or at.read_bytes() == held, "lock: the lock's bytes changed")
+
+    def unwritten(said, **more):
+        """The lock cannot be written: nothing is changed, and no lock is left."""
+        for words in changing[:3]:
+            before = b.files()
+            out, err = b.run(*words, **more)
+            expect(out == "failed\n" and err == said and b.files() == before, f"lock: {words}: {out!r} {err!r}, {sorted(b.files())}")
+
+    def ended():
+        """A process that has ended."""
+        process = subprocess.Popen(["true"])
+        process.wait()
+        return process.pid
+
+    gone, mine = ended(), os.getpid()
+    for words in changing:
+        at.write_text(f"{mine} {here}\n")
+        says(running.format(mine, at.name), words)
+        at.write_text(f"{gone} {here}\n")
+        says(stopped.format(gone, at.name), words)
+        at.write_text(f"{gone} another.host\n")
+        says(elsewhere.format(gone, "another.host", at.name), words)
+        at.write_bytes(b"")
+        says(unknown.format(at.name), words)
+    at.write_text(f"{gone} {here}\n")
+    says(stopped.format(gone, at), ["erase", b.store, ident(1)])
+    for line, said in ((f"00{mine} {here}\n", running.format(mine, at.name)), (f"999999999 {here}\n", stopped.format(999999999, at.name)),
+                       (f"1 {here}x\n", elsewhere.format(1, here + "x", at.name)), (f"1 {here[:-1]}~\n", elsewhere.format(1, here[:-1] + "~", at.name)),
+                       ("1 !\n", elsewhere.format(1, "!", at.name)), (f"1 {'h' * 125}\n", elsewhere.format(1, "h" * 125, at.name))):
+        at.write_text(line)
+        says(said)
+    r = random.Random(3)
+    name = here.encode()
+    hostile = [b"\n", b" ", b" \n", b"1", b"1\n", b"1 ", b"1 \n", b"1 " + name, name + b"\n", b" 1 " + name + b"\n", b"1  " + name + b"\n",
+               b"1 " + name + b" \n", b"1 " + name + b"\n\n", b"1 " + name + b"\n1 " + name + b"\n", b"1 " + name + b"\r\n", b"1\t" + name + b"\n",
+               b"0 " + name + b"\n", b"-1 " + name + b"\n", b"+1 " + name + b"\n", b"0x1 " + name + b"\n", b"1. " + name + b"\n",
+               b"1000000000 " + name + b"\n", b"4294967297 " + name + b"\n", b"18446744073709551617 " + name + b"\n", b"9" * 100 + b" h\n",
+               b"1 h\x1b[2J\n", b"1 h\0\n", b"1 h\x7f\n", b"1 \xc3\xa9\n", b"1 " + b"h" * 126 + b"\n", b"1 h\n" + b"x" * 70000, b"1" * 70000,
+               bytes(1000)] + [r.randbytes(n) for n in (1, 10, 100, 1000)]
+    for content in hostile:
+        at.write_bytes(content)
+        says(unknown.format(at.name))
+    at.write_text(f"{gone} {here}\n")
+    if os.geteuid() == 0:
+        at.chmod(0)
+        os.chmod(b.folder, 0o777)
+        says(unknown.format(at.name), user=NOBODY)
+        os.chmod(b.folder, 0o755)
+    else:
+        left_out("a lock that may not be read", "only root can run the tool as another user")
+    at.unlink()
+    at.mkdir()
+    says(unknown.format(at.name))
+    at.rmdir()
+    at.symlink_to("nowhere")
+    out, err = b.run(*erase)
+    expect(out == "failed\n" and err == unknown.format(at.name), f"lock: a link that leads nowhere: {out!r} {err!r}")
+    at.unlink()
+    for limit in (0, 1):
+        unwritten("cannot write store.lock: File too large\n", restore_signals=False,
+                  preexec_fn=lambda: resource.setrlimit(resource.RLIMIT_FSIZE, (limit, limit)))
+    if shim:
+        # a system that does not answer what it is asked is no reason to say that a process was stopped
+        for call, said in (("getpgid", running.format(gone, at.name)), ("gethostname", elsewhere.format(gone, here, at.name))):
+            at.write_text(f"{gone} {here}\n")
+            made = [c.name for c in b.watched(erase)[3]]
+            out, err, _, _ = b.watched(erase, made.index(call) + 1, fail=True)
+            expect(out == "failed\n" and err == said, f"lock: {call} fails: {out!r} {err!r}")
+        at.unlink()
+    if not shutil.which("cc"):
+        return left_out("a lock that is held, and a full disk", "there is no cc")
+    libraries = {}
+    for kind, text in (("held", HELD), ("full", FULL), ("gone", GONE)):
+        (b.folder / f"{kind}.c").write_text(text)
+        libraries[kind] = b.folder / f"{kind}.so"
+        subprocess.run(["cc", "-shared", "-fPIC", "-o", libraries[kind], b.folder / f"{kind}.c"], check=True)
+    for room in (0, 1, 5):
+        unwritten("cannot write store.lock: No space left on device\n", env={"LD_PRELOAD": str(libraries["full"]), "ROOM": str(room)})
+    for after in ({}, {"NEXT": "1"}):
+        at.write_text(f"{gone} {here}\n")
+        told = b.run(*erase, env={"LD_PRELOAD": str(libraries["gone"]), **after})
+        expect(told[0] == "failed\n" and told[1] == unknown.format(at.name), f"lock: a process that ended by itself: {told}")
+        at.unlink(missing_ok=True)
+    long = {"env": {"LD_PRELOAD": str(libraries["held"])}}
+    for words, answer in ((changing[0], "1\n"), (erase, "1\n"), (changing[2], "1 1\n")):
+        before = b.store.read_bytes()
+        for force in (True, False):
+            run = b.start(*words, env={**long["env"], "STOP": "1"})
+            _, status = os.waitpid(run.pid, os.WUNTRACED)
+            expect(os.WIFSTOPPED(status), f"lock: {words}: never stopped")
+            expect(at.read_text() == f"{run.pid} {'h' * 64}\n", f"lock: it holds {at.read_bytes()!r}, its process is {run.pid}")
+            says(running.format(run.pid, at.name), **long)
+            says(elsewhere.format(run.pid, "h" * 64, at.name))
+            if force:
+                run.kill()
+                expect(run.communicate() == ("", ""), "lock: a tool that was stopped by force said something")
+                says(stopped.format(run.pid, at.name), **long)
+                expect(b.store.read_bytes() == before, "lock: the store that was left is another one")
+                at.unlink()
+            else:
+                while run.poll() is None:
+                    run.send_signal(signal.SIGCONT)
+                    time.sleep(0.01)
+                expect(run.communicate() == (answer, "") and not at.exists(), f"lock: {words}: after it was held")
+
+
 def at_once(b, tools=4, each=25):
     """Tools that change one store at the same time: every insert is there once [01:SC6]."""
     def work(t):
@@ -523,7 +698,8 @@ def at_once(b, tools=4, each=25):
                 out, err = b.run(*words)
                 if not out.startswith(UNDONE):
                     break
-                expect(out == "failed\n" and "another mazhkuri is changing this store" in err, f"at once: {out!r} {err!r}")
+                # never that one was stopped: a lock that is gone, or is another's by now, is not taken for one that was left
+                expect(out == "failed\n" and " is changing this store: " in err, f"at once: {out!r} {err!r}")
                 expect(time.monotonic() < until, "at once: the lock is never given back")
                 met += 1
         return met
@@ -540,9 +716,9 @@ def at_once(b, tools=4, each=25):
 
 
 # For each changing command how many calls of the system it makes at least, and which must be among them.
-REPLACING = {"readlink", "open", "read", "close", "fstat", "mkstemp", "fchown", "fchmod", "write", "fsync", "rename", "unlink"}
+REPLACING = {"readlink", "open", "getpid", "gethostname", "read", "close", "fstat", "mkstemp", "fchown", "fchmod", "write", "fsync", "rename", "unlink"}
 MAKES = {"insert": (30, REPLACING | {"getentropy"}), "erase": (20, REPLACING), "compact": (25, REPLACING | {"getentropy"}),
-         "new": (12, {"readlink", "open", "write", "fsync", "close", "rename", "unlink"}),
+         "new": (12, {"readlink", "open", "getpid", "gethostname", "write", "fsync", "close", "rename", "unlink"}),
          "key": (10, {"getentropy", "open", "mkstemp", "rename", "fchmod", "write", "fsync", "close"})}
 
 
@@ -714,6 +890,7 @@ def interrupted(b, kills):
     usual = (time.monotonic() - began) / 5
     answered, unanswered = [ident(10 ** 6 + n) for n in range(5)], []
     ended = locks = halves = compactions = checked = lost = twice = 0
+    left = b.folder / "store.lock"
     for n in range(kills):
         if 300 <= n and n % 25 == 0 and 60 < time.monotonic() - began:
             kills = n
@@ -731,9 +908,14 @@ def interrupted(b, kills):
         if not compacting:
             (answered if out.endswith("\n") else unanswered).append(new)
         halves += (b.folder / "store.new").exists()
-        if (b.folder / "store.lock").exists():
+        if left.exists():
             locks += 1
-            (b.folder / "store.lock").unlink()
+            line = left.read_text()
+            expect(line in ("", f"{run.pid} {os.uname().nodename}\n"), f"interrupted: process {run.pid} left the lock {line!r}")
+            if line and locks % 25 == 0:
+                said = b.run("erase", "store", ident(0))[1]
+                expect(said.startswith(f"process {run.pid} was stopped while it was changing this store"), f"interrupted: {line!r}: {said!r}")
+            left.unlink()
         if n % 25 == 24 or n == kills - 1:
             found = b.found()
             checked += len(answered)
@@ -761,7 +943,7 @@ def main():
     tests = [("the worked list", worked_list, [1, 4, 4, 4]), ("bad words", bad_words, [1, 4, 4, 4]), ("office and server", halves, [1, 8, 8, 8]), ("files that are no store", no_stores, [1, 4, 4, 4]),
              ("refusals from the state", states, [0, 8, 4, 2]), ("the largest store", small_stack, [15, 4096, 4096, 4096]),
              ("writes that fail", lambda b: (b.answer("insert", "store", "key", "hue", "red", 0, ident(1)), no_room(b)), [1, 8, 8, 8]),
-             ("links", links, [1, 4, 4, 4]), ("modes", modes, [1, 64, 64, 64]), ("tools at once", at_once, [1, 200, 200, 200]),
+             ("links", links, [1, 4, 4, 4]), ("modes", modes, [1, 64, 64, 64]), ("lock", lock, [1, 4, 4, 4]), ("tools at once", at_once, [1, 200, 200, 200]),
              ("every point", every_point, [1, 16, 16, 16]), ("power cut", power_cut, [1, 16, 16, 16]),
              ("kill -9", lambda b: interrupted(b, kills), [1, 4096, 512, 512])]
     with tempfile.TemporaryDirectory() as beside:

@@ -1,5 +1,6 @@
 // Files and randomness. No contract can speak of what is read or written: a function says of what it
 // gives back its length or its range, and of an answer that the system gives, nothing (`OfSystem`).
+mod locks;
 mod rights;
 
 use libc::STDERR_FILENO;
@@ -110,18 +111,6 @@ fn report_long()
     io::write_all(STDERR_FILENO, b"cannot use this path: File name too long\n");
 }
 
-// Says that another tool holds the store, and what to do.
-fn report_lock(name: &[u8])
-    ensures { λ r. ⌜ r ≡ tt ⌝ }
-{
-    io::write_all(
-        STDERR_FILENO,
-        b"another mazhkuri is changing this store: try again; if none is running, one was stopped: remove ",
-    );
-    io::write_all(STDERR_FILENO, name);
-    io::write_all(STDERR_FILENO, b"\n");
-}
-
 // Whether a path names a link: then another tool may lock the file that it leads to under its own name,
 // and the file would be replaced here alone.
 fn is_link(path: &[u8]) -> bool
@@ -153,10 +142,16 @@ fn make_lock(name: &[u8]) -> bool
     let fd = os::create(name);
     if fd < 0 {
         if os::errno() == libc::EEXIST {
-            report_lock(name);
+            locks::report(name);
         } else {
             report(b"make", name);
         }
+        return false;
+    }
+    if !locks::sign(fd) {
+        report(b"write", name);
+        libc::close(fd);
+        os::unlink(name);
         return false;
     }
     libc::close(fd);
