@@ -1,4 +1,5 @@
--- Laws of what a line asks for: an id that a word is or is not, ids one after the other, the first word that is none, numbers.
+-- Laws of what a line asks for: an id that a word is or is not, ids one after the other, the first word that is none, numbers, a token
+-- that was printed.
 use Prim.Native.Nat.{ℕ, zero, suc, _+_, _*_, _-_, _<_, _≤_, min}
 use mathlib.Core.Path.{_≡_, refl, sym, ap, ap₂, subst, _∙_}
 use mathlib.Core.Bool.{Bool, true, false, cond}
@@ -6,11 +7,12 @@ use mathlib.Core.List.{List, [], _++_}
 use native.Mathlib.Numerals.{add-one}
 use native.Mathlib.Omega.{arith}
 use lib.Dec.{ltb, eqb}
-use lib.ListN.{length, take, drop, replicate}
+use lib.ListN.{length, getD, take, drop, replicate}
 use lib.Seq.{take-add}
 use Rattle.octets.specs.Part.{back}
 use Rattle.octets.proofs.Parts.{take-back, part-back}
-use Rattle.text.specs.Hex.{isIdOf, unhexOf}
+use Rattle.text.specs.Hex.{isIdOf, unhexOf, hexOf}
+use Rattle.text.proofs.Digits.{is-digits, unhex-back}
 use Rattle.words.specs.Line.{wordAt, wordCount}
 use Rattle.words.specs.Words.{commandOf, wordsFit}
 use Rattle.words.specs.Decimal.{decimalOf}
@@ -19,6 +21,7 @@ use Rattle.words.specs.declared.Parsed.the-variants.{Number, Bad}
 use Rattle.words.specs.declared.Command.{Command}
 use Rattle.words.specs.declared.Command.the-variants.{New as New₀, Key as Key₀, Insert as Insert₀, Find as Find₀, Count as Count₀, Erase as Erase₀, Compact as Compact₀, Token as Token₀, Show as Show₀, Help as Help₀, Unknown}
 use Rattle.request.specs.Ids.{idOf, idsOf}
+use Rattle.request.specs.Token.{tokenOf}
 use Rattle.request.specs.Request.{withNumber, withIds, idsFrom, firstBad, idsGiven, newOf, insertOf, insertByOf, eraseOf, insertTokenOf, makingBy, makingOf, pickRequest, hasToken, requestBy, requestWith, requestOf, idsIn}
 use Rattle.request.specs.declared.Request.{Request}
 use Rattle.request.specs.declared.Request.the-variants.{Misused, NotId, Insert, Find, Count, Erase, Compact, FindToken, CountToken, CompactionToken, InsertBy, FindBy, CountBy, CompactBy}
@@ -80,6 +83,12 @@ module _ (line : List ℕ) (c : Command) (t b : Bool) (k : ℕ) (e : c ≡ comma
 
   pub misused : b ≡ false → Misused c ≡ requestOf line
   misused h = sym (ap (λ (x : Bool). pickRequest x (requestBy c t line) (Misused c)) h) ∙ asked-as
+
+-- a token that was printed is read back, whatever its length
+pub token-again : (token : List ℕ) → ((i : ℕ) → getD token i 0 < 256) → tokenOf (length token) (hexOf token (2 * length token)) ≡ token
+unfolding tokenOf
+token-again token bytes =
+    ap (λ (b : Bool). cond b (unhexOf (hexOf token (2 * length token)) (length token)) []) (is-digits token bytes) ∙ unhex-back token bytes
 
 -- a token's making, where its command is this one
 pub making-of : (line : List ℕ) (c d : Command) (n : ℕ) (r : Request) → c ≡ commandOf (wordAt 1 line) → n ≡ wordCount line → c ≡ d → r ≡ makingBy d n line
