@@ -3,8 +3,8 @@ use mathlib.Core.Path.{sym, _∙_}
 use borrow.Author.Tests.{eq-eqb, ne-eqb}
 use Rattle.scheme.specs.Refusals.{insertInputTests, tokenTests}
 use borrow.Author.Needs.{needs}
-use Rattle.insert.proofs.input.Statement.{statement}
-use Rattle.insert.proofs.input.Tie as tie
+use Rattle.admission.proofs.input.Statement.{statement}
+use Rattle.admission.proofs.input.Tie as tie
 
 returns : tie.Need-returns
 unfolding insertInputTests tokenTests

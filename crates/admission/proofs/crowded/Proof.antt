@@ -1,7 +1,7 @@
 -- Each test is the definition's.
 use borrow.Author.Tests.{lt-ltb, le-ltb}
-use Rattle.insert.proofs.crowded.Statement.{statement}
-use Rattle.insert.proofs.crowded.Tie as tie
+use Rattle.admission.proofs.crowded.Statement.{statement}
+use Rattle.admission.proofs.crowded.Tie as tie
 
 returns : tie.Need-returns
 returns c = simp (lt-ltb _ _ (c .if1 .taken))

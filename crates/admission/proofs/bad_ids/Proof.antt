@@ -1,7 +1,7 @@
 -- Each test is the definition's.
 use borrow.Author.Tests.{eq-eqb, ne-eqb, lt-ltb, le-ltb}
-use Rattle.insert.proofs.bad_ids.Statement.{statement}
-use Rattle.insert.proofs.bad_ids.Tie as tie
+use Rattle.admission.proofs.bad_ids.Statement.{statement}
+use Rattle.admission.proofs.bad_ids.Tie as tie
 
 returns : tie.Need-returns
 returns c = simp (ne-eqb _ _ (c .if1 .taken))

@@ -1,10 +1,10 @@
 -- Refused by the definition's tests, in its order.
 use mathlib.Core.Path.{sym, _∙_}
 use borrow.Author.Tests.{lt-ltb, le-ltb}
-use Rattle.insert.specs.Tests.{roomTests}
+use Rattle.admission.specs.Tests.{roomTests}
 use borrow.Author.Needs.{needs}
-use Rattle.insert.proofs.room.Statement.{statement}
-use Rattle.insert.proofs.room.Tie as tie
+use Rattle.admission.proofs.room.Statement.{statement}
+use Rattle.admission.proofs.room.Tie as tie
 
 returns : tie.Need-returns
 unfolding roomTests

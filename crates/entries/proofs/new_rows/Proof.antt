@@ -8,10 +8,10 @@ use Rattle.table.specs.Table.{Table, rows}
 use Rattle.table.proofs.Rows.{rows-length}
 use Rattle.scheme.specs.Insert.{entryRows, reverseRows}
 use Rattle.suite.specs.Program.{program}
-use Rattle.insert.proofs.Laws.{piece-long, take-more, take-done, length-entries, length-reverses, made-entry, made-reverse}
+use Rattle.entries.proofs.Laws.{piece-long, take-more, take-done, length-entries, length-reverses, made-entry, made-reverse}
 use borrow.Author.Needs.{needs}
-use Rattle.insert.proofs.new_rows.Statement.{statement}
-use Rattle.insert.proofs.new_rows.Tie as tie
+use Rattle.entries.proofs.new_rows.Statement.{statement}
+use Rattle.entries.proofs.new_rows.Tie as tie
 
 abbrev Inv-loop : tie.InvT-loop
 Inv-loop mt me g n nonces ids entries₀ reverses₀ k i₀ entries reverses i =
