@@ -11,10 +11,10 @@ use Rattle.suite.specs.Program.{program}
 use Rattle.counter.specs.declared.Counter.{Counter}
 use Rattle.counter.specs.Outcome.{readingOf}
 use Rattle.counter.proofs.Readings.{reading-bounds}
-use Rattle.compact.proofs.Places.{noted-held}
+use Rattle.treatment.proofs.Places.{noted-held}
 use borrow.Author.Needs.{needs}
-use Rattle.compact.proofs.treat.Statement.{statement}
-use Rattle.compact.proofs.treat.Tie as tie
+use Rattle.treatment.proofs.treat.Statement.{statement}
+use Rattle.treatment.proofs.treat.Tie as tie
 
 returns : tie.Need-returns
 returns c =

@@ -5,10 +5,10 @@ use native.Mathlib.Omega.{arith}
 use lib.ListN.{length, take, drop}
 use Rattle.scheme.specs.Store.{tableC, widthOf}
 use Rattle.table.specs.Table.{rows, freeAt}
-use Rattle.compact.proofs.Places.{place-at, free-turn, free-end}
+use Rattle.treatment.proofs.Places.{place-at, free-turn, free-end}
 use borrow.Author.Needs.{needs}
-use Rattle.compact.proofs.free_places.Statement.{statement}
-use Rattle.compact.proofs.free_places.Tie as tie
+use Rattle.treatment.proofs.free_places.Statement.{statement}
+use Rattle.treatment.proofs.free_places.Tie as tie
 
 abbrev Inv-loop : tie.InvT-loop
 Inv-loop t₀ c places k j₀ t j = (j ≤ k) × (length t ≡ length t₀) × (freeAt (widthOf tableC) (drop j (take k places)) (rows (widthOf tableC) c t) ≡ freeAt (widthOf tableC) (take k places) (rows (widthOf tableC) c t₀))

@@ -20,7 +20,7 @@ use Rattle.suite.specs.Program.{program}
 use Rattle.counter.specs.declared.Counter.{Counter}
 use Rattle.counter.specs.Outcome.{placesNoted}
 use Rattle.counter.proofs.Readings.{Bounds, reading-bounds, places-held}
-use Rattle.compact.specs.Treatment.{Noted}
+use Rattle.treatment.specs.Treatment.{Noted}
 
 -- what holds of all elements holds of one
 pub all-at : (P : ℕ → Type 0) (l : List ℕ) (i : ℕ) → All P l → i < length l → P (getD l i 0)

@@ -7,10 +7,10 @@ use Rattle.scheme.specs.Store.{tableC, widthOf, anchorRow}
 use Rattle.scheme.specs.Compaction.{nextAnchor}
 use Rattle.suite.specs.Program.{program}
 use Rattle.counter.proofs.Readings.{Bounds}
-use Rattle.compact.proofs.Places.{noted-bounds, noted-inside, noted-first, anchored-is}
+use Rattle.treatment.proofs.Places.{noted-bounds, noted-inside, noted-first, anchored-is}
 use borrow.Author.Needs.{needs}
-use Rattle.compact.proofs.anchor.Statement.{statement}
-use Rattle.compact.proofs.anchor.Tie as tie
+use Rattle.treatment.proofs.anchor.Statement.{statement}
+use Rattle.treatment.proofs.anchor.Tie as tie
 
 bounds : (s : tie.Start) → Bounds (s .args .c) (s .args .z .b .0) (s .args .z .start .0) (s .args .z .k) (s .args .z .count)
 bounds s = let a = s .args in noted-bounds (a .c) (a .cl .now) (rows (widthOf tableC) (a .c) (a .t .now)) (a .z) (a .places .now) (s .pre .1 .1)

@@ -1,7 +1,7 @@
 -- The three values as they stand.
 use borrow.Author.Needs.{needs}
-use Rattle.compact.proofs.next_anchor.Statement.{statement}
-use Rattle.compact.proofs.next_anchor.Tie as tie
+use Rattle.treatment.proofs.next_anchor.Statement.{statement}
+use Rattle.treatment.proofs.next_anchor.Tie as tie
 
 returns : tie.Need-returns
 returns c = search needs
