@@ -6,7 +6,7 @@ use Rattle.scheme.specs.Suite.{Suite}
 use Rattle.scheme.specs.Labels.{Field}
 use Rattle.scheme.specs.Keys.{share, MTof, MEof, CLof}
 use Rattle.suite.specs.Program.{program}
-use Rattle.client.specs.declared.keys.FieldKeys.{FieldKeys}
+use Rattle.keys.specs.declared.FieldKeys.{FieldKeys}
 
 pub record Parts (K : List ℕ) (f : Field) (k : FieldKeys) : Type 0 where
   pub mt : k .mt ≡ MTof program K f

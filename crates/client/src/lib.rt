@@ -1,23 +1,17 @@
-// The client, which holds the master key (document 01, "Labels", "Keys and tokens"): label bytes and
-// the four token makings. Each writes to a lent array of the token's size; a refusal leaves it.
+// The client, which holds the master key (document 01, "Keys and tokens"): the four token makings. Each
+// writes to a lent array of the token's size; a refusal leaves it. Label bytes are in labels, the keys in
+// keys.
 ghost use mathlib.Core.Path.{_≡_};
 ghost use mathlib.Core.List.{List, _++_};
 ghost use Prim.Native.Nat.{ℕ, _≤_, _+_};
-ghost use mathlib.Core.Bool.{_||_};
-ghost use lib.Dec.{ltb};
 ghost use lib.ListN.{length};
 ghost use Rattle.answer.specs.Answer.{completion};
-ghost use Rattle.scheme.specs.Labels.{Field, fieldLengthsBad};
 ghost use Rattle.scheme.specs.Keys.{insertToken, findToken, countToken, compactionToken};
 ghost use Rattle.scheme.specs.Refusals.{insertTokenTests, fieldTokenTests, keyTests};
 ghost use Rattle.suite.specs.Program.{program};
 ghost use Rattle.format.specs.Tags.{Prepared};
 ghost use Rattle.client.specs.Making.{makingAnswer, makingToken, fieldOf};
 ghost use Rattle.client.specs.Parts.{Parts, Token};
-
-pub mod keys;
-mod label;
-
 use answer::Completion;
 use answer::Refusal;
 use format::COMPACTION_TOKEN;
@@ -28,19 +22,6 @@ use format::KEY;
 use format::NONCE;
 use hmac::Keyed;
 use keys::FieldKeys;
-
-// Whether the length of a name or of a value is outside its range. [01:LB1]
-fn outside(name: &[u8], value: &[u8]) -> bool
-    ensures { λ r. ⌜ r ≡ fieldLengthsBad (fieldOf (now (name .entry)) (now (value .entry))) ⌝ }
-{
-    if name.len() < 1 {
-        return true;
-    }
-    if 255 < name.len() {
-        return true;
-    }
-    1024 < value.len()
-}
 
 // Writes three pieces one after the other.
 fn three(to: &mut [u8], a: &[u8], b: &[u8], c: &[u8])
@@ -60,7 +41,7 @@ fn parts(k: Keyed, name: &[u8], value: &[u8]) -> FieldKeys
     ensures { λ r. ⌜ ((key : List ℕ) → Prepared k key → Parts key (fieldOf (now (name .entry)) (now (value .entry))) r) ⌝ }
 {
     let mut x = [0u8; 1281];
-    let n = label::label(name, value, &mut x);
+    let n = labels::label(name, value, &mut x);
     keys::field_keys(k, &x[..n])
 }
 
@@ -84,7 +65,7 @@ pub fn find_token(key: &[u8], name: &[u8], value: &[u8], token: &mut [u8; FIND_T
     if key.len() != KEY {
         return Completion::Refused(Refusal::KeyLength);
     }
-    if outside(name, value) {
+    if labels::outside(name, value) {
         return Completion::Refused(Refusal::FieldLength);
     }
     write_find(key, name, value, token);
@@ -97,7 +78,7 @@ fn count_part(key: &[u8], name: &[u8], value: &[u8]) -> [u8; COUNT_TOKEN]
     ensures { λ r. ⌜ r ≡ countToken program (now (key .entry)) (fieldOf (now (name .entry)) (now (value .entry))) ⌝ }
 {
     let mut x = [0u8; 1281];
-    let n = label::label(name, value, &mut x);
+    let n = labels::label(name, value, &mut x);
     keys::count_key(hmac::prepare(key), &x[..n])
 }
 
@@ -114,7 +95,7 @@ pub fn count_token(
     if key.len() != KEY {
         return Completion::Refused(Refusal::KeyLength);
     }
-    if outside(name, value) {
+    if labels::outside(name, value) {
         return Completion::Refused(Refusal::FieldLength);
     }
     *token = count_part(key, name, value);
@@ -152,16 +133,6 @@ fn write_insert(k: FieldKeys, ks: &[u8; 32], p: u8, u: u64, nonce: &[u8], to: &m
     three(&mut to[65..INSERT_TOKEN], &clu, nonce, &log);
 }
 
-// Whether p is above 15 or u above p. [01:KT3 RI4]
-fn shares_outside(p: u64, u: u64) -> bool
-    ensures { λ r. ⌜ r ≡ (ltb 15 p || ltb p u) ⌝ }
-{
-    if 15 < p {
-        return true;
-    }
-    p < u
-}
-
 // The insert token: refused by 1, 2, 3 and 4. [01:KT7]
 pub fn insert_token(
     key: &[u8],
@@ -178,10 +149,10 @@ pub fn insert_token(
     if key.len() != KEY {
         return Completion::Refused(Refusal::KeyLength);
     }
-    if outside(name, value) {
+    if labels::outside(name, value) {
         return Completion::Refused(Refusal::FieldLength);
     }
-    if shares_outside(p, u) {
+    if keys::shares_outside(p, u) {
         return Completion::Refused(Refusal::ShareRange);
     }
     if nonce.len() != NONCE {

@@ -11,7 +11,7 @@ use Rattle.scheme.specs.Keys.{KC, CLof, countToken}
 use Rattle.suite.specs.Program.{program}
 use Rattle.format.proofs.Tags.{prepared}
 use Rattle.client.specs.Making.{fieldOf}
-use Rattle.client.proofs.Laws.{label-short}
+use Rattle.labels.proofs.Laws.{label-short}
 use borrow.Author.Needs.{needs}
 use Rattle.client.proofs.count_part.Statement.{statement}
 use Rattle.client.proofs.count_part.Tie as tie

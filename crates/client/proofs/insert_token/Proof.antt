@@ -1,5 +1,6 @@
 -- Refused by the definition's tests, in its order.
-use Rattle.client.proofs.Laws.{in-range, share-range, token-is}
+use Rattle.labels.proofs.Laws.{in-range}
+use Rattle.client.proofs.Laws.{share-range, token-is}
 use Rattle.client.specs.Making.{fieldOf}
 use Rattle.scheme.specs.Refusals.{insertTokenTests}
 use Rattle.format.proofs.Tags.{prepared}

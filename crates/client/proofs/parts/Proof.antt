@@ -11,7 +11,7 @@ use Rattle.scheme.specs.Labels.{label}
 use Rattle.scheme.specs.Keys.{KM, KC, MTof, MEof, CLof}
 use Rattle.suite.specs.Program.{program}
 use Rattle.client.specs.Making.{fieldOf}
-use Rattle.client.proofs.Laws.{label-short}
+use Rattle.labels.proofs.Laws.{label-short}
 use borrow.Author.Needs.{needs}
 use Rattle.client.proofs.parts.Statement.{statement}
 use Rattle.client.proofs.parts.Tie as tie

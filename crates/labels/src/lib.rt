@@ -1,10 +1,24 @@
-// Label bytes (document 01, "Labels"): the name's length in groups of seven bits, the name, the value.
+// Labels (document 01, "Labels"): the lengths that a name and a value may have, and the label's bytes:
+// the name's length in groups of seven bits, the name, the value.
 ghost use mathlib.Core.Path.{_≡_};
 ghost use mathlib.Core.List.{_++_};
 ghost use Prim.Native.Nat.{_≤_, _<_};
 ghost use lib.ListN.{length, drop};
-ghost use Rattle.scheme.specs.Labels.{sevens, label as labelOf};
-ghost use Rattle.client.specs.Making.{fieldOf};
+ghost use Rattle.scheme.specs.Labels.{fieldLengthsBad, sevens, label as labelOf};
+ghost use Rattle.labels.specs.Field.{fieldOf};
+
+// Whether the length of a name or of a value is outside its range. [01:LB1]
+pub fn outside(name: &[u8], value: &[u8]) -> bool
+    ensures { λ r. ⌜ r ≡ fieldLengthsBad (fieldOf (now (name .entry)) (now (value .entry))) ⌝ }
+{
+    if name.len() < 1 {
+        return true;
+    }
+    if 255 < name.len() {
+        return true;
+    }
+    1024 < value.len()
+}
 
 // Writes a number below 16,384 in groups of seven bits at the start of a slice; answers how many.
 fn groups(n: usize, to: &mut [u8]) -> usize

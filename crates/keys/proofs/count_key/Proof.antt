@@ -7,8 +7,8 @@ use Rattle.scheme.specs.Keys.{KC}
 use Rattle.suite.specs.Program.{program}
 use Rattle.format.proofs.Tags.{numbered-is}
 use borrow.Author.Needs.{needs}
-use Rattle.client.proofs.keys.count_key.Statement.{statement}
-use Rattle.client.proofs.keys.count_key.Tie as tie
+use Rattle.keys.proofs.count_key.Statement.{statement}
+use Rattle.keys.proofs.count_key.Tie as tie
 
 returns : tie.Need-returns
 unfolding KC program

@@ -1,5 +1,5 @@
 -- The pieces, one after the other.
-use Rattle.client.proofs.Laws.{length-sevens, named, labelled, length-label}
+use Rattle.labels.proofs.Laws.{length-sevens, named, labelled, length-label}
 use Rattle.octets.specs.Part.{written}
 use Rattle.scheme.specs.Labels.{sevens}
 use lib.ListN.{length}
@@ -8,8 +8,8 @@ use Prim.Native.Nat.{ℕ, _+_}
 use mathlib.Core.List.{List}
 use mathlib.Core.Path.{_≡_, sym, ap, _∙_}
 use borrow.Author.Needs.{needs}
-use Rattle.client.proofs.label.label.Statement.{statement}
-use Rattle.client.proofs.label.label.Tie as tie
+use Rattle.labels.proofs.label.Statement.{statement}
+use Rattle.labels.proofs.label.Tie as tie
 
 groups-requires : tie.Need-groups-requires
 groups-requires c κs = search needs

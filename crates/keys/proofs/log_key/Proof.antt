@@ -4,8 +4,8 @@ use Rattle.scheme.specs.Keys.{KS}
 use Rattle.suite.specs.Program.{program}
 use Rattle.format.proofs.Tags.{numbered-is}
 use borrow.Author.Needs.{needs}
-use Rattle.client.proofs.keys.log_key.Statement.{statement}
-use Rattle.client.proofs.keys.log_key.Tie as tie
+use Rattle.keys.proofs.log_key.Statement.{statement}
+use Rattle.keys.proofs.log_key.Tie as tie
 
 returns : tie.Need-returns
 unfolding KS program

@@ -1,8 +1,8 @@
 -- Each test is the definition's.
 use Rattle.scheme.specs.Labels.{fieldLengthsBad}
 use borrow.Author.Tests.{lt-ltb, le-ltb}
-use Rattle.client.proofs.outside.Statement.{statement}
-use Rattle.client.proofs.outside.Tie as tie
+use Rattle.labels.proofs.outside.Statement.{statement}
+use Rattle.labels.proofs.outside.Tie as tie
 
 returns : tie.Need-returns
 unfolding fieldLengthsBad

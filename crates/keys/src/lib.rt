@@ -1,7 +1,10 @@
-// The keys of document 01, "Keys and tokens", as F gives them.
+// Keys and shares (document 01, "Keys and tokens"): the keys that tokens are made of, as F gives them,
+// and the range of shares.
 ghost use mathlib.Core.Path.{_≡_};
+ghost use mathlib.Core.Bool.{_||_};
 ghost use mathlib.Core.List.{List};
 ghost use Prim.Native.Nat.{ℕ, _≤_};
+ghost use lib.Dec.{ltb};
 ghost use lib.ListN.{length};
 ghost use Rattle.hmac.specs.Hmac.{F};
 ghost use Rattle.scheme.specs.Suite.{number8};
@@ -61,4 +64,14 @@ pub fn log_key(k: Keyed) -> [u8; 32]
     ensures { λ r. ⌜ ((key : List ℕ) → Prepared k key → r ≡ KS program key) ⌝ }
 {
     format::numbered(k, 3)
+}
+
+// Whether p is above 15 or u above p. [01:KT3 RI4]
+pub fn shares_outside(p: u64, u: u64) -> bool
+    ensures { λ r. ⌜ r ≡ (ltb 15 p || ltb p u) ⌝ }
+{
+    if 15 < p {
+        return true;
+    }
+    p < u
 }

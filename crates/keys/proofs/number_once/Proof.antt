@@ -2,8 +2,8 @@
 use mathlib.Core.Path.{_∙_}
 use Rattle.format.proofs.Tags.{prepared, numbered-is}
 use borrow.Author.Needs.{needs}
-use Rattle.client.proofs.keys.number_once.Statement.{statement}
-use Rattle.client.proofs.keys.number_once.Tie as tie
+use Rattle.keys.proofs.number_once.Statement.{statement}
+use Rattle.keys.proofs.number_once.Tie as tie
 
 returns : tie.Need-returns
 returns c =

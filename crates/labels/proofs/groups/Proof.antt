@@ -1,9 +1,9 @@
 -- One group or two, over the first bytes.
-use Rattle.client.proofs.Laws.{one-written, two-written}
+use Rattle.labels.proofs.Laws.{one-written, two-written}
 use native.Mathlib.Omega.{arith}
 use borrow.Author.Needs.{needs}
-use Rattle.client.proofs.label.groups.Statement.{statement}
-use Rattle.client.proofs.label.groups.Tie as tie
+use Rattle.labels.proofs.groups.Statement.{statement}
+use Rattle.labels.proofs.groups.Tie as tie
 
 cast-to : tie.Need-cast-to
 cast-to c = search needs

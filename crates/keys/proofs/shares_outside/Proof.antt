@@ -1,7 +1,7 @@
 -- Each test is the definition's.
 use borrow.Author.Tests.{lt-ltb, le-ltb}
-use Rattle.client.proofs.shares_outside.Statement.{statement}
-use Rattle.client.proofs.shares_outside.Tie as tie
+use Rattle.keys.proofs.shares_outside.Statement.{statement}
+use Rattle.keys.proofs.shares_outside.Tie as tie
 
 returns : tie.Need-returns
 returns c = simp (lt-ltb _ _ (c .if1 .taken))

@@ -8,8 +8,8 @@ use Rattle.scheme.specs.Keys.{KM, KC}
 use Rattle.suite.specs.Program.{program}
 use Rattle.format.proofs.Tags.{prepared, numbered-is}
 use borrow.Author.Needs.{needs}
-use Rattle.client.proofs.keys.field_keys.Statement.{statement}
-use Rattle.client.proofs.keys.field_keys.Tie as tie
+use Rattle.keys.proofs.field_keys.Statement.{statement}
+use Rattle.keys.proofs.field_keys.Tie as tie
 
 returns : tie.Need-returns
 unfolding KM KC program

@@ -2,8 +2,8 @@
 use Rattle.hmac.proofs.Laws.{from-prepared}
 use mathlib.Core.Path.{_∙_}
 use borrow.Author.Needs.{needs}
-use Rattle.client.proofs.keys.once.Statement.{statement}
-use Rattle.client.proofs.keys.once.Tie as tie
+use Rattle.keys.proofs.once.Statement.{statement}
+use Rattle.keys.proofs.once.Tie as tie
 
 prepare-requires : tie.Need-prepare-requires
 prepare-requires c κs = search needs
