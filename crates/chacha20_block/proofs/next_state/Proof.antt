@@ -1,10 +1,10 @@
--- `chacha20::next_state` meets its contract: one word changes, to what the sum ensures.
+-- `chacha20_block::next_state` meets its contract: one word changes, to what the sum ensures.
 use Prim.Native.Nat.{ℕ}
 use mathlib.Core.Path.{ap}
 use lib.ListN.{set}
-use Rattle.chacha20.specs.Rounds.{words}
-use Rattle.chacha20.proofs.next_state.Statement.{statement}
-use Rattle.chacha20.proofs.next_state.Tie as tie
+use Rattle.chacha20_block.specs.Rounds.{words}
+use Rattle.chacha20_block.proofs.next_state.Statement.{statement}
+use Rattle.chacha20_block.proofs.next_state.Tie as tie
 
 returns : tie.Need-returns
 returns c = ap (λ (x : ℕ). set (words (c .before .args .s)) 12 x) (c .wrapping-add-u32 .ensures)

@@ -1,11 +1,11 @@
--- `chacha20::put` meets its contract: four stores in a row are a part replaced.
+-- `chacha20_block::put` meets its contract: four stores in a row are a part replaced.
 use native.Mathlib.Omega.{arith}
 use borrow.Author.Needs.{needs}
 use lib.ListN.{length-set}
-use Rattle.chacha20.specs.Block.{bytesOf}
-use Rattle.chacha20.proofs.Lists.{put-four}
-use Rattle.chacha20.proofs.put.Statement.{statement}
-use Rattle.chacha20.proofs.put.Tie as tie
+use Rattle.chacha20_block.specs.Block.{bytesOf}
+use Rattle.chacha20_block.proofs.Lists.{put-four}
+use Rattle.chacha20_block.proofs.put.Statement.{statement}
+use Rattle.chacha20_block.proofs.put.Tie as tie
 
 returns : tie.Need-returns
 unfolding bytesOf

@@ -1,12 +1,12 @@
--- `chacha20::rounds` meets its contract. The invariant: the double rounds that are left lead to the same state.
+-- `chacha20_block::rounds` meets its contract. The invariant: the double rounds that are left lead to the same state.
 use Prim.Native.Nat.{ℕ, suc, _+_, _-_, _≤_, _<_}
 use mathlib.Core.List.{List}
 use mathlib.Core.Path.{_≡_, sym, ap, _∙_}
 use native.Mathlib.Omega.{arith}
 use borrow.Author.Needs.{needs}
-use Rattle.chacha20.specs.Rounds.{words, columns, diagonals, doubleRounds}
-use Rattle.chacha20.proofs.rounds.Statement.{statement}
-use Rattle.chacha20.proofs.rounds.Tie as tie
+use Rattle.chacha20_block.specs.Rounds.{words, columns, diagonals, doubleRounds}
+use Rattle.chacha20_block.proofs.rounds.Statement.{statement}
+use Rattle.chacha20_block.proofs.rounds.Tie as tie
 
 abbrev Inv-loop : tie.InvT-loop
 Inv-loop s₀ i₀ s i = (i ≤ 10) × (doubleRounds (10 - i) (words s) ≡ doubleRounds 10 (words s₀))

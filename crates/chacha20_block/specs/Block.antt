@@ -3,8 +3,8 @@
 use Prim.Native.Nat.{ℕ, _+_, _*_, _/_, _%_}
 use mathlib.Core.List.{List, [], _∷_, _++_}
 use lib.ListN.{getD}
-use Rattle.chacha20.specs.Words.{_⊞_}
-use Rattle.chacha20.specs.Rounds.{doubleRounds}
+use Rattle.chacha20_block.specs.Words.{_⊞_}
+use Rattle.chacha20_block.specs.Rounds.{doubleRounds}
 
 -- the word that stands at a place of a list of bytes, little-endian
 unfoldable pub wordAt : List ℕ → ℕ → ℕ

@@ -1,8 +1,8 @@
--- `chacha20::quarter` meets its contract: each line is what the sum or the rotation that it calls ensures.
+-- `chacha20_block::quarter` meets its contract: each line is what the sum or the rotation that it calls ensures.
 use borrow.Author.Needs.{needs}
-use Rattle.chacha20.specs.Quarter.{quarterRound}
-use Rattle.chacha20.proofs.quarter.Statement.{statement}
-use Rattle.chacha20.proofs.quarter.Tie as tie
+use Rattle.chacha20_block.specs.Quarter.{quarterRound}
+use Rattle.chacha20_block.proofs.quarter.Statement.{statement}
+use Rattle.chacha20_block.proofs.quarter.Tie as tie
 
 returns : tie.Need-returns
 unfolding quarterRound

@@ -1,8 +1,8 @@
--- `chacha20::added` meets its contract: each word is what the sum that it calls ensures.
+-- `chacha20_block::added` meets its contract: each word is what the sum that it calls ensures.
 use mathlib.Core.List.{[], _∷_}
-use Rattle.chacha20.specs.Block.{sums}
-use Rattle.chacha20.proofs.added.Statement.{statement}
-use Rattle.chacha20.proofs.added.Tie as tie
+use Rattle.chacha20_block.specs.Block.{sums}
+use Rattle.chacha20_block.proofs.added.Statement.{statement}
+use Rattle.chacha20_block.proofs.added.Tie as tie
 
 returns : tie.Need-returns
 unfolding sums

@@ -3,8 +3,8 @@
 use Prim.Native.Nat.{ℕ}
 use mathlib.Core.List.{List, [], _∷_}
 use lib.ListN.{getD, set}
-use Rattle.chacha20.specs.declared.Quad.{Quad}
-use Rattle.chacha20.specs.Words.{_⊞_, _⊕_, rotl}
+use Rattle.chacha20_block.specs.declared.Quad.{Quad}
+use Rattle.chacha20_block.specs.Words.{_⊞_, _⊕_, rotl}
 
 -- the four words of the code's struct
 abbrev pub four : Quad → List ℕ

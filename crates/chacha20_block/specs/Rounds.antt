@@ -2,8 +2,8 @@
 -- A state is the list of its 16 words.
 use Prim.Native.Nat.{ℕ, zero, suc}
 use mathlib.Core.List.{List, [], _∷_}
-use Rattle.chacha20.specs.declared.State.{State}
-use Rattle.chacha20.specs.Quarter.{quarterAt}
+use Rattle.chacha20_block.specs.declared.State.{State}
+use Rattle.chacha20_block.specs.Quarter.{quarterAt}
 
 -- the 16 words of the code's struct
 abbrev pub words : State → List ℕ

@@ -1,15 +1,15 @@
--- `chacha20::serialize` meets its contract. The invariant: the first 4 * i bytes are those of the first i words.
+-- `chacha20_block::serialize` meets its contract. The invariant: the first 4 * i bytes are those of the first i words.
 use Prim.Native.Nat.{ℕ, _+_, _-_, _*_, _≤_}
 use mathlib.Core.Path.{_≡_, refl, sym, ap, _∙_}
 use native.Mathlib.Omega.{arith}
 use borrow.Author.Needs.{needs}
 use lib.ListN.{length, take}
 use lib.Seq.{take-all}
-use Rattle.chacha20.specs.Rounds.{words}
-use Rattle.chacha20.specs.Block.{serialized}
-use Rattle.chacha20.proofs.Lists.{serialized-more}
-use Rattle.chacha20.proofs.serialize.Statement.{statement}
-use Rattle.chacha20.proofs.serialize.Tie as tie
+use Rattle.chacha20_block.specs.Rounds.{words}
+use Rattle.chacha20_block.specs.Block.{serialized}
+use Rattle.chacha20_block.proofs.Lists.{serialized-more}
+use Rattle.chacha20_block.proofs.serialize.Statement.{statement}
+use Rattle.chacha20_block.proofs.serialize.Tie as tie
 
 abbrev Inv-loop : tie.InvT-loop
 Inv-loop w out₀ i₀ out i = (i ≤ 16) × (length out ≡ 64) × (take (4 * i) out ≡ serialized (take i w))

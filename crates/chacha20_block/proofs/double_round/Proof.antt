@@ -1,8 +1,8 @@
--- `chacha20::double_round` meets its contract: the words that the eight quarter rounds ensure stand where the definition puts them.
-use Rattle.chacha20.specs.Quarter.{quarterAt}
-use Rattle.chacha20.specs.Rounds.{columns, diagonals}
-use Rattle.chacha20.proofs.double_round.Statement.{statement}
-use Rattle.chacha20.proofs.double_round.Tie as tie
+-- `chacha20_block::double_round` meets its contract: the words that the eight quarter rounds ensure stand where the definition puts them.
+use Rattle.chacha20_block.specs.Quarter.{quarterAt}
+use Rattle.chacha20_block.specs.Rounds.{columns, diagonals}
+use Rattle.chacha20_block.proofs.double_round.Statement.{statement}
+use Rattle.chacha20_block.proofs.double_round.Tie as tie
 
 returns : tie.Need-returns
 unfolding columns diagonals quarterAt

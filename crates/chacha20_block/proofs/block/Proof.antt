@@ -1,11 +1,11 @@
--- `chacha20::block` meets its contract: the definition, call by call.
+-- `chacha20_block::block` meets its contract: the definition, call by call.
 use mathlib.Core.Path.{ap, _∙_}
 use mathlib.Core.List.{List}
 use Prim.Native.Nat.{ℕ}
-use Rattle.chacha20.specs.Rounds.{words}
-use Rattle.chacha20.specs.Block.{sums, blockWords, serialized, block}
-use Rattle.chacha20.proofs.block.Statement.{statement}
-use Rattle.chacha20.proofs.block.Tie as tie
+use Rattle.chacha20_block.specs.Rounds.{words}
+use Rattle.chacha20_block.specs.Block.{sums, blockWords, serialized, block}
+use Rattle.chacha20_block.proofs.block.Statement.{statement}
+use Rattle.chacha20_block.proofs.block.Tie as tie
 
 returns : tie.Need-returns
 unfolding block blockWords

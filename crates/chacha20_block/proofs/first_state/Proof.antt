@@ -1,9 +1,9 @@
--- `chacha20::first_state` meets its contract: each word of key and nonce is what the load that it calls ensures.
+-- `chacha20_block::first_state` meets its contract: each word of key and nonce is what the load that it calls ensures.
 use mathlib.Core.List.{[], _∷_}
 use native.Mathlib.Omega.{arith}
-use Rattle.chacha20.specs.Block.{initialState}
-use Rattle.chacha20.proofs.first_state.Statement.{statement}
-use Rattle.chacha20.proofs.first_state.Tie as tie
+use Rattle.chacha20_block.specs.Block.{initialState}
+use Rattle.chacha20_block.proofs.first_state.Statement.{statement}
+use Rattle.chacha20_block.proofs.first_state.Tie as tie
 
 returns : tie.Need-returns
 unfolding initialState

@@ -1,9 +1,9 @@
--- `chacha20::word` meets its contract: four bytes, each below 256, summed by their weights.
+-- `chacha20_block::word` meets its contract: four bytes, each below 256, summed by their weights.
 use native.Mathlib.Omega.{arith}
 use borrow.Author.Needs.{needs}
-use Rattle.chacha20.specs.Block.{wordAt}
-use Rattle.chacha20.proofs.word.Statement.{statement}
-use Rattle.chacha20.proofs.word.Tie as tie
+use Rattle.chacha20_block.specs.Block.{wordAt}
+use Rattle.chacha20_block.proofs.word.Statement.{statement}
+use Rattle.chacha20_block.proofs.word.Tie as tie
 
 returns : tie.Need-returns
 unfolding wordAt
