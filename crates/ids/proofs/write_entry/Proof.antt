@@ -10,11 +10,11 @@ use Rattle.octets.proofs.Parts.{written-none}
 use Rattle.table.specs.Lists.{flat}
 use Rattle.table.specs.Table.{rows}
 use Rattle.table.proofs.Rows.{rows-length}
-use Rattle.find.specs.Ids.{entryTags, idAt}
-use Rattle.find.proofs.Found.{id-hit, id-miss}
+use Rattle.ids.specs.Ids.{entryTags, idAt}
+use Rattle.ids.proofs.Found.{id-hit, id-miss}
 use borrow.Author.Needs.{needs}
-use Rattle.find.proofs.write_entry.Statement.{statement}
-use Rattle.find.proofs.write_entry.Tie as tie
+use Rattle.ids.proofs.write_entry.Statement.{statement}
+use Rattle.ids.proofs.write_entry.Tie as tie
 
 -- the one id
 hit : (c : tie.After-text-at) →

@@ -8,11 +8,11 @@ use Rattle.scheme.specs.Store.{tableM, widthOf}
 use Rattle.octets.specs.Part.{written}
 use Rattle.table.specs.Lists.{flat}
 use Rattle.table.specs.Table.{rows}
-use Rattle.find.specs.Ids.{entryTags, idsBy, idsOf}
-use Rattle.find.proofs.Found.{share-ids}
+use Rattle.ids.specs.Ids.{entryTags, idsBy, idsOf}
+use Rattle.ids.proofs.Found.{share-ids}
 use borrow.Author.Needs.{needs}
-use Rattle.find.proofs.write_of.Statement.{statement}
-use Rattle.find.proofs.write_of.Tie as tie
+use Rattle.ids.proofs.write_of.Statement.{statement}
+use Rattle.ids.proofs.write_of.Tie as tie
 
 ids : (c : tie.After-numbered2) →
     let p = c .before in

@@ -24,8 +24,8 @@ use Rattle.format.specs.Rows.{textIn}
 use Rattle.format.specs.Tags.{numberedBy, Prepared}
 use Rattle.format.proofs.Tags.{entry-tag-is}
 use Rattle.hmac.specs.declared.Keyed.{Keyed}
-use Rattle.find.specs.declared.EntryKeys.{EntryKeys}
-use Rattle.find.specs.Ids.{entryTags, foundAt, idAt, foundTo, idsBy, foundOf, idsOf, foundIn, idsIn}
+use Rattle.ids.specs.declared.EntryKeys.{EntryKeys}
+use Rattle.ids.specs.Ids.{entryTags, foundAt, idAt, foundTo, idsBy, foundOf, idsOf, foundIn, idsIn}
 
 -- rows of M, ids of 16 bytes
 abbrev pub RowsM : Table → Type 0

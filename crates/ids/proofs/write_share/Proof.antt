@@ -7,11 +7,11 @@ use lib.ListN.{length, length-append}
 use Rattle.scheme.specs.Store.{tableM, widthOf}
 use Rattle.table.specs.Table.{rows}
 use Rattle.table.proofs.Rows.{rows-wide}
-use Rattle.find.specs.Ids.{entryTags, idAt, idsBy}
-use Rattle.find.proofs.Found.{Wrote, wrote-start, wrote-more, ids-next, ids-grow, ids-wide}
+use Rattle.ids.specs.Ids.{entryTags, idAt, idsBy}
+use Rattle.ids.proofs.Found.{Wrote, wrote-start, wrote-more, ids-next, ids-grow, ids-wide}
 use borrow.Author.Needs.{needs}
-use Rattle.find.proofs.write_share.Statement.{statement}
-use Rattle.find.proofs.write_share.Tie as tie
+use Rattle.ids.proofs.write_share.Statement.{statement}
+use Rattle.ids.proofs.write_share.Tie as tie
 
 abbrev Inv-loop : tie.InvT-loop
 Inv-loop t m mt me n output₀ k next₀ a₀ output next a =

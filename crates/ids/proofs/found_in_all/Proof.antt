@@ -4,10 +4,10 @@ use mathlib.Core.Path.{_≡_, refl, ap, _∙_}
 use native.Mathlib.Omega.{arith}
 use Rattle.scheme.specs.Store.{tableM, widthOf}
 use Rattle.table.specs.Table.{rows}
-use Rattle.find.proofs.Found.{foundBelow, found-all, found-below, found-fits}
+use Rattle.ids.proofs.Found.{foundBelow, found-all, found-below, found-fits}
 use borrow.Author.Needs.{needs}
-use Rattle.find.proofs.found_in_all.Statement.{statement}
-use Rattle.find.proofs.found_in_all.Tie as tie
+use Rattle.ids.proofs.found_in_all.Statement.{statement}
+use Rattle.ids.proofs.found_in_all.Tie as tie
 
 abbrev Inv-loop : tie.InvT-loop
 Inv-loop t m keys p of found₀ u₀ found u = (u ≤ p + 1) × (found ≡ foundBelow keys (rows (widthOf tableM) m t) of u)

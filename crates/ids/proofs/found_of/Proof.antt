@@ -2,10 +2,10 @@
 use mathlib.Core.Path.{_∙_}
 use Rattle.scheme.specs.Store.{tableM, widthOf}
 use Rattle.table.specs.Table.{rows}
-use Rattle.find.proofs.Found.{share-found}
+use Rattle.ids.proofs.Found.{share-found}
 use borrow.Author.Needs.{needs}
-use Rattle.find.proofs.found_of.Statement.{statement}
-use Rattle.find.proofs.found_of.Tie as tie
+use Rattle.ids.proofs.found_of.Statement.{statement}
+use Rattle.ids.proofs.found_of.Tie as tie
 
 returns : tie.Need-returns
 returns c =

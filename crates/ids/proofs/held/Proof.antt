@@ -3,11 +3,11 @@ use native.Mathlib.Omega.{arith}
 use Rattle.scheme.specs.Store.{tableM, widthOf}
 use Rattle.table.specs.Table.{rows}
 use Rattle.table.proofs.Rows.{rows-length}
-use Rattle.find.specs.Ids.{entryTags}
-use Rattle.find.proofs.Found.{found-hit, found-miss}
+use Rattle.ids.specs.Ids.{entryTags}
+use Rattle.ids.proofs.Found.{found-hit, found-miss}
 use borrow.Author.Needs.{needs}
-use Rattle.find.proofs.held.Statement.{statement}
-use Rattle.find.proofs.held.Tie as tie
+use Rattle.ids.proofs.held.Statement.{statement}
+use Rattle.ids.proofs.held.Tie as tie
 
 returns : tie.Need-returns
 returns c =

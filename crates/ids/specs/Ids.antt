@@ -10,7 +10,7 @@ use Rattle.scheme.specs.Store.{entryTag}
 use Rattle.scheme.specs.Find.{idOf}
 use Rattle.suite.specs.Program.{program}
 use Rattle.format.specs.Tags.{entryTagBy, numberedBy}
-use Rattle.find.specs.declared.EntryKeys.{EntryKeys}
+use Rattle.ids.specs.declared.EntryKeys.{EntryKeys}
 
 -- the tags by address
 abbrev pub entryTags : Keyed → ℕ → List ℕ

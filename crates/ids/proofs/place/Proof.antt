@@ -5,8 +5,8 @@ use mathlib.Core.List.{List}
 use Rattle.scheme.specs.Store.{tableM, widthOf}
 use Rattle.table.specs.Table.{rows, placeOf}
 use borrow.Author.Needs.{needs}
-use Rattle.find.proofs.place.Statement.{statement}
-use Rattle.find.proofs.place.Tie as tie
+use Rattle.ids.proofs.place.Statement.{statement}
+use Rattle.ids.proofs.place.Tie as tie
 
 returns : tie.Need-returns
 returns c =

@@ -4,11 +4,11 @@ use mathlib.Core.Path.{_≡_, ap, _∙_}
 use native.Mathlib.Omega.{arith}
 use Rattle.scheme.specs.Store.{tableM, widthOf}
 use Rattle.table.specs.Table.{rows}
-use Rattle.find.specs.Ids.{entryTags, foundTo}
-use Rattle.find.proofs.Found.{found-none, found-next, found-most}
+use Rattle.ids.specs.Ids.{entryTags, foundTo}
+use Rattle.ids.proofs.Found.{found-none, found-next, found-most}
 use borrow.Author.Needs.{needs}
-use Rattle.find.proofs.found_in_share.Statement.{statement}
-use Rattle.find.proofs.found_in_share.Tie as tie
+use Rattle.ids.proofs.found_in_share.Statement.{statement}
+use Rattle.ids.proofs.found_in_share.Tie as tie
 
 abbrev Inv-loop : tie.InvT-loop
 Inv-loop t m mt count found₀ a₀ found a = (a ≤ count) × (found ≡ foundTo (entryTags mt) (rows (widthOf tableM) m t) a)

@@ -7,11 +7,11 @@ use lib.ListN.{length, getD, length-append}
 use Rattle.scheme.specs.Store.{tableM, widthOf}
 use Rattle.table.specs.Table.{rows}
 use Rattle.table.proofs.Rows.{rows-wide}
-use Rattle.find.specs.Ids.{idsOf}
-use Rattle.find.proofs.Found.{Wrote, wrote-none, wrote-more, idsBelow, ids-all, ids-below, ids-below-grow, ids-below-wide}
+use Rattle.ids.specs.Ids.{idsOf}
+use Rattle.ids.proofs.Found.{Wrote, wrote-none, wrote-more, idsBelow, ids-all, ids-below, ids-below-grow, ids-below-wide}
 use borrow.Author.Needs.{needs}
-use Rattle.find.proofs.write_all.Statement.{statement}
-use Rattle.find.proofs.write_all.Tie as tie
+use Rattle.ids.proofs.write_all.Statement.{statement}
+use Rattle.ids.proofs.write_all.Tie as tie
 
 abbrev Inv-loop : tie.InvT-loop
 Inv-loop t m keys p output₀ of k₀ u₀ output k u =
