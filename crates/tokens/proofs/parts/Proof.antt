@@ -10,11 +10,11 @@ use Rattle.scheme.specs.Suite.{number8}
 use Rattle.scheme.specs.Labels.{label}
 use Rattle.scheme.specs.Keys.{KM, KC, MTof, MEof, CLof}
 use Rattle.suite.specs.Program.{program}
-use Rattle.client.specs.Making.{fieldOf}
+use Rattle.labels.specs.Field.{fieldOf}
 use Rattle.labels.proofs.Laws.{label-short}
 use borrow.Author.Needs.{needs}
-use Rattle.client.proofs.parts.Statement.{statement}
-use Rattle.client.proofs.parts.Tie as tie
+use Rattle.tokens.proofs.parts.Statement.{statement}
+use Rattle.tokens.proofs.parts.Tie as tie
 
 -- the first bytes are the label
 front : (l : tie.After-label) →

@@ -1,4 +1,4 @@
--- The parts of a find token in the client's struct (document 01, "Keys and tokens").
+-- The parts of a find token in the struct of keys (document 01, "Keys and tokens").
 use mathlib.Core.Path.{_≡_}
 use mathlib.Core.List.{List, [], _∷_, _++_}
 use Prim.Native.Nat.{ℕ}

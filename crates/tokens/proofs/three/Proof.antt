@@ -2,8 +2,8 @@
 use Rattle.octets.proofs.Parts.{three-written}
 use mathlib.Core.Path.{refl}
 use borrow.Author.Needs.{needs}
-use Rattle.client.proofs.three.Statement.{statement}
-use Rattle.client.proofs.three.Tie as tie
+use Rattle.tokens.proofs.three.Statement.{statement}
+use Rattle.tokens.proofs.three.Tie as tie
 
 add-m : tie.Need-add-m
 add-m c = search needs

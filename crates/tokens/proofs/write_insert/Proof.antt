@@ -1,5 +1,5 @@
 -- Two halves of three pieces each.
-use Rattle.client.specs.Parts.{Token}
+use Rattle.tokens.specs.Parts.{Token}
 use Rattle.suite.specs.Program.{program}
 use Rattle.scheme.specs.Keys.{share}
 use Rattle.chacha20.specs.Cipher.{E}
@@ -9,8 +9,8 @@ use Prim.Native.Nat.{ℕ}
 use mathlib.Core.List.{List, [], _∷_, _++_}
 use mathlib.Core.Path.{ap, ap₂, _∙_}
 use borrow.Author.Needs.{needs}
-use Rattle.client.proofs.write_insert.Statement.{statement}
-use Rattle.client.proofs.write_insert.Tie as tie
+use Rattle.tokens.proofs.write_insert.Statement.{statement}
+use Rattle.tokens.proofs.write_insert.Tie as tie
 
 number-once-requires : tie.Need-number-once-requires
 number-once-requires c κs = search needs

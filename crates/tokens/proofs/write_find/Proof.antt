@@ -5,12 +5,12 @@ use mathlib.Core.List.{List, _++_}
 use native.Mathlib.Omega.{arith}
 use Rattle.scheme.specs.Keys.{findToken}
 use Rattle.format.proofs.Tags.{prepared}
-use Rattle.client.specs.Making.{fieldOf}
-use Rattle.client.specs.Parts.{Parts}
-use Rattle.client.proofs.Laws.{length-parts}
+use Rattle.labels.specs.Field.{fieldOf}
+use Rattle.tokens.specs.Parts.{Parts}
+use Rattle.tokens.proofs.Laws.{length-parts}
 use borrow.Author.Needs.{needs}
-use Rattle.client.proofs.write_find.Statement.{statement}
-use Rattle.client.proofs.write_find.Tie as tie
+use Rattle.tokens.proofs.write_find.Statement.{statement}
+use Rattle.tokens.proofs.write_find.Tie as tie
 
 abbrev start : tie.After-parts → tie.Start
 start q = q .before .before .before .before .before .before
