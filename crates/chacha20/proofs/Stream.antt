@@ -7,13 +7,14 @@ use native.Mathlib.Omega.{arith}
 use native.Mathlib.Nat.{suc-ne-zero, suc-inj, le-refl, eq-or-lt-of-le, min-le-left}
 use lib.ListN.{length, take, drop, length-append, length-set, length-drop, drop-of-length-le}
 use lib.Seq.{take-all, length-take-le}
-use Rattle.chacha20.specs.Words.{_⊞_}
-use Rattle.chacha20.specs.Quarter.{quarterAt}
-use Rattle.chacha20.specs.Rounds.{columns, diagonals, doubleRounds}
-use Rattle.chacha20.specs.Block.{initialState, sums, blockWords, bytesOf, serialized, block}
+use Rattle.chacha20_block.specs.Words.{_⊞_}
+use Rattle.chacha20_block.specs.Quarter.{quarterAt}
+use Rattle.chacha20_block.specs.Rounds.{columns, diagonals, doubleRounds}
+use Rattle.chacha20_block.specs.Block.{initialState, sums, blockWords, bytesOf, serialized, block}
 use Rattle.chacha20.specs.Cipher.{stream, xored, blocksFor, E}
 use Rattle.chacha20.specs.Laws.{xored-length}
-use Rattle.chacha20.proofs.Lists.{xored-append, part-done, four-bytes}
+use Rattle.chacha20_block.proofs.Lists.{four-bytes}
+use Rattle.chacha20.proofs.Lists.{xored-append, part-done}
 
 -- ---- a block has 64 bytes
 

@@ -3,8 +3,8 @@
 use Prim.Native.Nat.{ℕ, zero, suc, _+_, _/_}
 use mathlib.Core.List.{List, [], _∷_, _++_}
 use lib.ListN.{length}
-use Rattle.chacha20.specs.Words.{_⊞_, _⊕_}
-use Rattle.chacha20.specs.Block.{initialState, block}
+use Rattle.chacha20_block.specs.Words.{_⊞_, _⊕_}
+use Rattle.chacha20_block.specs.Block.{initialState, block}
 
 -- n blocks of stream, from the block of the counter given [01:KF4 FM5]
 unfoldable pub stream : ℕ → List ℕ → ℕ → List ℕ → List ℕ

@@ -7,7 +7,7 @@ use native.Mathlib.Omega.{arith}
 use lib.Arith.{bin-ind}
 use lib.Bits.{bitXor, xor-self, xor-shr, xor-mod, xor-lt}
 use lib.ListN.{length, getD}
-use Rattle.chacha20.specs.Block.{initialState, blockWords, bytesOf, serialized, block}
+use Rattle.chacha20_block.specs.Block.{initialState, blockWords, bytesOf, serialized, block}
 use Rattle.chacha20.specs.Cipher.{stream, xored, blocksFor, E}
 
 -- ---- XOR with one number twice

@@ -3,14 +3,11 @@
 use mathlib.Core.List.{List, []}
 use Prim.Native.Nat.{ℕ}
 use Rattle.answer.specs.Answer.{Answer, done}
-use Rattle.scheme.specs.Labels.{Field}
 use Rattle.answer.specs.Verdict.{Test, verdict, answerOr, unlessRefused}
+pub use Rattle.labels.specs.Field.{fieldOf}
 
 abbrev pub makingAnswer : List Test → Answer
 makingAnswer tests = answerOr (verdict tests) (done [])
 
 abbrev pub makingToken : List Test → List ℕ → List ℕ → List ℕ
 makingToken tests token lent = unlessRefused (verdict tests) token lent
-
-abbrev pub fieldOf : List ℕ → List ℕ → Field
-fieldOf name value = record { name = name; value = value }

@@ -27,10 +27,11 @@ use Rattle.store.specs.declared.Checked.the-variants.{Fit}
 use Rattle.store.specs.Check.{spanIn, checkedOf}
 use Rattle.store.proofs.Laws.{fit-sizes, laid-fit}
 use Rattle.compact.specs.declared.Tally.{Tally}
-use Rattle.compact.specs.declared.Treated.{Treated}
-use Rattle.compact.specs.declared.Treated.the-variants.{Damage, Skipped, Anchored as Written}
+use Rattle.treatment.specs.declared.Treated.{Treated}
+use Rattle.treatment.specs.declared.Treated.the-variants.{Damage, Skipped, Anchored as Written}
 use Rattle.compact.specs.Log.{opened, freeLogged}
-use Rattle.compact.specs.Treatment.{Treatment, Standing, Stepped, stops, anchorsIn, countersIn, tallyAfter, withTables}
+use Rattle.treatment.specs.Treatment.{Treatment}
+use Rattle.compact.specs.Steps.{Standing, Stepped, stops, anchorsIn, countersIn, tallyAfter, withTables}
 use Rattle.compact.proofs.Turns.{Inside, laid-in}
 use Rattle.compact.proofs.Logs.{Opened, opened-is, opened-at, opened-freed, free-logged}
 

@@ -13,9 +13,10 @@ use Rattle.scheme.specs.Store.{Which, widthOf, Store, putIn}
 use Rattle.scheme.specs.Layout.{Span, Laid}
 use Rattle.scheme.proofs.Plan.{tableC, tableS, put-same, laid-end, laid-inside, laid-long, laid-rows, laid-back}
 use Rattle.compact.specs.declared.Tally.{Tally}
-use Rattle.compact.specs.declared.Treated.{Treated}
+use Rattle.treatment.specs.declared.Treated.{Treated}
 use Rattle.compact.specs.Log.{freeLogged}
-use Rattle.compact.specs.Treatment.{Treatment, Stepped, stops, anchorsIn, countersIn, tallyAfter, withTables}
+use Rattle.treatment.specs.Treatment.{Treatment}
+use Rattle.compact.specs.Steps.{Stepped, stops, anchorsIn, countersIn, tallyAfter, withTables}
 
 -- ---- what a treatment adds
 

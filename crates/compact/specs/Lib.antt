@@ -1,3 +1,3 @@
 pub mod Log
-pub mod Treatment
+pub mod Steps
 pub mod Outcome

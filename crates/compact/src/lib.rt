@@ -1,36 +1,28 @@
 // Compaction: the server's call that turns the counters of every logged CL into one anchor (document
-// 01, "Operations"). The store's tables C and S alone are changed.
+// 01, "Operations"): the walk over table S, and the refusals before it. The store's tables C and S alone
+// are changed; one CL is treated in treatment.
 ghost use mathlib.Core.Path.{_≡_};
 ghost use mathlib.Core.List.{[]};
-ghost use Prim.Native.Nat.{_+_, _*_, _/_, _≤_, _<_};
-ghost use lib.ListN.{length, getD, take};
-ghost use Rattle.table.specs.Lists.{All};
-ghost use Rattle.table.specs.Table.{rows, used, freeAt};
+ghost use Prim.Native.Nat.{_*_, _/_, _≤_, _<_};
+ghost use lib.ListN.{length, getD};
+ghost use Rattle.table.specs.Table.{rows, used};
 ghost use Rattle.scheme.specs.Keys.{compactionTokenLength};
-ghost use Rattle.scheme.specs.Store.{tableC, tableS, widthOf, Store, cut};
+ghost use Rattle.scheme.specs.Store.{tableS, widthOf, Store, cut};
 ghost use Rattle.scheme.specs.Layout.{Laid};
-ghost use Rattle.scheme.specs.Reading.{limit};
-ghost use Rattle.scheme.specs.Compaction.{Anchored, Compacted, Compact};
+ghost use Rattle.scheme.specs.Compaction.{Compacted, Compact};
 ghost use Rattle.suite.specs.Program.{program};
 ghost use Rattle.store.specs.Check.{spanIn, checkedOf};
-ghost use Rattle.format.specs.Tags.{KeysOf};
-ghost use Rattle.counter.specs.Outcome.{placesNoted};
 ghost use Rattle.compact.specs.Log.{opened, logs, freeLogged};
 ghost use Rattle.compact.specs.Outcome.{compactionAnswer};
-ghost use Rattle.compact.specs.Treatment.{Noted, Treatment, Standing, Stepped, stops, countersIn, tallyAfter};
+ghost use Rattle.compact.specs.Steps.{Standing, Stepped, stops, countersIn, tallyAfter};
 use answer::Refusal;
-use counter::Counter;
-use counter::Reading;
-use format::AnchorNumber;
 use format::COMPACTION_TOKEN;
-use format::Keys;
 use format::NONCE;
-use format::Position;
 use format::row;
-use store::C_WIDTH;
 use store::Checked;
 use store::S_WIDTH;
 use store::Shape;
+use treatment::Treated;
 
 // How many anchors were written and counters freed. [01:OP13]
 pub struct Tally {
@@ -44,14 +36,6 @@ pub enum Compaction {
     Refused(Refusal),
     // 13: the CL before it stay treated. [01:RS13]
     Damage(Tally),
-}
-
-// What was done with one CL: the reading was damage; k was 0; or k counters were freed and an anchor
-// written.
-pub enum Treated {
-    Damage,
-    Skipped,
-    Anchored(u64),
 }
 
 // Decrypts every used row of S, once, into a log of 32 bytes per row.
@@ -110,76 +94,6 @@ fn cl_at(log: &[u8], s: usize, i: usize) -> [u8; 32]
     cl
 }
 
-// Frees the rows of C at the first k places.
-fn free_places(t: &mut [u8], c: usize, places: &[u16], k: usize)
-    requires { ⌜ (length (now t) ≡ widthOf tableC * c) × ((k ≤ length (now places)) × All (λ i. i < c) (take k (now places))) ⌝ }
-    ensures { λ _. ⌜ rows (widthOf tableC) c (now (t .exit)) ≡ freeAt (widthOf tableC) (take k (now (places .entry))) (rows (widthOf tableC) c (now (t .entry))) ⌝ }
-{
-    let mut j = 0;
-    while j < k {
-        table::clear_row(t, C_WIDTH, c, places[j] as usize);
-        j += 1;
-    }
-}
-
-// What the next anchor says.
-struct NextAnchor {
-    number: AnchorNumber,
-    position: Position,
-    count: u64,
-}
-
-// Anchor B + 1 has the position Start + k, and the count. [01:OP11]
-fn next_anchor(z: Counter) -> NextAnchor
-    requires { ⌜ (z .b .0 ≤ 4096) × ((z .start .0 ≤ limit) × (z .k ≤ 4096)) ⌝ }
-    ensures { λ r. ⌜ (r .number .0 ≡ z .b .0 + 1) × ((r .position .0 ≡ z .start .0 + z .k) × (r .count ≡ z .count)) ⌝ }
-{
-    NextAnchor {
-        number: AnchorNumber(z.b.0 + 1),
-        position: Position(z.start.0 + z.k),
-        count: z.count,
-    }
-}
-
-// Frees the counters that the reading held, and writes anchor B + 1 where the first of them stood.
-// [01:OP11]
-fn anchor(
-    t: &mut [u8],
-    c: usize,
-    cl: &[u8; 32],
-    keys: Keys,
-    nonce: &[u8],
-    z: Counter,
-    places: &[u16],
-)
-    requires { ⌜ ((length (now t) ≡ widthOf tableC * c) × (c ≤ 4096)) × ((KeysOf keys (now cl) × (length (now nonce) ≡ 12)) × Noted c (now cl) (rows (widthOf tableC) c (now t)) z (now places)) ⌝ }
-    ensures { λ _. ⌜ Anchored program (now (cl .entry)) (now (nonce .entry)) (rows (widthOf tableC) c (now (t .entry))) (z .b .0) (z .start .0) (z .k) (z .count) (rows (widthOf tableC) c (now (t .exit))) ⌝ }
-{
-    free_places(t, c, places, z.k as usize);
-    let next = next_anchor(z);
-    let row = row::anchor_row(keys, cl, next.number, nonce, next.position, next.count);
-    table::put_row(t, C_WIDTH, c, places[0] as usize, &row);
-}
-
-// Treats one CL: with k > 0 its counters are freed and an anchor is written under the nonce, with k = 0
-// nothing is written. The keys of the CL are made once, and each counter's tag once: the reading notes
-// the places of the counters in the room lent for them. [01:OP11]
-pub fn treat(t: &mut [u8], c: usize, cl: &[u8; 32], nonce: &[u8], places: &mut [u16]) -> Treated
-    requires { ⌜ ((length (now t) ≡ widthOf tableC * c) × (c ≤ length (now places))) × ((c ≤ 4096) × (length (now nonce) ≡ 12)) ⌝ }
-    ensures { λ r. ⌜ Treatment c (now (cl .entry)) (now (nonce .entry)) (rows (widthOf tableC) c (now (t .entry))) (rows (widthOf tableC) c (now (t .exit))) r ⌝ }
-    ensures { λ _. ⌜ now (places .exit) ≡ placesNoted c (now (cl .entry)) (rows (widthOf tableC) c (now (t .entry))) (now (places .entry)) ⌝ }
-{
-    let keys = format::keys_of(cl);
-    let Reading::Counter(z) = counter::read_by(t, c, cl, keys, places) else {
-        return Treated::Damage;
-    };
-    if z.k == 0 {
-        return Treated::Skipped;
-    }
-    anchor(t, c, cl, keys, nonce, z, places);
-    Treated::Anchored(z.k)
-}
-
 // Whether damage stops the compaction.
 fn stopped(r: Treated) -> bool
     ensures { λ b. ⌜ b ≡ stops r ⌝ }
@@ -220,7 +134,7 @@ fn step(store: &mut [u8], z: Shape, log: &[u8], i: usize, nonce: &[u8]) -> Treat
     let f = s.end;
     let cl = cl_at(log, s.rows, i);
     let mut places = [0u16; 4096];
-    let r = treat(&mut store[a..e], c.rows, &cl, nonce, &mut places);
+    let r = treatment::treat(&mut store[a..e], c.rows, &cl, nonce, &mut places);
     if stopped(r) {
         return r;
     }

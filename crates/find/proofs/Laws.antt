@@ -34,9 +34,9 @@ use Rattle.counter.specs.Outcome.{shareRead}
 use Rattle.format.proofs.Tags.{share-is}
 use Rattle.counter.proofs.Shares.{share-read}
 use Rattle.find.specs.declared.Counts.{Counts}
-use Rattle.find.specs.declared.EntryKeys.{EntryKeys}
+use Rattle.ids.specs.declared.EntryKeys.{EntryKeys}
 use Rattle.find.specs.Counts.{filled, countsOf}
-use Rattle.find.specs.Ids.{idAt, idsBy, idsOf, idsIn}
+use Rattle.ids.specs.Ids.{idAt, idsBy, idsOf, idsIn}
 
 -- ---- the counts
 

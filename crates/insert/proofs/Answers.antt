@@ -26,7 +26,8 @@ use Rattle.store.specs.declared.Checked.the-variants.{Fit, Refused}
 use Rattle.store.specs.Check.{checkedOf}
 use Rattle.store.proofs.Laws.{tableM, tableV, tableC, tableS, unfit, fit-verdict, fit-sizes, free-rows, fits}
 use Rattle.counter.proofs.Readings.{reading-bounds}
-use Rattle.insert.specs.Tests.{roomTests, Accepted, Lengths, Room}
+use Rattle.admission.specs.Tests.{roomTests}
+use Rattle.insert.specs.Tests.{Accepted, Lengths, Room}
 use Rattle.insert.specs.Writing.{Written}
 
 -- ---- what passed tests tell

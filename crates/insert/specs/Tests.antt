@@ -1,31 +1,16 @@
--- What insert's tests make of a call (document 01, "Refusals from the input", "Refusals from the state"), and what a call that
--- they let pass is known to have.
+-- What an insert that its tests (admission) let pass is known to have (document 01, "Refusals from the input", "Refusals from the
+-- state").
 use Prim.Native.Nat.{ℕ, _+_, _*_, _≤_}
 use mathlib.Core.Path.{_≡_}
-use mathlib.Core.Bool.{_||_}
-use mathlib.Core.Option.{Option, none, some}
-use mathlib.Core.List.{List, [], _∷_, _++_}
-use lib.Dec.{ltb}
+use mathlib.Core.Option.{none}
+use mathlib.Core.List.{List, _++_}
 use lib.ListN.{length}
-use Rattle.answer.specs.Answer.{Answer, refusal}
-use Rattle.answer.specs.Verdict.{Test, _⇒_, verdict}
+use Rattle.answer.specs.Verdict.{verdict}
 use Rattle.scheme.specs.Keys.{insertTokenLength, tokenP}
-use Rattle.scheme.specs.Reading.{limit}
 use Rattle.scheme.specs.Refusals.{idCount, insertInputTests, tokenTests}
 use Rattle.store.specs.declared.Shape.{Shape}
 use Rattle.store.specs.declared.Checked.the-variants.{Fit}
 use Rattle.store.specs.Check.{checkedOf}
-use Rattle.insert.specs.declared.Tested.{Tested}
-use Rattle.insert.specs.declared.Tested.the-variants.{Passed, Refused}
-
-abbrev pub testedOf : Tested → Option Answer
-testedOf Passed = none
-testedOf (Refused r) = some (refusal r)
-
--- 14 to 17, for a new count and n ids [01:RS7 RS8 RS9 RS10]
-unfoldable pub roomTests : Shape → ℕ → ℕ → List Test
-roomTests z count n =
-    (ltb limit count ⇒ 14) ∷ (ltb (z .m .free) n || ltb (z .v .free) n ⇒ 15) ∷ (ltb (z .c .free) 1 ⇒ 16) ∷ (ltb (z .s .free) 1 ⇒ 17) ∷ []
 
 -- 4, 5 and 6 don't refuse the call
 pub record Accepted (ids nonces token : List ℕ) : Type 0 where

@@ -1,31 +1,26 @@
 // Insert (document 01, "Operations"): refusals from the input, then from the state, in the
-// definition's order; then the new rows of M, V, C and S are made and placed.
+// definition's order (admission); then the new rows of M and V (entries), C and S are made and placed.
 ghost use mathlib.Core.Path.{_≡_};
-ghost use mathlib.Core.Bool.{not, _||_};
-ghost use mathlib.Core.List.{_++_};
-ghost use Prim.Native.Nat.{_*_, _/_, _%_, _≤_};
-ghost use lib.Dec.{eqb, ltb};
+ghost use Prim.Native.Nat.{_*_, _≤_};
 ghost use lib.ListN.{length, replicate};
 ghost use Rattle.table.specs.Table.{rows};
 ghost use Rattle.answer.specs.Answer.{counted};
-ghost use Rattle.answer.specs.Verdict.{verdict};
 ghost use Rattle.scheme.specs.Store.{tableM, tableV, tableC, tableS, widthOf, logRow};
 ghost use Rattle.scheme.specs.Reading.{limit};
-ghost use Rattle.scheme.specs.Refusals.{idCount, idsIn, insertInputTests, tokenTests};
-ghost use Rattle.scheme.specs.Keys.{insertTokenLength, tokenMT, tokenME, tokenCL, tokenLog};
+ghost use Rattle.scheme.specs.Refusals.{idCount, idsIn};
+ghost use Rattle.scheme.specs.Keys.{tokenMT, tokenME, tokenCL, tokenLog};
 ghost use Rattle.scheme.specs.Insert.{entryRows, reverseRows, insertReading, Insert};
 ghost use Rattle.suite.specs.Program.{program};
 ghost use Rattle.store.specs.Check.{checkedOf};
 ghost use Rattle.format.specs.Tags.{KeysOf};
 ghost use Rattle.counter.specs.Outcome.{readingOf};
-ghost use Rattle.insert.specs.Tests.{testedOf, roomTests, Accepted, Matching, Lengths, Room};
+ghost use Rattle.insert.specs.Tests.{Accepted, Matching, Lengths, Room};
 ghost use Rattle.insert.specs.Writing.{Written};
+use admission::Tested;
 use answer::Counted;
 use answer::Refusal;
 use counter::Counter;
-use counter::GREATEST;
 use counter::Reading;
-use format::Address;
 use format::ID;
 use format::INSERT_TOKEN;
 use format::Keys;
@@ -38,108 +33,6 @@ use store::M_WIDTH;
 use store::S_WIDTH;
 use store::Shape;
 use store::V_WIDTH;
-
-// What tests make of a call: it may go on, or the first of them that holds refuses it.
-enum Tested {
-    Passed,
-    Refused(Refusal),
-}
-
-// Whether the id bytes are not 16 x 1 to 64. [01:RI6]
-fn bad_ids(n: usize) -> bool
-    ensures { λ r. ⌜ r ≡ (not (eqb (n % 16) 0) || (ltb (n / 16) 1 || ltb 64 (n / 16))) ⌝ }
-{
-    if n % ID != 0 {
-        return true;
-    }
-    if n / ID < 1 {
-        return true;
-    }
-    64 < n / ID
-}
-
-// 4, 5 and 6. [01:RI5 RI6 RI7]
-fn input(ids: &[u8], nonces: &[u8], token: &[u8]) -> Tested
-    ensures { λ r. ⌜ testedOf r ≡ verdict (insertInputTests (now (ids .entry)) (now (nonces .entry)) ++ tokenTests insertTokenLength (now (token .entry))) ⌝ }
-{
-    let n = ids.len() / ID;
-    if nonces.len() != NONCE * (n + 1) {
-        return Tested::Refused(Refusal::NonceLength);
-    }
-    if bad_ids(ids.len()) {
-        return Tested::Refused(Refusal::IdLength);
-    }
-    if token.len() != INSERT_TOKEN {
-        return Tested::Refused(Refusal::TokenLength);
-    }
-    Tested::Passed
-}
-
-// Whether the free rows of M or of V are fewer than the ids. [01:RS8]
-fn crowded(z: Shape, n: usize) -> bool
-    ensures { λ r. ⌜ r ≡ (ltb (z .m .free) n || ltb (z .v .free) n) ⌝ }
-{
-    if z.m.free < n { true } else { z.v.free < n }
-}
-
-// 14 to 17, for a new count and the number of ids. [01:RS7 RS8 RS9 RS10]
-fn room(z: Shape, count: u64, n: usize) -> Tested
-    ensures { λ r. ⌜ testedOf r ≡ verdict (roomTests z count n) ⌝ }
-{
-    if GREATEST < count {
-        return Tested::Refused(Refusal::CountRange);
-    }
-    if crowded(z, n) {
-        return Tested::Refused(Refusal::EntryRows);
-    }
-    if z.c.free < 1 {
-        return Tested::Refused(Refusal::CounterRows);
-    }
-    if z.s.free < 1 {
-        return Tested::Refused(Refusal::LogRows);
-    }
-    Tested::Passed
-}
-
-// Makes the rows of M and of V for n ids at addresses g + 1 onward, one nonce per id; MT is prepared
-// once. [01:OP1 OP2]
-fn new_rows(
-    mt: &[u8],
-    me: &[u8],
-    g: u64,
-    n: usize,
-    nonces: &[u8],
-    ids: &[u8],
-    entries: &mut [u8],
-    reverses: &mut [u8],
-)
-    requires { ⌜ ((length (now mt) ≡ 32) × (length (now me) ≡ 32)) × ((g ≤ limit) × (n ≤ 64)) ⌝ }
-    requires { ⌜ ((12 * n ≤ length (now nonces)) × (length (now ids) ≡ 16 * n)) × ((length (now entries) ≡ widthOf tableM * n) × (length (now reverses) ≡ widthOf tableV * n)) ⌝ }
-    ensures { λ _. ⌜ rows (widthOf tableM) n (now (entries .exit)) ≡ entryRows program (now (mt .entry)) (now (me .entry)) g (rows 16 n (now (ids .entry))) (now (nonces .entry)) ⌝ }
-    ensures { λ _. ⌜ rows (widthOf tableV) n (now (reverses .exit)) ≡ reverseRows program (now (mt .entry)) g (rows 16 n (now (ids .entry))) ⌝ }
-{
-    let k = hmac::prepare(mt);
-    let mut i = 0;
-    while i < n {
-        let a = NONCE * i;
-        let e = a + NONCE;
-        let b = ID * i;
-        let f = b + ID;
-        let r = row::rows_for(
-            k,
-            mt,
-            me,
-            Address(g + i as u64 + 1),
-            &nonces[a..e],
-            &ids[b..f],
-        );
-        let entry = r.entry;
-        let reverse = r.reverse;
-        table::put_row(entries, M_WIDTH, n, i, &entry);
-        table::put_row(reverses, V_WIDTH, n, i, &reverse);
-        i += 1;
-    }
-}
 
 // Places given rows in the four tables of a store that has room for them. [01:ST4 OP1]
 fn place(
@@ -207,7 +100,7 @@ fn write(
     let j = V_WIDTH * n;
     let mut entries = blank_entries();
     let mut reverses = blank_reverses();
-    new_rows(
+    entries::new_rows(
         &token[1..33],
         &token[33..65],
         g,
@@ -238,7 +131,7 @@ fn insert_read(
 {
     let n = ids.len() / ID;
     let count = x.count + n as u64;
-    match room(z, count, n) {
+    match admission::room(z, count, n) {
         Tested::Refused(r) => Counted::Refused(r),
         Tested::Passed => {
             let e = NONCE * n;
@@ -276,7 +169,7 @@ fn insert_checked(store: &mut [u8], z: Shape, ids: &[u8], nonces: &[u8], token: 
 pub fn insert(store: &mut [u8], ids: &[u8], nonces: &[u8], token: &[u8]) -> Counted
     ensures { λ r. ⌜ Insert program (now (store .entry)) (now (ids .entry)) (now (nonces .entry)) (now (token .entry)) (counted r) (now (store .exit)) ⌝ }
 {
-    match input(ids, nonces, token) {
+    match admission::input(ids, nonces, token) {
         Tested::Refused(r) => Counted::Refused(r),
         Tested::Passed => match store::sizes(store) {
             Checked::Refused(r) => Counted::Refused(r),

@@ -7,10 +7,10 @@ use native.Mathlib.Omega.{arith}
 use borrow.Author.Needs.{needs}
 use lib.ListN.{length, getD, take, drop, set}
 use native.Mathlib.Nat.{sub-zero}
-use Rattle.chacha20.specs.declared.State.{State}
-use Rattle.chacha20.specs.Words.{_⊞_}
-use Rattle.chacha20.specs.Rounds.{words}
-use Rattle.chacha20.specs.Block.{initialState, block}
+use Rattle.chacha20_block.specs.declared.State.{State}
+use Rattle.chacha20_block.specs.Words.{_⊞_}
+use Rattle.chacha20_block.specs.Rounds.{words}
+use Rattle.chacha20_block.specs.Block.{initialState, block}
 use Rattle.chacha20.specs.Cipher.{stream, xored, blocksFor, E}
 use Rattle.chacha20.proofs.Lists.{part-length, all-done}
 use Rattle.chacha20.proofs.Stream.{text-turn}

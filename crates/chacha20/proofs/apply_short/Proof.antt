@@ -4,7 +4,7 @@ use mathlib.Core.List.{List}
 use Prim.Native.Nat.{ℕ}
 use native.Mathlib.Omega.{arith}
 use borrow.Author.Needs.{needs}
-use Rattle.chacha20.specs.Block.{block}
+use Rattle.chacha20_block.specs.Block.{block}
 use Rattle.chacha20.specs.Cipher.{xored}
 use Rattle.chacha20.proofs.Stream.{one-block}
 use Rattle.chacha20.proofs.apply_short.Statement.{statement}

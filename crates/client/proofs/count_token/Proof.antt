@@ -1,5 +1,5 @@
 -- Refused by the definition's tests, in its order.
-use Rattle.client.proofs.Laws.{in-range}
+use Rattle.labels.proofs.Laws.{in-range}
 use Rattle.scheme.specs.Refusals.{fieldTokenTests}
 use borrow.Author.Tests.{eq-eqb, ne-eqb}
 use mathlib.Core.Path.{sym, _∙_}

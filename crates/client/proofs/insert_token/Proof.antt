@@ -1,5 +1,7 @@
 -- Refused by the definition's tests, in its order.
-use Rattle.client.proofs.Laws.{in-range, share-range, token-is}
+use Rattle.labels.proofs.Laws.{in-range}
+use Rattle.tokens.proofs.Laws.{token-is}
+use Rattle.client.proofs.Laws.{share-range}
 use Rattle.client.specs.Making.{fieldOf}
 use Rattle.scheme.specs.Refusals.{insertTokenTests}
 use Rattle.format.proofs.Tags.{prepared}

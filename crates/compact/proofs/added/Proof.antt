@@ -1,8 +1,8 @@
 -- An anchor adds one and its counters; nothing else adds.
 use mathlib.Core.Path.{sym, ap}
 use native.Mathlib.Omega.{arith}
-use Rattle.compact.specs.declared.Treated.{Treated}
-use Rattle.compact.specs.Treatment.{anchorsIn, countersIn, tallyAfter}
+use Rattle.treatment.specs.declared.Treated.{Treated}
+use Rattle.compact.specs.Steps.{anchorsIn, countersIn, tallyAfter}
 use Rattle.compact.proofs.Turns.{tally-same}
 use borrow.Author.Needs.{needs}
 use Rattle.compact.proofs.added.Statement.{statement}

@@ -14,9 +14,9 @@ use Rattle.scheme.specs.Keys.{findMT, findME, findCL}
 use Rattle.scheme.specs.Find.{shareReading, idsFound}
 use Rattle.suite.specs.Program.{program}
 use Rattle.store.proofs.Laws.{tableM, Fits, fit-range, fits}
-use Rattle.find.specs.declared.EntryKeys.{EntryKeys}
-use Rattle.find.specs.Ids.{idsIn}
-use Rattle.find.proofs.Found.{ids-found, ids-few, ids-bytes}
+use Rattle.ids.specs.declared.EntryKeys.{EntryKeys}
+use Rattle.ids.specs.Ids.{idsIn}
+use Rattle.ids.proofs.Found.{ids-found, ids-few, ids-bytes}
 use Rattle.find.proofs.Laws.{Sound, told-damage, told-sound, counts-sum, ids-are, damage-found, no-room, all-written}
 use borrow.Author.Needs.{needs}
 use Rattle.find.proofs.find_in.Statement.{statement}

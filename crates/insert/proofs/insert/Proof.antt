@@ -1,7 +1,8 @@
 -- 4 to 6, then 10 and 11, then the rest.
 use mathlib.Core.Path.{sym, ap, _∙_}
 use Rattle.answer.specs.Answer.{refusal}
-use Rattle.insert.specs.Tests.{testedOf, Accepted}
+use Rattle.admission.specs.Tests.{testedOf}
+use Rattle.insert.specs.Tests.{Accepted}
 use Rattle.insert.proofs.Answers.{refused-input, refused-store}
 use borrow.Author.Needs.{needs}
 use Rattle.insert.proofs.insert.Statement.{statement}

@@ -10,7 +10,8 @@ use Rattle.answer.specs.Answer.{refusal}
 use Rattle.scheme.specs.Reading.{limit}
 use Rattle.scheme.specs.Store.{counterRow}
 use Rattle.suite.specs.Program.{program}
-use Rattle.insert.specs.Tests.{testedOf, Lengths}
+use Rattle.admission.specs.Tests.{testedOf}
+use Rattle.insert.specs.Tests.{Lengths}
 use Rattle.insert.proofs.Answers.{lengths, Roomy, roomy, reading-sums, refused-room, accepted}
 use borrow.Author.Needs.{needs}
 use Rattle.insert.proofs.insert_read.Statement.{statement}

@@ -1,0 +1,5 @@
+pub mod Words
+pub mod Quarter
+pub mod Rounds
+pub mod Block
+pub mod Examples
