@@ -14,7 +14,7 @@ ghost use Rattle.format.specs.Tags.{Prepared};
 use hmac::Keyed;
 
 // F of a message, and of a number, under a key that serves once.
-pub fn once(key: &[u8; 32], m: &[u8]) -> [u8; 32]
+fn once(key: &[u8; 32], m: &[u8]) -> [u8; 32]
     requires { ⌜ length (now m) ≤ 65536 ⌝ }
     ensures { λ r. ⌜ r ≡ F (now (key .entry)) (now (m .entry)) ⌝ }
 {
