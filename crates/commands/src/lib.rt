@@ -6,80 +6,21 @@ pub mod server;
 
 ghost use mathlib.Core.Path.{_≡_};
 ghost use mathlib.Core.List.{[]};
-ghost use Rattle.answer.specs.Answer.{counted, completion};
 ghost use Rattle.scheme.specs.Call.{Call};
 ghost use Rattle.scheme.specs.Run.{Step};
 ghost use Rattle.scheme.specs.Store.{make as makeOf};
 ghost use Rattle.suite.specs.Program.{program};
 ghost use Rattle.client.specs.Making.{fieldOf};
-ghost use Rattle.compact.specs.Outcome.{compactionAnswer};
 ghost use Rattle.store.specs.Check.{checkedOf};
 ghost use Rattle.advice.specs.Advise.{noRoom};
-ghost use Rattle.commands.specs.Told.{told, compacted, withRoom, Roomed, insertTold};
+ghost use Rattle.outcome.specs.Told.{told, withRoom, Roomed};
+ghost use Rattle.commands.specs.Told.{insertTold};
 use advice::Room;
-use answer::Completion;
-use answer::Counted;
-use answer::Refusal;
-use compact::Compaction;
-use compact::Tally;
+use outcome::Outcome;
+use outcome::of_compaction;
+use outcome::of_completion;
+use outcome::of_counted;
 use store::Checked;
-
-// What became of a command.
-pub enum Outcome {
-    Number(u64),
-    Compacted(Tally),
-    // 13 in a compaction, with what had been done.
-    Damaged(Tally),
-    // A compaction that found none of the logged counters.
-    WrongKey(Tally),
-    // The refusal, and the room that the store had.
-    Refused(Refusal, Room),
-    Done,
-    // No command: the words ask for none.
-    BadWords,
-}
-
-fn of_counted(r: Counted, room: Room) -> Outcome
-    ensures { λ o. ⌜ told o ≡ counted r ⌝ }
-    ensures { λ o. ⌜ o ≡ withRoom room o ⌝ }
-{
-    match r {
-        Counted::Number(n) => Outcome::Number(n),
-        Counted::Refused(why) => Outcome::Refused(why, room),
-    }
-}
-
-// A compaction that was done, where so many rows of S were used before it.
-fn of_tally(t: Tally, logged: usize) -> Outcome
-    ensures { λ o. ⌜ o ≡ compacted logged t ⌝ }
-{
-    if advice::is_wrong_key(logged, t) {
-        Outcome::WrongKey(t)
-    } else {
-        Outcome::Compacted(t)
-    }
-}
-
-fn of_compaction(r: Compaction, room: Room) -> Outcome
-    ensures { λ o. ⌜ told o ≡ compactionAnswer r ⌝ }
-    ensures { λ o. ⌜ o ≡ withRoom room o ⌝ }
-{
-    match r {
-        Compaction::Done(t) => of_tally(t, room.logged),
-        Compaction::Damage(t) => Outcome::Damaged(t),
-        Compaction::Refused(why) => Outcome::Refused(why, room),
-    }
-}
-
-fn of_completion(r: Completion, room: Room) -> Outcome
-    ensures { λ o. ⌜ told o ≡ completion r ⌝ }
-    ensures { λ o. ⌜ o ≡ withRoom room o ⌝ }
-{
-    match r {
-        Completion::Done => Outcome::Done,
-        Completion::Refused(why) => Outcome::Refused(why, room),
-    }
-}
 
 // Makes a store over the whole of a slice.
 pub fn make(p: u64, m: u64, c: u64, s: u64, slice: &mut [u8]) -> Outcome

@@ -5,14 +5,14 @@ ghost use Rattle.scheme.specs.Refusals.{insertTokenTests, fieldTokenTests, keyT
 ghost use Rattle.suite.specs.Program.{program};
 ghost use Rattle.client.specs.Making.{makingAnswer, makingToken, fieldOf};
 ghost use Rattle.advice.specs.Advise.{roomFor};
-ghost use Rattle.commands.specs.Told.{told, withRoom};
-use crate::Outcome;
-use crate::of_completion;
+ghost use Rattle.outcome.specs.Told.{told, withRoom};
 use advice::Room;
 use format::COMPACTION_TOKEN;
 use format::COUNT_TOKEN;
 use format::FIND_TOKEN;
 use format::INSERT_TOKEN;
+use outcome::Outcome;
+use outcome::of_completion;
 
 fn room_for(p: u64) -> Room
     ensures { λ r. ⌜ r ≡ roomFor p ⌝ }

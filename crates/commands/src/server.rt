@@ -5,10 +5,10 @@ ghost use Rattle.scheme.specs.Find.{find as findOf};
 ghost use Rattle.scheme.specs.Count.{count as countOf};
 ghost use Rattle.scheme.specs.Compaction.{Compact};
 ghost use Rattle.suite.specs.Program.{program};
-ghost use Rattle.commands.specs.Told.{told, Roomed};
-use crate::Outcome;
-use crate::of_compaction;
-use crate::of_counted;
+ghost use Rattle.outcome.specs.Told.{told, Roomed};
+use outcome::Outcome;
+use outcome::of_compaction;
+use outcome::of_counted;
 
 pub fn insert(store: &mut [u8], ids: &[u8], nonces: &[u8], token: &[u8]) -> Outcome
     ensures { λ o. ⌜ Insert program (now (store .entry)) (now (ids .entry)) (now (nonces .entry)) (now (token .entry)) (told o) (now (store .exit)) ⌝ }

@@ -5,8 +5,8 @@ use Rattle.store.specs.declared.Checked.{Checked}
 use Rattle.advice.specs.Advise.{lengthOf, roomOf}
 use Rattle.request.specs.declared.Request.{Request}
 use Rattle.request.specs.declared.Request.the-variants.{Help, Misused, NotNumber, NotId, New, Key, Insert, Find, Count, Erase, Compact, Show, InsertToken, FindToken, CountToken, CompactionToken, InsertBy, FindBy, CountBy, CompactBy}
-use Rattle.commands.specs.declared.Outcome.{Outcome}
-use Rattle.commands.specs.declared.Outcome.the-variants.{Number, Compacted, Damaged, WrongKey, Refused, Done, BadWords}
+use Rattle.outcome.specs.declared.Outcome.{Outcome}
+use Rattle.outcome.specs.declared.Outcome.the-variants.{Number, Compacted, Damaged, WrongKey, Refused, Done, BadWords}
 use Rattle.demand.specs.declared.Needs.{Needs}
 use Rattle.demand.specs.declared.Needs.the-variants.{Words, KeyFile, KeyAlone, Store, Lock, NewStore}
 

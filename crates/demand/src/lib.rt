@@ -5,7 +5,7 @@ ghost use Rattle.store.specs.Check.{checkedOf};
 ghost use Rattle.request.specs.Request.{idsIn};
 ghost use Rattle.demand.specs.Needs.{needsOf, takesKey, takesToken, randomOf};
 ghost use Rattle.demand.specs.Needs.{made as Needs·made, changes as Needs·changes};
-use commands::Outcome;
+use outcome::Outcome;
 use request::Request;
 
 // What a request needs of the system.

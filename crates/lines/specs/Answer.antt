@@ -4,8 +4,8 @@ use mathlib.Core.List.{List, [], _++_}
 use Rattle.answer.specs.Answer.{numberOf}
 use Rattle.text.specs.Ascii.{ascii}
 use Rattle.compact.specs.declared.Tally.{Tally}
-use Rattle.commands.specs.declared.Outcome.{Outcome}
-use Rattle.commands.specs.declared.Outcome.the-variants.{Number, Compacted, Damaged, WrongKey, Refused, Done, BadWords}
+use Rattle.outcome.specs.declared.Outcome.{Outcome}
+use Rattle.outcome.specs.declared.Outcome.the-variants.{Number, Compacted, Damaged, WrongKey, Refused, Done, BadWords}
 use Rattle.buffer.specs.Decimal.{counted}
 
 -- anchors written and counters freed

@@ -2,8 +2,8 @@
 // Each function answers how many bytes there are, and which these are is said by specs/.
 use buffer::put;
 use buffer::put_counted;
-use commands::Outcome;
 use compact::Tally;
+use outcome::Outcome;
 ghost use mathlib.Core.Path.{_≡_};
 ghost use Prim.Native.Nat.{_+_, _*_, _≤_};
 ghost use lib.ListN.{length};

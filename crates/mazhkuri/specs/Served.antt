@@ -5,7 +5,7 @@ use mathlib.Core.Bool.{true, false}
 use mathlib.Core.List.{List}
 use lib.ListN.{length}
 use Rattle.request.specs.Request.{requestOf}
-use Rattle.commands.specs.declared.Outcome.the-variants.{BadWords}
+use Rattle.outcome.specs.declared.Outcome.the-variants.{BadWords}
 use Rattle.tool.specs.Run.{Ends}
 use Rattle.tool.specs.declared.Ran.{Ran}
 use Rattle.mazhkuri.specs.declared.Served.{Served}

@@ -3,11 +3,11 @@
 //
 // A command that changes the store makes STORE.lock, reads the store, runs, writes STORE.new, syncs it,
 // renames it to STORE and removes STORE.lock; the answer is printed after that.
-use commands::Outcome;
 use demand::Needs;
 use files::Loaded;
 use libc::STDERR_FILENO;
 use libc::STDOUT_FILENO;
+use outcome::Outcome;
 use request::token;
 use tool::Ran;
 use words::line;

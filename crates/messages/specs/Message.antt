@@ -8,8 +8,8 @@ use Rattle.text.specs.Ascii.{ascii}
 use Rattle.advice.specs.Advise.{adviceOf}
 use Rattle.advice.specs.declared.Advice.{Advice}
 use Rattle.advice.specs.declared.Advice.the-variants.{Key, Field, Share, Shares, Ids, Token, Sizes, NoStore, Marks, TokenShares, Damage, Count, Entries, Compact, Larger, Log, Output, Fault}
-use Rattle.commands.specs.declared.Outcome.{Outcome}
-use Rattle.commands.specs.declared.Outcome.the-variants.{Number, Compacted, Damaged, WrongKey, Refused, Done, BadWords}
+use Rattle.outcome.specs.declared.Outcome.{Outcome}
+use Rattle.outcome.specs.declared.Outcome.the-variants.{Number, Compacted, Damaged, WrongKey, Refused, Done, BadWords}
 use Rattle.buffer.specs.Decimal.{counted}
 use Rattle.lines.specs.Answer.{tallyLine}
 

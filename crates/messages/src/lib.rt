@@ -9,8 +9,8 @@ use advice::Room;
 use answer::Refusal;
 use buffer::put;
 use buffer::put_counted;
-use commands::Outcome;
 use compact::Tally;
+use outcome::Outcome;
 
 const KEY: [u8; 68] = *b"the key file must hold 32 bytes: make one with mazhkuri key KEYFILE\n";
 

@@ -28,10 +28,11 @@ use Rattle.request.specs.declared.Request.{Request}
 use Rattle.request.specs.declared.Request.the-variants.{Help, Misused, NotNumber, NotId, New, Key, Insert, Find, Count, Erase, Compact, Show, InsertToken, FindToken, CountToken, CompactionToken, InsertBy, FindBy, CountBy, CompactBy}
 use Rattle.advice.specs.Advise.{roomOf}
 use Rattle.advice.specs.declared.Room.{Room}
-use Rattle.commands.specs.Told.{told, insertTold}
-use Rattle.commands.proofs.Outcome.{the-type as outcome}
-use Rattle.commands.specs.declared.Outcome.{Outcome}
-use Rattle.commands.specs.declared.Outcome.the-variants.{Number, Compacted, Damaged, WrongKey, Refused, Done, BadWords}
+use Rattle.outcome.specs.Told.{told}
+use Rattle.commands.specs.Told.{insertTold}
+use Rattle.outcome.proofs.Outcome.{the-type as outcome}
+use Rattle.outcome.specs.declared.Outcome.{Outcome}
+use Rattle.outcome.specs.declared.Outcome.the-variants.{Number, Compacted, Damaged, WrongKey, Refused, Done, BadWords}
 use Rattle.buffer.specs.Put.{Put}
 use Rattle.buffer.proofs.Laws.{nothing}
 use Rattle.lines.specs.Answer.{answerLine}

@@ -20,9 +20,9 @@ use Rattle.scheme.specs.Find.{shareReading, idsFound, findVerdict, find}
 use Rattle.scheme.specs.Run.{findCall, madeOr}
 use Rattle.scheme.proofs.Verdicts.{after-none, passed}
 use Rattle.suite.specs.Program.{program}
-use Rattle.commands.specs.Told.{told}
-use Rattle.commands.specs.declared.Outcome.{Outcome}
-use Rattle.commands.specs.declared.Outcome.the-variants.{Number, Compacted, Damaged, WrongKey, Refused, Done, BadWords}
+use Rattle.outcome.specs.Told.{told}
+use Rattle.outcome.specs.declared.Outcome.{Outcome}
+use Rattle.outcome.specs.declared.Outcome.the-variants.{Number, Compacted, Damaged, WrongKey, Refused, Done, BadWords}
 use Rattle.tool.specs.Run.{Holds}
 
 -- no refusal is an answer

@@ -28,9 +28,10 @@ use Rattle.request.specs.Token.{tokenOf, tokenText}
 use Rattle.request.specs.declared.Request.{Request}
 use Rattle.request.specs.declared.Request.the-variants.{Help, Misused, NotNumber, NotId, New, Key, Insert, Find, Count, Erase, Compact, Show, InsertToken, FindToken, CountToken, CompactionToken, InsertBy, FindBy, CountBy, CompactBy}
 use Rattle.advice.specs.Advise.{noRoom, roomFor, roomOf}
-use Rattle.commands.specs.Told.{told, withRoom, Roomed, insertTold}
-use Rattle.commands.specs.declared.Outcome.{Outcome}
-use Rattle.commands.specs.declared.Outcome.the-variants.{Number, Compacted, Damaged, WrongKey, Refused, Done, BadWords}
+use Rattle.outcome.specs.Told.{told, withRoom, Roomed}
+use Rattle.commands.specs.Told.{insertTold}
+use Rattle.outcome.specs.declared.Outcome.{Outcome}
+use Rattle.outcome.specs.declared.Outcome.the-variants.{Number, Compacted, Damaged, WrongKey, Refused, Done, BadWords}
 use Rattle.buffer.specs.Put.{Put}
 use Rattle.lines.specs.Answer.{answerLine}
 use Rattle.lines.specs.Ids.{hexLine, idLines}

@@ -3,13 +3,13 @@
 // printed. What is left to the program is to ask the system for these bytes, and to write what this
 // function gives.
 use buffer::put;
-use commands::Outcome;
 use commands::office;
 use commands::server;
 use format::COMPACTION_TOKEN;
 use format::COUNT_TOKEN;
 use format::FIND_TOKEN;
 use format::INSERT_TOKEN;
+use outcome::Outcome;
 use request::Request;
 use request::token;
 use store::Checked;

@@ -1,5 +1,5 @@
 -- The call's own contract.
-use Rattle.commands.proofs.Rooms.{roomed}
+use Rattle.outcome.proofs.Rooms.{roomed}
 use mathlib.Core.Path.{refl, sym, subst}
 use Rattle.answer.specs.Answer.{Answer}
 use Rattle.suite.specs.Program.{program}

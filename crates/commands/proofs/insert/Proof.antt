@@ -1,11 +1,12 @@
 -- The check decides; then the call with the p that it told.
 use mathlib.Core.Path.{refl, sym, ap, subst, _∙_}
 use Rattle.advice.specs.Advise.{roomOf}
-use Rattle.commands.specs.declared.Outcome.the-variants.{Refused}
+use Rattle.outcome.specs.declared.Outcome.the-variants.{Refused}
 use Rattle.answer.specs.Answer.{refusal}
 use Rattle.store.specs.declared.Checked.{Checked}
 use Rattle.client.specs.Making.{fieldOf}
-use Rattle.commands.specs.Told.{told, insertTold}
+use Rattle.outcome.specs.Told.{told}
+use Rattle.commands.specs.Told.{insertTold}
 use borrow.Author.Needs.{needs}
 use Rattle.commands.proofs.insert.Statement.{statement}
 use Rattle.commands.proofs.insert.Tie as tie

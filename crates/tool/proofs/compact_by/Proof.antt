@@ -5,7 +5,7 @@ use mathlib.Core.List.{List, []}
 use lib.Seq.{length-take-le}
 use Rattle.suite.specs.Program.{program}
 use Rattle.request.specs.declared.Request.the-variants.{CompactBy}
-use Rattle.commands.specs.Told.{told}
+use Rattle.outcome.specs.Told.{told}
 use Rattle.tool.proofs.Arms.{ended}
 use Rattle.scheme.specs.Compaction.{Compact}
 use borrow.Author.Needs.{needs}

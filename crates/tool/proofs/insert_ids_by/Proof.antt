@@ -8,7 +8,7 @@ use Rattle.scheme.specs.Keys.{insertTokenLength}
 use Rattle.scheme.specs.Insert
 use Rattle.suite.specs.Program.{program}
 use Rattle.request.specs.declared.Request.the-variants.{InsertBy}
-use Rattle.commands.specs.Told.{told}
+use Rattle.outcome.specs.Told.{told}
 use Rattle.tool.specs.Run.{tokenIn}
 use Rattle.tool.proofs.Arms.{ended}
 use borrow.Author.Needs.{needs}

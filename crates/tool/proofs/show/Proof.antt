@@ -3,7 +3,7 @@ use mathlib.Core.Path.{refl, sym, ap, subst, _∙_}
 use mathlib.Core.List.{[]}
 use Rattle.store.proofs.Laws.{tableM, tableV, tableC, tableS, fits}
 use Rattle.request.specs.declared.Request.the-variants.{Show}
-use Rattle.commands.specs.declared.Outcome.the-variants.{Refused, Done}
+use Rattle.outcome.specs.declared.Outcome.the-variants.{Refused, Done}
 use Rattle.buffer.proofs.Laws.{said, nothing}
 use Rattle.lines.specs.Answer.{answerLine}
 use Rattle.messages.specs.Message.{messageLine}

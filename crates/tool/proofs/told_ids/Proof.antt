@@ -4,7 +4,7 @@ use mathlib.Core.Path.{refl, sym, ap, subst}
 use mathlib.Core.List.{List}
 use native.Mathlib.Omega.{arith}
 use lib.ListN.{length}
-use Rattle.commands.specs.declared.Outcome.{Outcome}
+use Rattle.outcome.specs.declared.Outcome.{Outcome}
 use Rattle.buffer.proofs.Laws.{said, nothing}
 use Rattle.messages.specs.Message.{messageLine}
 use Rattle.tool.specs.Run.{foundText, Holds}

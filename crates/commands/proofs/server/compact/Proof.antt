@@ -3,7 +3,7 @@ use mathlib.Core.Path.{sym, subst}
 use Rattle.answer.specs.Answer.{Answer}
 use Rattle.scheme.specs.Compaction.{Compact}
 use Rattle.suite.specs.Program.{program}
-use Rattle.commands.proofs.Rooms.{roomed}
+use Rattle.outcome.proofs.Rooms.{roomed}
 use borrow.Author.Needs.{needs}
 use Rattle.commands.proofs.server.compact.Statement.{statement}
 use Rattle.commands.proofs.server.compact.Tie as tie

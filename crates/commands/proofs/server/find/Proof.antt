@@ -1,6 +1,6 @@
 -- The call's own contract.
 use mathlib.Core.Path.{_∙_}
-use Rattle.commands.proofs.Rooms.{roomed}
+use Rattle.outcome.proofs.Rooms.{roomed}
 use borrow.Author.Needs.{needs}
 use Rattle.commands.proofs.server.find.Statement.{statement}
 use Rattle.commands.proofs.server.find.Tie as tie

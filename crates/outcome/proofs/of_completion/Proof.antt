@@ -2,8 +2,8 @@
 use mathlib.Core.Path.{refl, sym, ap}
 use Rattle.answer.specs.Answer.{completion}
 use borrow.Author.Needs.{needs}
-use Rattle.commands.proofs.of_completion.Statement.{statement}
-use Rattle.commands.proofs.of_completion.Tie as tie
+use Rattle.outcome.proofs.of_completion.Statement.{statement}
+use Rattle.outcome.proofs.of_completion.Tie as tie
 
 enum-told : tie.Need-enum-told
 enum-told c = search needs

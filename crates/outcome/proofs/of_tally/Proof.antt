@@ -1,8 +1,8 @@
 -- Which key it was decides.
 use mathlib.Core.Path.{sym, _∙_}
 use borrow.Author.Needs.{needs}
-use Rattle.commands.proofs.of_tally.Statement.{statement}
-use Rattle.commands.proofs.of_tally.Tie as tie
+use Rattle.outcome.proofs.of_tally.Statement.{statement}
+use Rattle.outcome.proofs.of_tally.Tie as tie
 
 returns : tie.Need-returns
 returns c = rw (sym (c .before .is-wrong-key .ensures) ∙ c .if1 .taken)

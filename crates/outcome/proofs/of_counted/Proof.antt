@@ -2,8 +2,8 @@
 use mathlib.Core.Path.{refl, sym, ap}
 use Rattle.answer.specs.Answer.{counted}
 use borrow.Author.Needs.{needs}
-use Rattle.commands.proofs.of_counted.Statement.{statement}
-use Rattle.commands.proofs.of_counted.Tie as tie
+use Rattle.outcome.proofs.of_counted.Statement.{statement}
+use Rattle.outcome.proofs.of_counted.Tie as tie
 
 enum-known-r : tie.Need-enum-known-r
 enum-known-r c = search needs

@@ -1,11 +1,11 @@
 -- Each arm knows its answer.
 use mathlib.Core.Path.{refl, sym, ap, _∙_}
-use Rattle.commands.specs.Told.{told, withRoom}
-use Rattle.commands.proofs.Rooms.{told-compacted, room-compacted}
+use Rattle.outcome.specs.Told.{told, withRoom}
+use Rattle.outcome.proofs.Rooms.{told-compacted, room-compacted}
 use Rattle.compact.specs.Outcome.{compactionAnswer}
 use borrow.Author.Needs.{needs}
-use Rattle.commands.proofs.of_compaction.Statement.{statement}
-use Rattle.commands.proofs.of_compaction.Tie as tie
+use Rattle.outcome.proofs.of_compaction.Statement.{statement}
+use Rattle.outcome.proofs.of_compaction.Tie as tie
 
 enum-known-r : tie.Need-enum-known-r
 enum-known-r c = search needs

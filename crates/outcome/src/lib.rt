@@ -1,0 +1,68 @@
+// What became of a command of the tool, made of the library's answers: a refusal goes with the room that the store had.
+ghost use mathlib.Core.Path.{_≡_};
+ghost use Rattle.answer.specs.Answer.{counted, completion};
+ghost use Rattle.compact.specs.Outcome.{compactionAnswer};
+ghost use Rattle.outcome.specs.Told.{told, compacted, withRoom};
+use advice::Room;
+use answer::Completion;
+use answer::Counted;
+use answer::Refusal;
+use compact::Compaction;
+use compact::Tally;
+
+// What became of a command.
+pub enum Outcome {
+    Number(u64),
+    Compacted(Tally),
+    // 13 in a compaction, with what had been done.
+    Damaged(Tally),
+    // A compaction that found none of the logged counters.
+    WrongKey(Tally),
+    // The refusal, and the room that the store had.
+    Refused(Refusal, Room),
+    Done,
+    // No command: the words ask for none.
+    BadWords,
+}
+
+pub fn of_counted(r: Counted, room: Room) -> Outcome
+    ensures { λ o. ⌜ told o ≡ counted r ⌝ }
+    ensures { λ o. ⌜ o ≡ withRoom room o ⌝ }
+{
+    match r {
+        Counted::Number(n) => Outcome::Number(n),
+        Counted::Refused(why) => Outcome::Refused(why, room),
+    }
+}
+
+// A compaction that was done, where so many rows of S were used before it.
+fn of_tally(t: Tally, logged: usize) -> Outcome
+    ensures { λ o. ⌜ o ≡ compacted logged t ⌝ }
+{
+    if advice::is_wrong_key(logged, t) {
+        Outcome::WrongKey(t)
+    } else {
+        Outcome::Compacted(t)
+    }
+}
+
+pub fn of_compaction(r: Compaction, room: Room) -> Outcome
+    ensures { λ o. ⌜ told o ≡ compactionAnswer r ⌝ }
+    ensures { λ o. ⌜ o ≡ withRoom room o ⌝ }
+{
+    match r {
+        Compaction::Done(t) => of_tally(t, room.logged),
+        Compaction::Damage(t) => Outcome::Damaged(t),
+        Compaction::Refused(why) => Outcome::Refused(why, room),
+    }
+}
+
+pub fn of_completion(r: Completion, room: Room) -> Outcome
+    ensures { λ o. ⌜ told o ≡ completion r ⌝ }
+    ensures { λ o. ⌜ o ≡ withRoom room o ⌝ }
+{
+    match r {
+        Completion::Done => Outcome::Done,
+        Completion::Refused(why) => Outcome::Refused(why, room),
+    }
+}
