@@ -6,8 +6,8 @@ use mathlib.Core.List.{List}
 use lib.ListN.{length}
 use Rattle.request.specs.Request.{requestOf}
 use Rattle.outcome.specs.declared.Outcome.the-variants.{BadWords}
-use Rattle.tool.specs.Run.{Ends}
-use Rattle.tool.specs.declared.Ran.{Ran}
+use Rattle.execution.specs.Run.{Ends}
+use Rattle.execution.specs.declared.Ran.{Ran}
 use Rattle.mazhkuri.specs.declared.Served.{Served}
 
 -- where the system stood in the way

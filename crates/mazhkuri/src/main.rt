@@ -4,12 +4,12 @@
 // A command that changes the store makes STORE.lock, reads the store, runs, writes STORE.new, syncs it,
 // renames it to STORE and removes STORE.lock; the answer is printed after that.
 use demand::Needs;
+use execution::Ran;
 use files::Loaded;
 use libc::STDERR_FILENO;
 use libc::STDOUT_FILENO;
 use outcome::Outcome;
 use request::token;
-use tool::Ran;
 use words::line;
 ghost use mathlib.Core.Path.{_≡_};
 ghost use mathlib.Core.Bool.{true, false};
@@ -20,7 +20,7 @@ ghost use Rattle.words.specs.Line.{wordAt};
 ghost use Rattle.request.specs.Request.{requestOf};
 ghost use Rattle.files.specs.System.{OfSystem, OfSystemAt};
 ghost use Rattle.demand.specs.Needs.{changes};
-ghost use Rattle.tool.specs.Run.{Ends};
+ghost use Rattle.execution.specs.Run.{Ends};
 ghost use Rattle.mazhkuri.specs.Served.{unservedOf, ServedIf, Printable};
 
 // The longest store, 884,744 bytes, and one byte more: a longer file is refused by its length.

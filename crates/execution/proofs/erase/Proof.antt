@@ -1,0 +1,27 @@
+-- The call with the line's id.
+use Prim.Native.Nat.{ℕ}
+use mathlib.Core.Path.{ap, subst, _∙_}
+use mathlib.Core.List.{List, []}
+use Rattle.scheme.specs.Call.{Call}
+use Rattle.scheme.specs.Run.{Step}
+use Rattle.suite.specs.Program.{program}
+use Rattle.request.specs.Ids.{idOf}
+use Rattle.request.specs.declared.Request.the-variants.{Erase}
+use Rattle.outcome.specs.Told.{told}
+use Rattle.execution.proofs.Arms.{ended}
+use borrow.Author.Needs.{needs}
+use Rattle.execution.proofs.erase.Statement.{statement}
+use Rattle.execution.proofs.erase.Tie as tie
+
+returns : tie.Need-returns
+returns c =
+    let s = c .before .before .before .before .before .before .before .before .before .before .before .before .before .before .before .before .before .before .before .before .args in
+    let a = c .before .before .before .before .answered in
+    let o = c .before .before .before .before .before .before .before .before .before .erase in
+    ended Erase (s .line .now) (s .store .now) [] [] (o .last .0) (o .result) (a .result) (a .ensures .0) (
+      subst (λ (i : List ℕ). Step program (Call.erase i) (s .store .now) (record { answer = told (o .result); output = [] }) (o .last .0)) (c .before .before .before .before .before .before .before .before .before .before .before .before .before .id2 .ensures ∙ ap idOf (c .before .before .before .before .before .before .before .before .before .before .before .before .before .before .before .word .ensures)) (o .ensures .0),
+      o .ensures .1,
+    ) (a .ensures .1 .0) (a .ensures .1 .1)
+
+pub erase-spec : {M : Type 1} → statement M
+erase-spec = tie.close (tie.spec (λ c κs. search needs) (λ c. search needs) (λ c κs. search needs) (λ c. search needs) (λ c κs. search needs) (λ c κs. search needs) (λ c. search needs) (λ c. search needs) (λ c. search needs) returns)
