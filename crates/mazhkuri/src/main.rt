@@ -19,9 +19,10 @@ ghost use Rattle.io.specs.Counts.{Counts};
 ghost use Rattle.words.specs.Line.{wordAt};
 ghost use Rattle.request.specs.Request.{requestOf};
 ghost use Rattle.files.specs.System.{OfSystem, OfSystemAt};
-ghost use Rattle.demand.specs.Needs.{changes};
+ghost use Rattle.request.specs.Token.{namesFile};
+ghost use Rattle.demand.specs.Needs.{takesKey, takesToken, changes};
 ghost use Rattle.execution.specs.Run.{Ends};
-ghost use Rattle.mazhkuri.specs.Served.{unservedOf, ServedIf, Printable};
+ghost use Rattle.mazhkuri.specs.Served.{unservedOf, Unasked, ServedIf, Printable};
 
 // The longest store, 884,744 bytes, and one byte more: a longer file is refused by its length.
 const SPACE: usize = 884745;
@@ -102,6 +103,7 @@ fn apply(
 // The bytes of the file that the line's token names, where it names one.
 fn token_of(line: &[u8], to: &mut [u8]) -> Loaded
     ensures { λ r. ⌜ Counts (r .n) (now (to .exit)) ⌝ }
+    ensures { λ r. ⌜ (namesFile (wordAt 3 (now (line .entry))) ≡ false → Unasked r) ⌝ }
 {
     let word = line::word(line, 3);
     if !token::names_file(word) {
@@ -113,6 +115,7 @@ fn token_of(line: &[u8], to: &mut [u8]) -> Loaded
 // The bytes of the file with the key or the token, where the request takes one.
 fn key_of(line: &[u8], to: &mut [u8]) -> Loaded
     ensures { λ r. ⌜ Counts (r .n) (now (to .exit)) ⌝ }
+    ensures { λ r. ⌜ (takesToken (requestOf (now (line .entry))) ≡ false → takesKey (requestOf (now (line .entry))) ≡ false → Unasked r) ⌝ }
 {
     let q = request::read(line);
     if demand::takes_token(q) {
@@ -144,6 +147,7 @@ fn absent(line: &[u8], n: usize, room: usize) -> Loaded
 // The store's bytes, or room for a new one's; none where there is no store.
 fn fetch(line: &[u8], needs: Needs, to: &mut [u8]) -> Loaded
     ensures { λ r. ⌜ Counts (r .n) (now (to .exit)) ⌝ }
+    ensures { λ r. ⌜ (needs ≡ Needs.KeyAlone → Unasked r) ⌝ }
 {
     if let Needs::KeyAlone = needs {
         return Loaded { n: 0, whole: true };
