@@ -4,7 +4,8 @@ use Rattle.answer.specs.declared.Refusal.the-variants.{EntryRows}
 use Rattle.text.specs.Ascii.{ascii}
 use Rattle.outcome.specs.declared.Outcome.the-variants.{Number, Compacted, Refused}
 use Rattle.buffer.specs.Decimal.{spelled, decimalText}
-use Rattle.lines.specs.Answer.{tallyLine, refusedLine, answerLine}
+use Rattle.tally.specs.Line.{tallyLine}
+use Rattle.lines.specs.Answer.{refusedLine, answerLine}
 
 number : answerLine (Number 4294967295) ≡ ascii "4294967295\n"
 unfolding spelled decimalText tallyLine refusedLine answerLine

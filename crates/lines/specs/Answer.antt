@@ -3,14 +3,10 @@ use Prim.Native.Nat.{ℕ}
 use mathlib.Core.List.{List, [], _++_}
 use Rattle.answer.specs.Answer.{numberOf}
 use Rattle.text.specs.Ascii.{ascii}
-use Rattle.compact.specs.declared.Tally.{Tally}
 use Rattle.outcome.specs.declared.Outcome.{Outcome}
 use Rattle.outcome.specs.declared.Outcome.the-variants.{Number, Compacted, Damaged, WrongKey, Refused, Done, BadWords}
 use Rattle.buffer.specs.Decimal.{counted}
-
--- anchors written and counters freed
-unfoldable pub tallyLine : Tally → List ℕ
-tallyLine t = counted (t .anchors) (ascii " ") ++ counted (t .counters) (ascii "\n")
+use Rattle.tally.specs.Line.{tallyLine}
 
 -- scripts go by the first word
 unfoldable pub refusedLine : ℕ → List ℕ

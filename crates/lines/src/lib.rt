@@ -2,24 +2,15 @@
 // Each function answers how many bytes there are, and which these are is said by specs/.
 use buffer::put;
 use buffer::put_counted;
-use compact::Tally;
 use outcome::Outcome;
+use tally::put_tally;
 ghost use mathlib.Core.Path.{_≡_};
 ghost use Prim.Native.Nat.{_+_, _*_, _≤_};
 ghost use lib.ListN.{length};
 ghost use Rattle.buffer.specs.Put.{Put};
-ghost use Rattle.lines.specs.Answer.{tallyLine, refusedLine, answerLine};
+ghost use Rattle.lines.specs.Answer.{refusedLine, answerLine};
 ghost use Rattle.text.specs.Hex.{hexOf};
 ghost use Rattle.lines.specs.Ids.{hexLine, idLines};
-
-// Puts what a compaction has done.
-pub fn put_tally(to: &mut [u8], at: usize, t: Tally) -> usize
-    requires { ⌜ at + 42 ≤ length (now to) ⌝ }
-    ensures { λ r. ⌜ (Put (now (to .entry)) at (tallyLine t) (now (to .exit)) r) × (r ≤ at + 42) ⌝ }
-{
-    let e = put_counted(to, at, t.anchors, b" ");
-    put_counted(to, e, t.counters, b"\n")
-}
 
 // The line of a refusal.
 fn put_refused(to: &mut [u8], number: u64) -> usize

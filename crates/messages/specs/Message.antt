@@ -11,7 +11,7 @@ use Rattle.advice.specs.declared.Advice.the-variants.{Key, Field, Share, Shares
 use Rattle.outcome.specs.declared.Outcome.{Outcome}
 use Rattle.outcome.specs.declared.Outcome.the-variants.{Number, Compacted, Damaged, WrongKey, Refused, Done, BadWords}
 use Rattle.buffer.specs.Decimal.{counted}
-use Rattle.lines.specs.Answer.{tallyLine}
+use Rattle.tally.specs.Line.{tallyLine}
 
 -- a number with the words for one, or for another number
 unfoldable pub plural : ℕ → List ℕ → List ℕ → List ℕ

@@ -155,7 +155,7 @@ fn put_damaged(to: &mut [u8], t: Tally) -> usize
     ensures { λ n. ⌜ Put (now (to .entry)) 0 (messageLine (Outcome.Damaged t) 0) (now (to .exit)) n ⌝ }
 {
     let e = put(to, 0, &DAMAGED);
-    lines::put_tally(to, e, t)
+    tally::put_tally(to, e, t)
 }
 
 // What standard error gets of an outcome, where so many ids were given.

@@ -1,10 +1,10 @@
 -- Two pieces.
 use native.Mathlib.Omega.{arith}
 use Rattle.buffer.proofs.Laws.{then}
-use Rattle.lines.specs.Answer.{tallyLine}
+use Rattle.tally.specs.Line.{tallyLine}
 use borrow.Author.Needs.{needs}
-use Rattle.lines.proofs.put_tally.Statement.{statement}
-use Rattle.lines.proofs.put_tally.Tie as tie
+use Rattle.tally.proofs.put_tally.Statement.{statement}
+use Rattle.tally.proofs.put_tally.Tie as tie
 
 returns : tie.Need-returns
 unfolding tallyLine
