@@ -1,9 +1,6 @@
 // The tool's commands on the bytes of a store: the calls of crates/calls, each with what the tool tells
 // of it. The answers are the calls' own; p of an insert is the store's. A call is also there in two
-// halves: office makes a token, server takes one.
-pub mod office;
-pub mod server;
-
+// halves: crates/office makes a token, crates/server takes one.
 ghost use mathlib.Core.Path.{_≡_};
 ghost use mathlib.Core.List.{[]};
 ghost use Rattle.scheme.specs.Call.{Call};

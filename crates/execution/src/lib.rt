@@ -1,7 +1,5 @@
 // The commands of the tool carried out on slices: of a command line's words, the bytes of a store and of a key
 // file (or of the file that holds a token), and random bytes, the outcome, the store after it and what is printed.
-use commands::office;
-use commands::server;
 use format::COMPACTION_TOKEN;
 use format::COUNT_TOKEN;
 use format::FIND_TOKEN;

@@ -5,8 +5,8 @@ use Rattle.scheme.specs.Compaction.{Compact}
 use Rattle.suite.specs.Program.{program}
 use Rattle.outcome.proofs.Rooms.{roomed}
 use borrow.Author.Needs.{needs}
-use Rattle.commands.proofs.server.compact.Statement.{statement}
-use Rattle.commands.proofs.server.compact.Tie as tie
+use Rattle.server.proofs.compact.Statement.{statement}
+use Rattle.server.proofs.compact.Tie as tie
 
 returns : tie.Need-returns
 returns c = (subst (λ (x : Answer). Compact program (c .before .before .before .before .before .before .before .before .before .before .args .store .now) (c .before .before .before .before .before .before .before .before .before .before .args .nonces .now) (c .before .before .before .before .before .before .before .before .before .before .args .token .now) x (c .before .before .before .compact .last .0)) (sym (c .of-compaction .ensures .0)) (c .before .before .before .compact .ensures), roomed _ _ _ (c .of-compaction .ensures .1) (c .before .before .before .before .before .room-in .ensures .0))

@@ -2,8 +2,8 @@
 use mathlib.Core.Path.{_∙_}
 use Rattle.outcome.proofs.Rooms.{roomed}
 use borrow.Author.Needs.{needs}
-use Rattle.commands.proofs.server.count.Statement.{statement}
-use Rattle.commands.proofs.server.count.Tie as tie
+use Rattle.server.proofs.count.Statement.{statement}
+use Rattle.server.proofs.count.Tie as tie
 
 returns : tie.Need-returns
 returns c = (c .of-counted .ensures .0 ∙ c .before .count .ensures, roomed _ _ _ (c .of-counted .ensures .1) (c .before .before .room-in .ensures .0))

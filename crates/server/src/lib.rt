@@ -1,4 +1,5 @@
-// The server's half: the calls with a token, on the bytes of a store, and no key.
+// The server's half of a call: what it runs with a token (document 01, "Operations"), on the bytes of a store and with
+// no key, with what the tool tells of it.
 ghost use mathlib.Core.Path.{_≡_};
 ghost use Rattle.scheme.specs.Insert.{Insert};
 ghost use Rattle.scheme.specs.Find.{find as findOf};

@@ -2,8 +2,8 @@
 use mathlib.Core.Path.{ap, _∙_}
 use Rattle.outcome.specs.Told.{withRoom}
 use borrow.Author.Needs.{needs}
-use Rattle.commands.proofs.office.compaction_token.Statement.{statement}
-use Rattle.commands.proofs.office.compaction_token.Tie as tie
+use Rattle.office.proofs.compaction_token.Statement.{statement}
+use Rattle.office.proofs.compaction_token.Tie as tie
 
 returns : tie.Need-returns
 returns c =

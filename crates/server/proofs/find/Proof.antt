@@ -2,8 +2,8 @@
 use mathlib.Core.Path.{_∙_}
 use Rattle.outcome.proofs.Rooms.{roomed}
 use borrow.Author.Needs.{needs}
-use Rattle.commands.proofs.server.find.Statement.{statement}
-use Rattle.commands.proofs.server.find.Tie as tie
+use Rattle.server.proofs.find.Statement.{statement}
+use Rattle.server.proofs.find.Tie as tie
 
 returns : tie.Need-returns
 returns c = (c .of-counted .ensures .0 ∙ c .before .before .before .find .ensures .0, (c .before .before .before .find .ensures .1, roomed _ _ _ (c .of-counted .ensures .1) (c .before .before .before .before .before .room-in .ensures .0)))

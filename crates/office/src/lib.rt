@@ -1,4 +1,5 @@
-// The office's half: tokens, made of a key. A refusal tells of the p that was given, since there is no store.
+// The office's half of a call: a token, made of a key (document 01, "Keys and tokens"), with what the tool tells of
+// it. A refusal tells of the p that was given, since there is no store.
 ghost use mathlib.Core.Path.{_≡_};
 ghost use Rattle.scheme.specs.Keys.{insertToken, findToken, countToken, compactionToken};
 ghost use Rattle.scheme.specs.Refusals.{insertTokenTests, fieldTokenTests, keyTests};
