@@ -7,8 +7,8 @@ use lib.ListN.{length}
 use Rattle.files.specs.declared.Loaded.{Loaded}
 use Rattle.request.specs.Request.{requestOf}
 use Rattle.outcome.specs.declared.Outcome.the-variants.{BadWords}
-use Rattle.execution.specs.Run.{Ends}
-use Rattle.execution.specs.declared.Ran.{Ran}
+use Rattle.report.specs.Run.{Ends}
+use Rattle.report.specs.declared.Ran.{Ran}
 use Rattle.mazhkuri.specs.declared.Served.{Served}
 
 -- where the system stood in the way

@@ -4,11 +4,11 @@
 // A command that changes the store makes STORE.lock, reads the store, runs, writes STORE.new, syncs it,
 // renames it to STORE and removes STORE.lock; the answer is printed after that.
 use demand::Needs;
-use execution::Ran;
 use files::Loaded;
 use libc::STDERR_FILENO;
 use libc::STDOUT_FILENO;
 use outcome::Outcome;
+use report::Ran;
 use request::token;
 use words::line;
 ghost use mathlib.Core.Path.{_≡_};
@@ -21,7 +21,7 @@ ghost use Rattle.request.specs.Request.{requestOf};
 ghost use Rattle.files.specs.System.{OfSystem, OfSystemAt};
 ghost use Rattle.request.specs.Token.{namesFile};
 ghost use Rattle.demand.specs.Needs.{takesKey, takesToken, changes};
-ghost use Rattle.execution.specs.Run.{Ends};
+ghost use Rattle.report.specs.Run.{Ends};
 ghost use Rattle.mazhkuri.specs.Served.{unservedOf, Unasked, ServedIf, Printable};
 
 // The longest store, 884,744 bytes, and one byte more: a longer file is refused by its length.

@@ -3,8 +3,8 @@
 // printed. What is left to the program is to ask the system for these bytes, and to write what this
 // function gives.
 use buffer::put;
-use execution::Ran;
 use outcome::Outcome;
+use report::Ran;
 use request::Request;
 use words::Command;
 use words::line;
@@ -17,7 +17,7 @@ ghost use Rattle.lines.specs.Answer.{answerLine};
 ghost use Rattle.text.specs.Ascii.{ascii};
 ghost use Rattle.request.specs.Request.{requestOf};
 ghost use Rattle.usage.specs.Usage.{usageLine, helpText};
-ghost use Rattle.execution.specs.Run.{badWord, Ends};
+ghost use Rattle.report.specs.Run.{badWord, Ends};
 
 // What `help` prints.
 fn help(c: Command, out: &mut [u8]) -> Ran
@@ -101,24 +101,38 @@ pub fn run(
             err,
         ),
         Request::New { p, m, c, s } => {
-            execution::answered(commands::make(p, m, c, s, store), 0, out, err)
+            report::answered(commands::make(p, m, c, s, store), 0, out, err)
         }
-        Request::Key => execution::answered(Outcome::Done, 0, out, err),
+        Request::Key => report::answered(Outcome::Done, 0, out, err),
         Request::Insert { u, n } => execution::insert(line, u, n, store, key, random, out, err),
         Request::Find => execution::find(line, store, key, out, err),
         Request::Count => execution::count(line, store, key, out, err),
         Request::Erase => execution::erase(line, store, out, err),
-        Request::Compact => {
-            execution::answered(commands::compact(store, key, random), 0, out, err)
-        }
+        Request::Compact => { report::answered(commands::compact(store, key, random), 0, out, err) }
         Request::Show => execution::show(store, out, err),
-        Request::InsertToken { p, u } => execution::insert_token(line, p, u, key, random, out, err),
-        Request::FindToken => execution::find_token(line, key, out, err),
-        Request::CountToken => execution::count_token(line, key, out, err),
-        Request::CompactionToken => execution::compaction_token(line, key, out, err),
-        Request::InsertBy { n } => execution::insert_by(line, n, store, key, random, out, err),
-        Request::FindBy => execution::find_by(line, store, key, out, err),
-        Request::CountBy => execution::count_by(line, store, key, out, err),
-        Request::CompactBy => execution::compact_by(line, store, key, random, out, err),
+        Request::InsertToken { p, u } => token_issuance::insert_token(
+            line,
+            p,
+            u,
+            key,
+            random,
+            out,
+            err,
+        ),
+        Request::FindToken => token_issuance::find_token(line, key, out, err),
+        Request::CountToken => token_issuance::count_token(line, key, out, err),
+        Request::CompactionToken => token_issuance::compaction_token(line, key, out, err),
+        Request::InsertBy { n } => token_execution::insert_by(
+            line,
+            n,
+            store,
+            key,
+            random,
+            out,
+            err,
+        ),
+        Request::FindBy => token_execution::find_by(line, store, key, out, err),
+        Request::CountBy => token_execution::count_by(line, store, key, out, err),
+        Request::CompactBy => token_execution::compact_by(line, store, key, random, out, err),
     }
 }

@@ -8,7 +8,7 @@ use Rattle.suite.specs.Program.{program}
 use Rattle.client.specs.Making.{fieldOf}
 use Rattle.request.specs.declared.Request.the-variants.{Count}
 use Rattle.outcome.specs.Told.{told}
-use Rattle.execution.proofs.Arms.{ended}
+use Rattle.report.proofs.Arms.{ended}
 use borrow.Author.Needs.{needs}
 use Rattle.execution.proofs.count.Statement.{statement}
 use Rattle.execution.proofs.count.Tie as tie

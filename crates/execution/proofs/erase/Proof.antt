@@ -8,7 +8,7 @@ use Rattle.suite.specs.Program.{program}
 use Rattle.request.specs.Ids.{idOf}
 use Rattle.request.specs.declared.Request.the-variants.{Erase}
 use Rattle.outcome.specs.Told.{told}
-use Rattle.execution.proofs.Arms.{ended}
+use Rattle.report.proofs.Arms.{ended}
 use borrow.Author.Needs.{needs}
 use Rattle.execution.proofs.erase.Statement.{statement}
 use Rattle.execution.proofs.erase.Tie as tie

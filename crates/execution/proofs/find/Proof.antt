@@ -6,9 +6,10 @@ use native.Mathlib.Omega.{arith}
 use lib.ListN.{length}
 use Rattle.request.specs.declared.Request.the-variants.{Find}
 use Rattle.buffer.proofs.Laws.{said}
-use Rattle.execution.specs.Run.{fieldIn, lent, foundText}
-use Rattle.execution.proofs.Found.{call-room, holds}
-use Rattle.execution.proofs.Arms.{ended, lent-length, found, found-answer, found-output}
+use Rattle.report.specs.Run.{fieldIn, lent, foundText}
+use Rattle.report.proofs.Found.{call-room, holds}
+use Rattle.report.proofs.Arms.{ended, lent-length}
+use Rattle.execution.proofs.Arms.{found, found-answer, found-output}
 use borrow.Author.Needs.{needs}
 use Rattle.execution.proofs.find.Statement.{statement}
 use Rattle.execution.proofs.find.Tie as tie

@@ -7,7 +7,8 @@ use lib.Seq.{length-take-le}
 use Rattle.store.specs.Check.{checkedOf}
 use Rattle.request.specs.Ids.{idsOf}
 use Rattle.request.specs.declared.Request.the-variants.{Insert}
-use Rattle.execution.proofs.Arms.{ended, clipped, rest, inserted}
+use Rattle.report.proofs.Arms.{ended}
+use Rattle.execution.proofs.Arms.{clipped, rest, inserted}
 use borrow.Author.Needs.{needs}
 use Rattle.execution.proofs.insert_ids.Statement.{statement}
 use Rattle.execution.proofs.insert_ids.Tie as tie

@@ -7,8 +7,9 @@ use Rattle.outcome.specs.declared.Outcome.the-variants.{Refused, Done}
 use Rattle.buffer.proofs.Laws.{said, nothing}
 use Rattle.lines.specs.Answer.{answerLine}
 use Rattle.messages.specs.Message.{messageLine}
-use Rattle.execution.specs.Run.{showOf, shownText}
-use Rattle.execution.proofs.Arms.{ended, shown-refused, shown-text}
+use Rattle.report.specs.Run.{showOf, shownText}
+use Rattle.report.proofs.Arms.{ended}
+use Rattle.execution.proofs.Arms.{shown-refused, shown-text}
 use borrow.Author.Needs.{needs}
 use Rattle.execution.proofs.show.Statement.{statement}
 use Rattle.execution.proofs.show.Tie as tie

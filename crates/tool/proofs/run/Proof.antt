@@ -8,7 +8,7 @@ use Rattle.request.specs.Request.{idsIn}
 use Rattle.request.specs.declared.Request.{Request}
 use Rattle.request.specs.declared.Request.the-variants.{New, Key, Compact}
 use Rattle.outcome.specs.declared.Outcome.the-variants.{Done}
-use Rattle.execution.proofs.Arms.{arm, ended, helped, complained, no-number, no-id, found-any, counted-any, erased-any, shown-any, found-by-any, counted-by-any, insert-token-any, find-token-any, count-token-any, compaction-token-any}
+use Rattle.report.proofs.Arms.{arm, ended, helped, complained, no-number, no-id, found-any, counted-any, erased-any, shown-any, found-by-any, counted-by-any, insert-token-any, find-token-any, count-token-any, compaction-token-any}
 use borrow.Author.Needs.{needs}
 use Rattle.tool.proofs.run.Statement.{statement}
 use Rattle.tool.proofs.run.Tie as tie
