@@ -52,10 +52,6 @@ adviceOf LogRows p e l = Log
 adviceOf (OutputLength n) p e l = Output n
 adviceOf NonceCount p e l = Fault
 
--- rows of S are used, and no anchor was written for them
-abbrev pub isWrongKey : ℕ → ℕ → Bool
-isWrongKey logged anchors = cond (ltb logged 1) false (ltb anchors 1)
-
 -- the length that the rules give a store of these sizes; 0 where one is above 4,096
 abbrev pub lengthOf : ℕ → ℕ → ℕ → ℕ
 lengthOf m c s = cond (ltb 4096 m) 0 (cond (ltb 4096 c) 0 (cond (ltb 4096 s) 0 (lengthFor (record { p = 0; m = m; c = c; s = s }))))

@@ -1,11 +1,9 @@
-// What the command-line tool tells of a store and of a refusal: how much room is left, what to do, and
-// whether a compaction was made with another key than the store's.
+// What the command-line tool tells of a store and of a refusal: how much room is left, and what to do.
 ghost use mathlib.Core.Path.{_≡_};
 ghost use Prim.Native.Nat.{_≤_};
 ghost use Rattle.store.specs.Check.{checkedOf};
-ghost use Rattle.advice.specs.Advise.{roomOf, adviceOf, isWrongKey, lengthOf};
+ghost use Rattle.advice.specs.Advise.{roomOf, adviceOf, lengthOf};
 use answer::Refusal;
-use compact::Tally;
 use store::Checked;
 
 // A store's p, how many more entries it has room for, and its used rows of S.
@@ -105,16 +103,6 @@ pub fn advise(r: Refusal, p: u64, entries: usize, logged: usize) -> Advice
         Refusal::OutputLength(n) => Advice::Output(n),
         Refusal::NonceCount => Advice::Fault,
     }
-}
-
-// Whether a compaction found none of the logged counters: then the key is not the store's.
-pub fn is_wrong_key(logged: usize, t: Tally) -> bool
-    ensures { λ r. ⌜ r ≡ isWrongKey logged (t .anchors) ⌝ }
-{
-    if logged < 1 {
-        return false;
-    }
-    t.anchors < 1
 }
 
 // The length of a store of these sizes; 0 where one is above 4,096.

@@ -1,10 +1,11 @@
 -- The rules' view of what the tool tells of a command.
 use Prim.Native.Nat.{ℕ}
 use mathlib.Core.Path.{_≡_}
-use mathlib.Core.Bool.{Bool, true, false}
+use mathlib.Core.Bool.{Bool, true, false, cond}
 use mathlib.Core.List.{List, [], _∷_}
+use lib.Dec.{ltb}
 use Rattle.answer.specs.Answer.{Answer, done, refused, refusal}
-use Rattle.advice.specs.Advise.{roomOf, isWrongKey}
+use Rattle.advice.specs.Advise.{roomOf}
 use Rattle.compact.specs.declared.Tally.{Tally}
 use Rattle.advice.specs.declared.Room.{Room}
 use Rattle.store.specs.Check.{checkedOf}
@@ -24,6 +25,10 @@ told BadWords = refused 0 []
 abbrev pub pickOutcome : Bool → Outcome → Outcome → Outcome
 pickOutcome true a b = a
 pickOutcome false a b = b
+
+-- rows of S are used, and no anchor was written for them
+abbrev pub isWrongKey : ℕ → ℕ → Bool
+isWrongKey logged anchors = cond (ltb logged 1) false (ltb anchors 1)
 
 -- a compaction that was done, where so many rows of S were used before it
 abbrev pub compacted : ℕ → Tally → Outcome

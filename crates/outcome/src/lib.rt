@@ -1,8 +1,9 @@
-// What became of a command of the tool, made of the library's answers: a refusal goes with the room that the store had.
+// What became of a command of the tool, made of the library's answers: a refusal goes with the room that the store had,
+// and a compaction may have been made with another key than the store's.
 ghost use mathlib.Core.Path.{_≡_};
 ghost use Rattle.answer.specs.Answer.{counted, completion};
 ghost use Rattle.compact.specs.Outcome.{compactionAnswer};
-ghost use Rattle.outcome.specs.Told.{told, compacted, withRoom};
+ghost use Rattle.outcome.specs.Told.{told, isWrongKey, compacted, withRoom};
 use advice::Room;
 use answer::Completion;
 use answer::Counted;
@@ -35,11 +36,21 @@ pub fn of_counted(r: Counted, room: Room) -> Outcome
     }
 }
 
+// Whether a compaction found none of the logged counters: then the key is not the store's.
+fn is_wrong_key(logged: usize, t: Tally) -> bool
+    ensures { λ r. ⌜ r ≡ isWrongKey logged (t .anchors) ⌝ }
+{
+    if logged < 1 {
+        return false;
+    }
+    t.anchors < 1
+}
+
 // A compaction that was done, where so many rows of S were used before it.
 fn of_tally(t: Tally, logged: usize) -> Outcome
     ensures { λ o. ⌜ o ≡ compacted logged t ⌝ }
 {
-    if advice::is_wrong_key(logged, t) {
+    if is_wrong_key(logged, t) {
         Outcome::WrongKey(t)
     } else {
         Outcome::Compacted(t)

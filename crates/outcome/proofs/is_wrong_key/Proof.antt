@@ -1,8 +1,8 @@
 -- The test decides.
 use borrow.Author.Tests.{lt-ltb, le-ltb}
 use borrow.Author.Needs.{needs}
-use Rattle.advice.proofs.is_wrong_key.Statement.{statement}
-use Rattle.advice.proofs.is_wrong_key.Tie as tie
+use Rattle.outcome.proofs.is_wrong_key.Statement.{statement}
+use Rattle.outcome.proofs.is_wrong_key.Tie as tie
 
 returns : tie.Need-returns
 returns c = simp (lt-ltb _ _ (c .if1 .taken))
