@@ -4,7 +4,6 @@ use mathlib.Core.Path.{_≡_}
 use mathlib.Core.Bool.{true, false}
 use mathlib.Core.List.{List}
 use lib.ListN.{length}
-use Rattle.files.specs.declared.Loaded.{Loaded}
 use Rattle.request.specs.Request.{requestOf}
 use Rattle.outcome.specs.declared.Outcome.the-variants.{BadWords}
 use Rattle.report.specs.Run.{Ends}
@@ -14,10 +13,6 @@ use Rattle.mazhkuri.specs.declared.Served.{Served}
 -- where the system stood in the way
 abbrev pub unservedOf : Served
 unservedOf = record { ran = record { outcome = BadWords; out = 0; err = 0 }; kept = false }
-
--- no file was asked for, and none is wanting
-abbrev pub Unasked : Loaded → Type 0
-Unasked r = (r .n ≡ 0) × (r .whole ≡ true)
 
 -- a run on what files and the source of randomness gave: nothing tells which bytes these are, so they stand as fields
 pub record ServedBy (line out err : List ℕ) (r : Ran) (outAfter errAfter : List ℕ) : Type 0 where

@@ -4,25 +4,19 @@
 // A command that changes the store makes STORE.lock, reads the store, runs, writes STORE.new, syncs it,
 // renames it to STORE and removes STORE.lock; the answer is printed after that.
 use demand::Needs;
-use files::Loaded;
 use libc::STDERR_FILENO;
 use libc::STDOUT_FILENO;
 use outcome::Outcome;
 use report::Ran;
-use request::token;
 use words::line;
 ghost use mathlib.Core.Path.{_≡_};
 ghost use mathlib.Core.Bool.{true, false};
-ghost use Prim.Native.Nat.{_+_, _≤_, min};
+ghost use Prim.Native.Nat.{_+_, _≤_};
 ghost use lib.ListN.{length, replicate};
-ghost use Rattle.io.specs.Counts.{Counts};
-ghost use Rattle.words.specs.Line.{wordAt};
 ghost use Rattle.request.specs.Request.{requestOf};
-ghost use Rattle.files.specs.System.{OfSystem, OfSystemAt};
-ghost use Rattle.request.specs.Token.{namesFile};
-ghost use Rattle.demand.specs.Needs.{takesKey, takesToken, changes};
+ghost use Rattle.demand.specs.Needs.{changes};
 ghost use Rattle.report.specs.Run.{Ends};
-ghost use Rattle.mazhkuri.specs.Served.{unservedOf, Unasked, ServedIf, Printable};
+ghost use Rattle.mazhkuri.specs.Served.{unservedOf, ServedIf, Printable};
 
 // The longest store, 884,744 bytes, and one byte more: a longer file is refused by its length.
 const SPACE: usize = 884745;
@@ -70,14 +64,6 @@ fn unserved() -> Served
     }
 }
 
-// Gives the store its new bytes, after a change alone.
-fn keep(line: &[u8], store: &[u8], o: Outcome) -> bool
-    requires { ⌜ changes (requestOf (now line)) o ≡ true ⌝ }
-    ensures { λ r. ⌜ OfSystemAt (wordAt 1 (now (line .entry))) r ⌝ }
-{
-    files::replace(line::word(line, 1), store)
-}
-
 // A command on bytes, which are kept where it changed them.
 fn apply(
     line: &[u8],
@@ -96,66 +82,8 @@ fn apply(
     if !demand::changes(request::read(line), o) {
         return Served { ran, kept: true };
     }
-    let kept = keep(line, store, o);
+    let kept = access::keep(line, store, o);
     Served { ran, kept }
-}
-
-// The bytes of the file that the line's token names, where it names one.
-fn token_of(line: &[u8], to: &mut [u8]) -> Loaded
-    ensures { λ r. ⌜ Counts (r .n) (now (to .exit)) ⌝ }
-    ensures { λ r. ⌜ (namesFile (wordAt 3 (now (line .entry))) ≡ false → Unasked r) ⌝ }
-{
-    let word = line::word(line, 3);
-    if !token::names_file(word) {
-        return Loaded { n: 0, whole: true };
-    }
-    files::load(&word[1..], to)
-}
-
-// The bytes of the file with the key or the token, where the request takes one.
-fn key_of(line: &[u8], to: &mut [u8]) -> Loaded
-    ensures { λ r. ⌜ Counts (r .n) (now (to .exit)) ⌝ }
-    ensures { λ r. ⌜ (takesToken (requestOf (now (line .entry))) ≡ false → takesKey (requestOf (now (line .entry))) ≡ false → Unasked r) ⌝ }
-{
-    let q = request::read(line);
-    if demand::takes_token(q) {
-        return token_of(line, to);
-    }
-    if !demand::takes_key(q) {
-        return Loaded { n: 0, whole: true };
-    }
-    files::load(line::word(line, 2), to)
-}
-
-// Room for a store of n bytes, which must not be there.
-fn absent(line: &[u8], n: usize, room: usize) -> Loaded
-    ensures { λ r. ⌜ r .n ≡ min n room ⌝ }
-{
-    let whole = files::is_missing(line::word(line, 1));
-    if !whole {
-        io::write_all(
-            STDERR_FILENO,
-            b"the store is there already, or cannot be looked for: choose another name\n",
-        );
-    }
-    Loaded {
-        n: octets::least(n, room),
-        whole,
-    }
-}
-
-// The store's bytes, or room for a new one's; none where there is no store.
-fn fetch(line: &[u8], needs: Needs, to: &mut [u8]) -> Loaded
-    ensures { λ r. ⌜ Counts (r .n) (now (to .exit)) ⌝ }
-    ensures { λ r. ⌜ (needs ≡ Needs.KeyAlone → Unasked r) ⌝ }
-{
-    if let Needs::KeyAlone = needs {
-        return Loaded { n: 0, whole: true };
-    }
-    let Needs::NewStore(n) = needs else {
-        return files::load(line::word(line, 1), to);
-    };
-    absent(line, n, to.len())
 }
 
 // A command on a store that is read, with a key that is read and random bytes that are drawn where it
@@ -165,13 +93,13 @@ fn on_store(line: &[u8], needs: Needs, out: &mut [u8], err: &mut [u8]) -> Served
     ensures { λ r. ⌜ ServedIf (now (line .entry)) (now (out .entry)) (now (err .entry)) r (now (out .exit)) (now (err .exit)) ⌝ }
 {
     let mut store = space();
-    let got = fetch(line, needs, &mut store);
+    let got = access::fetch(line, needs, &mut store);
     let n = got.n;
     if !got.whole {
         return unserved();
     }
     let mut key = [0u8; 512];
-    let given = key_of(line, &mut key);
+    let given = access::key_of(line, &mut key);
     let k = given.n;
     if !given.whole {
         return unserved();

@@ -4,10 +4,10 @@ use mathlib.Core.Bool.{true≢false}
 use native.Mathlib.Omega.{arith}
 use borrow.Author.Tests.{not-false}
 use Rattle.request.specs.Token.{namesFile}
-use Rattle.mazhkuri.proofs.Laws.{named}
+use Rattle.access.proofs.Laws.{named}
 use borrow.Author.Needs.{needs}
-use Rattle.mazhkuri.proofs.token_of.Statement.{statement}
-use Rattle.mazhkuri.proofs.token_of.Tie as tie
+use Rattle.access.proofs.token_of.Statement.{statement}
+use Rattle.access.proofs.token_of.Tie as tie
 
 returns : tie.Need-returns
 returns c = (search needs, λ h. (refl, refl))

@@ -4,10 +4,10 @@ use mathlib.Core.Path.{refl, sym}
 use native.Mathlib.Omega.{arith}
 use lib.ListN.{length}
 use lib.Seq.{length-take-le}
-use Rattle.mazhkuri.proofs.Laws.{not-alone}
+use Rattle.access.proofs.Laws.{not-alone}
 use borrow.Author.Needs.{needs}
-use Rattle.mazhkuri.proofs.fetch.Statement.{statement}
-use Rattle.mazhkuri.proofs.fetch.Tie as tie
+use Rattle.access.proofs.fetch.Statement.{statement}
+use Rattle.access.proofs.fetch.Tie as tie
 
 returns : tie.Need-returns
 returns c = (search needs, λ h. (refl, refl))

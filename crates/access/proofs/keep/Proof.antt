@@ -4,8 +4,8 @@ use mathlib.Core.Path.{sym, subst}
 use mathlib.Core.List.{List}
 use lib.ListN.{length}
 use borrow.Author.Needs.{needs}
-use Rattle.mazhkuri.proofs.keep.Statement.{statement}
-use Rattle.mazhkuri.proofs.keep.Tie as tie
+use Rattle.access.proofs.keep.Statement.{statement}
+use Rattle.access.proofs.keep.Tie as tie
 
 returns : tie.Need-returns
 returns c = λ h. c .replace .ensures (subst (λ (l : List ℕ). 4096 < length l) (sym (c .before .word .ensures)) h)

@@ -4,8 +4,8 @@ use mathlib.Core.Bool.{true≢false}
 use borrow.Author.Tests.{not-false}
 use Rattle.demand.specs.Needs.{takesKey, takesToken}
 use borrow.Author.Needs.{needs}
-use Rattle.mazhkuri.proofs.key_of.Statement.{statement}
-use Rattle.mazhkuri.proofs.key_of.Tie as tie
+use Rattle.access.proofs.key_of.Statement.{statement}
+use Rattle.access.proofs.key_of.Tie as tie
 
 returns : tie.Need-returns
 returns c = (search needs, λ h k. absurd (true≢false (sym (c .before .before .before .before .if1 .taken) ∙ c .before .before .before .before .before .takes-token .ensures ∙ ap takesToken (c .before .before .before .before .before .before .read .ensures .0) ∙ h)))
