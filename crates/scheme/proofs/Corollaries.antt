@@ -10,8 +10,9 @@ use lib.Dec.{eqb, ltb}
 use lib.ListN.{length}
 use borrow.Author.Tests.{eqb-true, not-false, ltb-false}
 use Rattle.answer.specs.Answer.{Answer, done, refused}
-use Rattle.table.specs.Lists.{same, select, flat, upTo, All}
+use Rattle.table.specs.Lists.{same, select, flat, upTo, All, distinct}
 use Rattle.table.proofs.Counting.{ne-same, neither, select-append}
+use Rattle.table.proofs.Distinct.{distinct-without}
 use Rattle.scheme.specs.Suite.{Suite}
 use Rattle.scheme.specs.Labels.{Field, fieldLengthsBad}
 use Rattle.scheme.specs.Store.{Sizes}
@@ -19,19 +20,16 @@ use Rattle.scheme.specs.Refusals.{idCount, idsIn, lengthNot, insertToken
 use Rattle.answer.specs.Verdict.{Test, verdict, answerOr}
 use Rattle.scheme.specs.Call
 use Rattle.scheme.specs.Call.{Call, Told}
-use Rattle.scheme.specs.Ledger.{Pair, Entry, Ledger, Bounds, empty, entryOf, removed, ledgerInsertVerdict, appended, afterInsert, afterErase, afterCompaction, ledgerIds, ledgerSum, ledgerFindVerdict, ledgerCompactVerdict, nextOr, ledgerStep, ledgerTells}
+use Rattle.scheme.specs.Ledger.{Pair, Entry, Ledger, Bounds, empty, entryOf, removed, ledgerInsertVerdict, appended, afterInsert, afterErase, afterCompaction, ledgerLists, ledgerIds, ledgerSum, ledgerFindVerdict, ledgerCompactVerdict, nextOr, ledgerStep, ledgerTells, ledgerAfter}
 use Rattle.scheme.specs.Claim.{Claim, boundsOf}
-use Rattle.scheme.specs.Corollaries.{Ran, toldAt, accepted, Finds, Keeps, NoIdLost, Query, finding, counting, callOf, CompactionHidden, EraseExact, BringsNot, ErasedGone, Made, ClientsAlike}
+use Rattle.scheme.specs.Corollaries.{Ran, toldAt, accepted, Finds, Keeps, NoIdLost, Query, finding, counting, callOf, CompactionHidden, EraseExact, BringsNot, ErasedGone, FindsOnce, EachIdOnce, Made, ClientsAlike}
 use Rattle.scheme.proofs.Setting.{by-pair}
 use Rattle.scheme.proofs.LedgerLaws.{entry-own, entry-other, entry-removed}
 use Rattle.scheme.proofs.Verdicts.{both-none, verdict-append, passed, map-upTo}
 use Rattle.scheme.proofs.Claim.{claim}
+use Rattle.scheme.proofs.Once.{unseen-distinct, mem-select, select-mem, not-selected, distinct-has, distinct-mem, distinct-no-repeats}
 
 -- ---- the ledger along a list
-
-abbrev ledgerAfter : Bounds → Ledger → List Call → Ledger
-ledgerAfter z l [] = l
-ledgerAfter z l (call ∷ calls) = ledgerAfter z (ledgerStep z l call .next) calls
 
 -- what the ledger tells of the call after a first part
 told-at : (z : Bounds) (l : Ledger) (first : List Call) (call : Call) (rest : List Call)
@@ -61,7 +59,7 @@ clients-alike suite K z calls calls′ told told′ e r r′ =
 -- ---- (b)
 
 same-query : (z : Bounds) (l l′ : Ledger) (query : Query) → l′ .entries ≡ l .entries → ledgerStep z l′ (callOf query) .told ≡ ledgerStep z l (callOf query) .told
-unfolding ledgerStep ledgerFindVerdict ledgerIds ledgerSum
+unfolding ledgerStep ledgerFindVerdict ledgerIds ledgerLists ledgerSum
 same-query z l l′ (finding key f output) e = rw e refl
 same-query z l l′ (counting key f) e = rw e refl
 
@@ -147,24 +145,26 @@ mem-upTo g id (suc n) u h m = rw (flat-upTo g n) (go (eqb u (suc n)) refl (mem-u
         let ne : u ≡ suc n → ⊥ = borrow.Author.Tests.eqb-false u (suc n) e in
         Memᴰ·append-left (g (suc n)) (k (omega (arith, ne)) m)
 
-mem-select : (p : List ℕ → Bool) (id : List ℕ) → p id ≡ true → (l : List (List ℕ)) → List·Memᴰ id l → List·Memᴰ id (select p l)
-mem-select p id e [] m = absurd (mathlib.Core.List.List·Memᴰ·not-nil m)
-mem-select p id e (y ∷ ys) m = go (p y) refl (List·Memᴰ·cases-cons m) (mem-select p id e ys)
-  where
-    go : (b : Bool) → p y ≡ b → (id ≡ y) ⊎ List·Memᴰ id ys → (List·Memᴰ id ys → List·Memᴰ id (select p ys)) → List·Memᴰ id (cond b (y ∷ select p ys) (select p ys))
-    go true h (inl q) k = List·Memᴰ·head q
-    go true h (inr r) k = List·Memᴰ·tail (k r)
-    go false h (inl q) k = absurd (true≢false (sym e ∙ ap p q ∙ h))
-    go false h (inr r) k = k r
-
 -- ---- (c)
 
-erased-ids : (z : Bounds) (l : Ledger) (id : List ℕ) (f : Field) → ledgerIds z (afterErase z l id) f ≡ select (λ y. not (same y id)) (ledgerIds z l f)
-unfolding ledgerIds afterErase
-erased-ids z l id f =
+erased-lists : (z : Bounds) (l : Ledger) (id : List ℕ) (f : Field) → ledgerLists z (afterErase z l id) f ≡ select (λ y. not (same y id)) (ledgerLists z l f)
+unfolding ledgerLists afterErase
+erased-lists z l id f =
     ap flat (map-upTo (z .p) (λ u. entryOf (record { field = f; u = u }) (map (removed id) (l .entries)) .ids) (λ u. select (λ y. not (same y id)) (entryOf (record { field = f; u = u }) (l .entries) .ids))
     (λ u h. unfold removed in ap (λ (e : Entry). e .ids) (entry-removed id (record { field = f; u = u }) (l .entries))))
     ∙ flat-select (λ y. not (same y id)) (λ u. entryOf (record { field = f; u = u }) (l .entries) .ids) (z .p)
+
+-- each once, a find's ids are the distinct ones of the lists
+ids-are : (z : Bounds) (l : Ledger) (f : Field) → ledgerIds z l f ≡ distinct (ledgerLists z l f)
+unfolding ledgerIds
+ids-are z l f = unseen-distinct (ledgerLists z l f)
+
+erased-ids : (z : Bounds) (l : Ledger) (id : List ℕ) (f : Field) → ledgerIds z (afterErase z l id) f ≡ select (λ y. not (same y id)) (ledgerIds z l f)
+erased-ids z l id f =
+    ids-are z (afterErase z l id) f
+    ∙ ap distinct (erased-lists z l id f)
+    ∙ distinct-without id (ledgerLists z l f)
+    ∙ sym (ap (select (λ y. not (same y id))) (ids-are z l f))
 
 erase-next : (z : Bounds) (l : Ledger) (id : List ℕ) → accepted (ledgerStep z l (Call.erase id) .told) ≡ true → ledgerStep z l (Call.erase id) .next ≡ afterErase z l id
 unfolding ledgerStep
@@ -271,8 +271,9 @@ unfolding afterInsert appended
 has-new z l f u ids id m = rw (entry-own (appended z l f u ids) (l .entries)) (Memᴰ·append-right (entryOf (record { field = f; u = u }) (l .entries) .ids) m)
 
 found-has : (z : Bounds) (l : Ledger) (f : Field) (u : ℕ) (id : List ℕ) → u ≤ z .p → Has l (record { field = f; u = u }) id → List·Memᴰ id (ledgerIds z l f)
-unfolding ledgerIds
-found-has z l f u id h m = mem-upTo (λ u. entryOf (record { field = f; u = u }) (l .entries) .ids) id (z .p) u h m
+unfolding ledgerLists
+found-has z l f u id h m =
+    rw (ids-are z l f) (distinct-has id (ledgerLists z l f) (mem-upTo (λ u. entryOf (record { field = f; u = u }) (l .entries) .ids) id (z .p) u h m))
 
 pub no-id-lost : (suite : Suite) → NoIdLost suite
 unfolding NoIdLost
@@ -300,14 +301,6 @@ no-id-lost suite K z first second third key key′ f p u nonce ids nonces output
 
 -- ---- (c), later finds
 
-not-selected : (p : List ℕ → Bool) (id : List ℕ) → p id ≡ false → (l : List (List ℕ)) → List·Memᴰ id (select p l) → ⊥
-not-selected p id e [] m = List·Memᴰ·not-nil m
-not-selected p id e (y ∷ ys) m = go (p y) refl m (not-selected p id e ys)
-  where
-    go : (b : Bool) → p y ≡ b → List·Memᴰ id (cond b (y ∷ select p ys) (select p ys)) → (List·Memᴰ id (select p ys) → ⊥) → ⊥
-    go true h m k = ⊎-elim (λ q. true≢false (sym h ∙ ap p (sym q) ∙ e)) k (List·Memᴰ·cases-cons m)
-    go false h m k = k m
-
 abbrev Lacks : Ledger → List ℕ → Type 0
 Lacks l id = (pr : Pair) → Has l pr id → ⊥
 
@@ -324,14 +317,6 @@ lacks-insert z l id f u ids k h = by-pair (record { field = f; u = u }) (λ pr. 
     let n : List·Memᴰ id (entryOf (record { field = f; u = u }) (l .entries) .ids ++ idsIn ids) = rw (entry-own (appended z l f u ids) (l .entries)) at m in
     ⊎-elim (h (record { field = f; u = u })) k (List·Memᴰ·append-cases (entryOf (record { field = f; u = u }) (l .entries) .ids) n))
     (λ pr ne m. h pr (rw (entry-other (appended z l f u ids) (l .entries) pr ne) at m))
-
-select-mem : (p : List ℕ → Bool) (id : List ℕ) (l : List (List ℕ)) → List·Memᴰ id (select p l) → List·Memᴰ id l
-select-mem p id [] m = m
-select-mem p id (y ∷ ys) m = go (p y) m (select-mem p id ys)
-  where
-    go : (b : Bool) → List·Memᴰ id (cond b (y ∷ select p ys) (select p ys)) → (List·Memᴰ id (select p ys) → List·Memᴰ id ys) → List·Memᴰ id (y ∷ ys)
-    go true m k = ⊎-elim (λ q. List·Memᴰ·head q) (λ n. List·Memᴰ·tail (k n)) (List·Memᴰ·cases-cons m)
-    go false m k = List·Memᴰ·tail (k m)
 
 lacks-step : (z : Bounds) (l : Ledger) (id : List ℕ) (call : Call) → BringsNot id call → Lacks l id → Lacks (ledgerStep z l call .next) id
 unfolding ledgerStep
@@ -364,8 +349,9 @@ none-upTo-mem g id h (suc n) m =
     ⊎-elim (none-upTo-mem g id h n) (h (suc n)) (List·Memᴰ·append-cases (flat (map g (upTo n))) (rw (flat-upTo g n) at m))
 
 found-lacks : (z : Bounds) (l : Ledger) (f : Field) (id : List ℕ) → Lacks l id → List·Memᴰ id (ledgerIds z l f) → ⊥
-unfolding ledgerIds
-found-lacks z l f id h m = none-upTo-mem (λ u. entryOf (record { field = f; u = u }) (l .entries) .ids) id (λ u. h (record { field = f; u = u })) (z .p) m
+unfolding ledgerLists
+found-lacks z l f id h m =
+    none-upTo-mem (λ u. entryOf (record { field = f; u = u }) (l .entries) .ids) id (λ u. h (record { field = f; u = u })) (z .p) (distinct-mem id (ledgerLists z l f) (rw (ids-are z l f) at m))
 
 pub erased-gone : (suite : Suite) → ErasedGone suite
 unfolding ErasedGone
@@ -388,4 +374,21 @@ erased-gone suite K z first second third id key f output told r a k b =
       found = ledgerIds w l₂ f;
       finds = finds-as _ _ output (ledgerIds w l₂ f) (ledgerIds w l₂ f) g refl (find-tells w l₂ key f output (sym (ap accepted g) ∙ b));
       lacks = found-lacks w l₂ f id (lacks-calls w l₁ id second k h₁);
+    }
+
+-- ---- (e)
+
+pub each-id-once : (suite : Suite) → EachIdOnce suite
+unfolding EachIdOnce
+each-id-once suite K z first third key f output told r a =
+    let w = boundsOf z in
+    let l = ledgerAfter w empty first in
+    let e : toldAt told (length first) ≡ ledgerStep w l (Call.find key f output) .told =
+    ap (λ (t : List Told). toldAt t (length first)) (ran suite K z (first ++ (Call.find key f output ∷ third)) told r) ∙ told-at w empty first (Call.find key f output) third in
+    record {
+      found = distinct (ledgerLists w l f);
+      finds = finds-as _ _ output (distinct (ledgerLists w l f)) (ledgerIds w l f) e (ids-are w l f) (find-tells w l key f output (sym (ap accepted e) ∙ a));
+      once = distinct-no-repeats (ledgerLists w l f);
+      has = λ id m. distinct-has id (ledgerLists w l f) m;
+      no-other = λ id m. distinct-mem id (ledgerLists w l f) m;
     }

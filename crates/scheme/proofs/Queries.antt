@@ -10,7 +10,7 @@ use lib.Dec.{ltb}
 use lib.ListN.{length, take, drop, length-append}
 use lib.Seq.{take-at, drop-at, drop-drop}
 use Rattle.answer.specs.Answer.{Answer, done}
-use Rattle.table.specs.Lists.{same, select, count, anyOf, flat, sum, upTo}
+use Rattle.table.specs.Lists.{same, select, count, anyOf, flat, sum, upTo, distinct}
 use Rattle.table.specs.Table.{used, freeWhere}
 use Rattle.table.proofs.Counting.{count-le, Same-refl}
 use Rattle.scheme.specs.Labels.{Field, fieldLengthsBad}
@@ -23,14 +23,15 @@ use Rattle.answer.specs.Verdict.{Test, _⇒_, _⇒_carrying_, verdict, answerOr
 use Rattle.scheme.specs.Erase
 use Rattle.scheme.specs.Erase.{eraseVerdict, isReverse, erasedTags, isErased, erasedStore}
 use Rattle.scheme.specs.Find
-use Rattle.scheme.specs.Find.{shareReading, idsOfShare, idsFound, findVerdict}
+use Rattle.scheme.specs.Find.{shareReading, idsOfShare, idsHeld, idsFound, findVerdict}
 use Rattle.scheme.specs.Count
 use Rattle.scheme.specs.Count.{countVerdict, sumOfCounts}
 use Rattle.scheme.specs.Call
 use Rattle.scheme.specs.Call.{Call, Told}
-use Rattle.scheme.specs.Ledger.{Pair, Entry, Ledger, listed, removed, afterErase, ledgerIds, ledgerSum, ledgerFindVerdict, ledgerStep}
+use Rattle.scheme.specs.Ledger.{Pair, Entry, Ledger, listed, removed, afterErase, ledgerLists, ledgerIds, ledgerSum, ledgerFindVerdict, ledgerStep}
 use Rattle.scheme.specs.Run.{findCall, countCall, Gives}
 use Rattle.scheme.specs.Claim.{boundsOf}
+use Rattle.scheme.proofs.Once.{unseen-distinct}
 use Rattle.scheme.proofs.Setting.{Setting, OK, clOf}
 use Rattle.scheme.proofs.Shape.{free-where-ok, shaped-put, used-le, sizes-is, cut-joined, header-good, marks-is}
 use Rattle.scheme.proofs.Counters.{runOf, reading-is}
@@ -248,9 +249,13 @@ module _ (x : Setting) where
           (ids-to x (s .st .table tableM) (s .st .table tableV) (listed (l .entries)) (listIn l) (madeIn l) (s .entries) (pairAt f u) ok (madeIn l (pairAt f u)) (omega arith)
           ∙ s .entries .gathers (pairAt f u) ok))
 
+      held-is : (output : List ℕ) → idsHeld suite before (findToken suite K f) ≡ ledgerLists (boundsOf z) l f
+      unfolding idsHeld ledgerLists
+      held-is output = rw sizes-are (ap flat (map-upTo (z .p) (idsOfShare suite before (findToken suite K f)) (λ u. listIn l (pairAt f u)) (ids-is output)))
+
       found-is : (output : List ℕ) → idsFound suite before (findToken suite K f) ≡ ledgerIds (boundsOf z) l f
       unfolding idsFound ledgerIds
-      found-is output = rw sizes-are (ap flat (map-upTo (z .p) (idsOfShare suite before (findToken suite K f)) (λ u. listIn l (pairAt f u)) (ids-is output)))
+      found-is output = ap distinct (held-is output) ∙ sym (unseen-distinct (ledgerLists (boundsOf z) l f))
 
       find-verdict : (output : List ℕ) → findVerdict suite before (findToken suite K f) output
           ≡ verdict ((ltb (length output) (16 * length (ledgerIds (boundsOf z) l f)) ⇒ 18 carrying (length (ledgerIds (boundsOf z) l f) ∷ [])) ∷ [])

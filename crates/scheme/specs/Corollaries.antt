@@ -14,6 +14,8 @@ use Rattle.scheme.specs.Call
 use Rattle.scheme.specs.Call.{Call, Told}
 use Rattle.scheme.specs.Run.{Run}
 use Rattle.scheme.specs.Premise.{Premise, KeyFits}
+use Rattle.scheme.specs.Ledger.{empty, ledgerLists, ledgerAfter}
+use Rattle.scheme.specs.Claim.{boundsOf}
 
 -- a list of calls that ran from a fresh store, and what it told
 pub record Ran (suite : Suite) (K : List ℕ) (z : Sizes) (calls : List Call) (told : List Told) : Type 0 where
@@ -120,6 +122,27 @@ ErasedGone suite =
     → All (BringsNot id) second
     → accepted (toldAt told (length first + suc (length second))) ≡ true
     → FindsNoId (toldAt told (length first + suc (length second))) output id
+
+-- no id stands twice
+abbrev pub NoRepeats : List (List ℕ) → Type 0
+NoRepeats [] = Unit {0}
+NoRepeats (x ∷ xs) = (List·Memᴰ x xs → ⊥) × NoRepeats xs
+
+-- a find told each of these ids once, and no other
+pub record FindsOnce (t : Told) (lent : List ℕ) (ids : List (List ℕ)) : Type 0 where
+  pub found : List (List ℕ)
+  pub finds : Finds t lent found
+  pub once : NoRepeats found
+  pub has : (id : List ℕ) → List·Memᴰ id ids → List·Memᴰ id found
+  pub no-other : (id : List ℕ) → List·Memᴰ id found → List·Memᴰ id ids
+
+-- (e) no find's output has an id twice, and it has every id of the field's lists, and no other [02:W1.1]
+unfoldable pub EachIdOnce : Suite → Type 0
+EachIdOnce suite =
+    (K : List ℕ) (z : Sizes) (first third : List Call) (key : List ℕ) (f : Field) (output : List ℕ) (told : List Told)
+    → Ran suite K z (first ++ (Call.find key f output ∷ third)) told
+    → accepted (toldAt told (length first)) ≡ true
+    → FindsOnce (toldAt told (length first)) output (ledgerLists (boundsOf z) (ledgerAfter (boundsOf z) empty first) f)
 
 -- a call made by a client
 pub record Made : Type 0 where

@@ -4,7 +4,7 @@ use mathlib.Core.Option.{Option, none, some}
 use mathlib.Core.List.{List, [], _∷_, _++_, map}
 use lib.Dec.{ltb}
 use lib.ListN.{length, drop}
-use Rattle.table.specs.Lists.{anyOf, flat, upTo}
+use Rattle.table.specs.Lists.{anyOf, flat, upTo, distinct}
 use Rattle.table.specs.Table.{Table, lookup}
 use Rattle.answer.specs.Answer.{Answer, done}
 use Rattle.scheme.specs.Suite.{Suite}
@@ -35,11 +35,15 @@ module _ (suite : Suite) (before token : List ℕ) where
   idsOfShare u =
       idsTo suite (share suite (findMT token) u) (share suite (findME token) u) (cut before .table tableM) (countOf (shareReading suite before (findCL token) u))
 
+  unfoldable pub idsHeld : List (List ℕ)
+  idsHeld = flat (map idsOfShare (upTo (sizesOf before .p)))
+
+  -- each id once, at the first place where it would have come [02:W1.1 W1.2]
   unfoldable pub idsFound : List (List ℕ)
-  idsFound = flat (map idsOfShare (upTo (sizesOf before .p)))
+  idsFound = distinct idsHeld
 
 module _ (suite : Suite) (before token output : List ℕ) where
-  -- 6, then 10 and 11, then 13 with every share read first, and 18 [01:RI7 RS6 RS11]
+  -- 6, then 10 and 11, then 13 with every share read first, and 18, which counts each id once [01:RI7 RS6 RS11] [02:W1.3]
   unfoldable pub findVerdict : Option Answer
   findVerdict = verdict (tokenTests findTokenLength token ++ (stateTests before ++
       ((anyOf (λ u. damaged (shareReading suite before (findCL token) u)) (upTo (sizesOf before .p)) ⇒ 13)

@@ -67,6 +67,11 @@ H l = length (listed (l .entries))
 unfoldable pub removed : List ℕ → Entry → Entry
 removed id e = record { pair = e .pair; ids = select (λ x. not (same x id)) (e .ids); made = e .made }
 
+-- the ids of a list at their first places, where some were seen before it
+abbrev pub unseen : List (List ℕ) → List (List ℕ) → List (List ℕ)
+unseen seen [] = []
+unseen seen (x ∷ xs) = cond (anyOf (same x) seen) (unseen seen xs) (x ∷ unseen (x ∷ seen) xs)
+
 -- the set with a pair put in
 unfoldable pub withPair : Pair → List Pair → List Pair
 withPair pr T = cond (anyOf (samePair pr) T) T (pr ∷ T)
@@ -107,9 +112,12 @@ module _ (z : Bounds) (l : Ledger) where
   unfoldable pub afterErase : List ℕ → Ledger
   afterErase id = record { entries = map (removed id) (l .entries); W = l .W; T = l .T; A = l .A }
 
-  -- find: lists for u = 0 to p joined [01:LG10]; count: sum of made [01:LG11]
+  -- find: lists for u = 0 to p joined [01:LG10], without later repeats [02:W1.5]; count: sum of made [01:LG11]
+  unfoldable pub ledgerLists : Field → List (List ℕ)
+  ledgerLists f = flat (map (λ u. entryOf (record { field = f; u = u }) (l .entries) .ids) (upTo (z .p)))
+
   unfoldable pub ledgerIds : Field → List (List ℕ)
-  ledgerIds f = flat (map (λ u. entryOf (record { field = f; u = u }) (l .entries) .ids) (upTo (z .p)))
+  ledgerIds f = unseen [] (ledgerLists f)
 
   unfoldable pub ledgerSum : Field → ℕ
   ledgerSum f = sum (map (λ u. entryOf (record { field = f; u = u }) (l .entries) .made) (upTo (z .p)))
@@ -162,3 +170,8 @@ module _ (z : Bounds) (l : Ledger) where
 abbrev pub ledgerTells : Bounds → Ledger → List Call → List Told
 ledgerTells z l [] = []
 ledgerTells z l (call ∷ calls) = ledgerStep z l call .told ∷ ledgerTells z (ledgerStep z l call .next) calls
+
+-- the ledger after a list of calls
+abbrev pub ledgerAfter : Bounds → Ledger → List Call → Ledger
+ledgerAfter z l [] = l
+ledgerAfter z l (call ∷ calls) = ledgerAfter z (ledgerStep z l call .next) calls
