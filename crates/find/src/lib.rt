@@ -1,27 +1,39 @@
-// Find: the ids of a field's entries, share by share and address by address (document 01,
-// "Operations"). All shares are read first; then one pass over the addresses writes the ids, where the
-// output surely has room, and else a pass that only counts them comes before it. Both are in ids.
+// Find: the ids of a field's entries, share by share and address by address (document 01, "Operations"),
+// each once (document 02, "Each document once in a find"). All shares are read first; then one pass over
+// the addresses gathers the different ids, and 18 is judged by their number before any is written.
 ghost use mathlib.Core.Path.{_≡_};
-ghost use Prim.Native.Nat.{_*_, _≤_};
-ghost use lib.ListN.{length};
+ghost use mathlib.Core.List.{map};
+ghost use Prim.Native.Nat.{_+_, _*_, _≤_};
+ghost use lib.ListN.{length, getD};
 ghost use Rattle.answer.specs.Answer.{counted};
+ghost use Rattle.table.specs.Lists.{sum, upTo, distinct};
 ghost use Rattle.table.specs.Table.{rows};
-ghost use Rattle.scheme.specs.Store.{tableC, widthOf};
+ghost use Rattle.scheme.specs.Store.{tableC, tableM, widthOf};
 ghost use Rattle.scheme.specs.Keys.{findTokenLength, findCL};
 ghost use Rattle.scheme.specs.Find.{shareReading, find as findOf};
 ghost use Rattle.suite.specs.Program.{program};
 ghost use Rattle.store.specs.Check.{checkedOf};
 ghost use Rattle.counter.specs.Outcome.{shareRead};
+ghost use Rattle.ids.specs.Ids.{idsIn};
 ghost use Rattle.find.specs.Counts.{countsOf};
+ghost use Rattle.find.specs.Given.{givenAnswer, givenOutput, Empty};
 use answer::Counted;
 use answer::Refusal;
+use chains::BUCKETS;
+use chains::FIRST_BYTES;
 use counter::Reading;
 use format::FIND_TOKEN;
 use format::ID;
 use hmac::Keyed;
 use ids::EntryKeys;
 use store::Checked;
+use store::MOST_ROWS;
 use store::Shape;
+
+// An index for as many ids as a table has rows, and for as many in each share.
+const FEW: usize = BUCKETS + 2 * MOST_ROWS;
+
+const MANY: usize = BUCKETS + 2 * 16 * MOST_ROWS;
 
 // What the shares count, and the sum; or that one is damaged.
 struct Counts {
@@ -72,6 +84,65 @@ fn counts_in(store: &[u8], z: Shape, token: &[u8]) -> Counts
     read_all(&store[a..e], c.rows, clx, z.p)
 }
 
+// The ids of the shares 0 to p, by their counts, each once, at the start of the output, and how many; or
+// 18 with their number. The index has none yet, and room for all. [01:OP6 OP7 RS11] [02:W1.1 W1.3]
+fn give(
+    t: &[u8],
+    m: usize,
+    keys: EntryKeys,
+    of: [u64; 16],
+    p: u64,
+    index: &mut [u32],
+    output: &mut [u8],
+) -> Counted
+    requires { ⌜ (length (now t) ≡ widthOf tableM * m) × ((m ≤ 4096) × ((p ≤ 15) × Empty (now index) (length (distinct (idsIn keys (rows (widthOf tableM) m (now t)) of (p + 1)))))) ⌝ }
+    ensures { λ r. ⌜ counted r ≡ givenAnswer (distinct (idsIn keys (rows (widthOf tableM) m (now (t .entry))) of (p + 1))) (now (output .entry)) ⌝ }
+    ensures { λ _. ⌜ now (output .exit) ≡ givenOutput (distinct (idsIn keys (rows (widthOf tableM) m (now (t .entry))) of (p + 1))) (now (output .entry)) ⌝ }
+{
+    let mut ids = [0u8; FIRST_BYTES];
+    let n = ids::gather(t, m, keys, of, p, index, &mut ids);
+    let room = output.len() / ID;
+    if room < n {
+        return Counted::Refused(Refusal::OutputLength(n as u64));
+    }
+    chains::write(t, m, keys.me, index, &ids, n, output);
+    Counted::Number(n as u64)
+}
+
+// The same, where the counts sum to no more than a table has rows: a small index serves.
+fn give_few(
+    t: &[u8],
+    m: usize,
+    keys: EntryKeys,
+    of: [u64; 16],
+    p: u64,
+    output: &mut [u8],
+) -> Counted
+    requires { ⌜ (length (now t) ≡ widthOf tableM * m) × ((m ≤ 4096) × ((p ≤ 15) × (sum (map (λ u. getD of u 0) (upTo p)) ≤ 4096))) ⌝ }
+    ensures { λ r. ⌜ counted r ≡ givenAnswer (distinct (idsIn keys (rows (widthOf tableM) m (now (t .entry))) of (p + 1))) (now (output .entry)) ⌝ }
+    ensures { λ _. ⌜ now (output .exit) ≡ givenOutput (distinct (idsIn keys (rows (widthOf tableM) m (now (t .entry))) of (p + 1))) (now (output .entry)) ⌝ }
+{
+    let mut index = [0u32; FEW];
+    give(t, m, keys, of, p, &mut index, output)
+}
+
+// The same, whatever the counts: m different ids in each share at the most.
+fn give_many(
+    t: &[u8],
+    m: usize,
+    keys: EntryKeys,
+    of: [u64; 16],
+    p: u64,
+    output: &mut [u8],
+) -> Counted
+    requires { ⌜ (length (now t) ≡ widthOf tableM * m) × ((m ≤ 4096) × (p ≤ 15)) ⌝ }
+    ensures { λ r. ⌜ counted r ≡ givenAnswer (distinct (idsIn keys (rows (widthOf tableM) m (now (t .entry))) of (p + 1))) (now (output .entry)) ⌝ }
+    ensures { λ _. ⌜ now (output .exit) ≡ givenOutput (distinct (idsIn keys (rows (widthOf tableM) m (now (t .entry))) of (p + 1))) (now (output .entry)) ⌝ }
+{
+    let mut index = [0u32; MANY];
+    give(t, m, keys, of, p, &mut index, output)
+}
+
 // Find in a store that passed the checks, with a token of its length: refused by 13 and 18.
 // [01:RS6 RS11]
 fn find_in(store: &[u8], z: Shape, token: &[u8], output: &mut [u8]) -> Counted
@@ -90,15 +161,10 @@ fn find_in(store: &[u8], z: Shape, token: &[u8], output: &mut [u8]) -> Counted
     let me = hmac::prepare(&token[32..64]);
     let keys = EntryKeys { mt, me };
     let of = counts.of;
-    let room = (output.len() / ID) as u64;
-    if room < counts.sum {
-        let found = ids::found_in_all(&store[a..e], m.rows, keys, of, z.p);
-        if room < found {
-            return Counted::Refused(Refusal::OutputLength(found));
-        }
+    if counts.sum <= MOST_ROWS as u64 {
+        return give_few(&store[a..e], m.rows, keys, of, z.p, output);
     }
-    let n = ids::write_all(&store[a..e], m.rows, keys, of, z.p, output);
-    Counted::Number(n as u64)
+    give_many(&store[a..e], m.rows, keys, of, z.p, output)
 }
 
 // The ids of all shares at the start of the output, and how many: refused by 6, 10, 11, 13 and 18, with

@@ -1,47 +1,57 @@
--- The ids that are held and how many, at one address, in one share, in all shares (document 01, "Operations": find). The laws
--- in proofs/Found.antt say that these are the scheme's.
-use Prim.Native.Nat.{ℕ, zero, suc, _+_}
-use mathlib.Core.List.{List, [], _++_, map}
+-- The ids at addresses, of shares (document 01, "Operations": find), and what is kept of them when each is noted where it is met
+-- (document 02, "Each document once in a find"). The laws in proofs/ say that the ids are the scheme's, and those kept the distinct.
+use Prim.Native.Nat.{ℕ, zero, suc, _+_, _*_}
+use mathlib.Core.Path.{_≡_}
+use mathlib.Core.Bool.{cond}
+use mathlib.Core.List.{List, [], _++_}
 use lib.ListN.{getD}
-use Rattle.table.specs.Lists.{bit, flat, sum, upTo}
-use Rattle.table.specs.Table.{Table, lookup, holds}
+use Rattle.table.specs.Table.{Table, lookup, holds, placeOf}
 use Rattle.hmac.specs.declared.Keyed.{Keyed}
 use Rattle.scheme.specs.Store.{entryTag}
 use Rattle.scheme.specs.Find.{idOf}
 use Rattle.suite.specs.Program.{program}
 use Rattle.format.specs.Tags.{entryTagBy, numberedBy}
+use Rattle.chains.specs.Chains.{Kept, noted}
 use Rattle.ids.specs.declared.EntryKeys.{EntryKeys}
+use Rattle.ids.specs.declared.Share.{Share}
 
 -- the tags by address
 abbrev pub entryTags : Keyed → ℕ → List ℕ
 entryTags mt a = entryTagBy mt (record { 0 = a })
 
--- at one address: a missing one is skipped, a held one gives its id [01:OP6]
-unfoldable pub foundAt : (ℕ → List ℕ) → Table → ℕ → ℕ
-foundAt tag t a = bit (holds (tag a) t)
+-- a share's keys
+pub record ShareOf (keys : EntryKeys) (u : ℕ) (s : Share) : Type 0 where
+  pub number : s .u ≡ u
+  pub tags : entryTags (s .mt) ≡ entryTag program (numberedBy (keys .mt) u)
+  pub me : s .me ≡ numberedBy (keys .me) u
 
-unfoldable pub idAt : (ℕ → List ℕ) → List ℕ → Table → ℕ → List (List ℕ)
-idAt tag me t a = idOf program me (lookup (tag a) t)
+module _ (keys : EntryKeys) (t : Table) where
+  -- the tag at an address of share u
+  abbrev pub tagOf : ℕ → ℕ → List ℕ
+  tagOf u a = entryTag program (numberedBy (keys .mt) u) a
 
--- at addresses 1 to n
-unfoldable pub foundTo : (ℕ → List ℕ) → Table → ℕ → ℕ
-foundTo tag t zero = 0
-foundTo tag t (suc n) = foundTo tag t n + foundAt tag t (suc n)
+  -- at one address: a missing one is skipped, a held one gives its id [01:OP6]
+  unfoldable pub idAt : ℕ → ℕ → List (List ℕ)
+  idAt u a = idOf program (numberedBy (keys .me) u) (lookup (tagOf u a) t)
 
-unfoldable pub idsBy : (ℕ → List ℕ) → List ℕ → Table → ℕ → List (List ℕ)
-idsBy tag me t zero = []
-idsBy tag me t (suc n) = idsBy tag me t n ++ idAt tag me t (suc n)
+  -- at addresses 1 to n
+  unfoldable pub idsTo : ℕ → ℕ → List (List ℕ)
+  idsTo u zero = []
+  idsTo u (suc n) = idsTo u n ++ idAt u (suc n)
 
--- at addresses 1 to n of share u
-unfoldable pub foundOf : EntryKeys → Table → ℕ → ℕ → ℕ
-foundOf keys t u n = foundTo (entryTag program (numberedBy (keys .mt) u)) t n
+  -- of the shares below n, by their counts
+  unfoldable pub idsIn : List ℕ → ℕ → List (List ℕ)
+  idsIn of zero = []
+  idsIn of (suc n) = idsIn of n ++ idsTo n (getD of n 0)
 
-unfoldable pub idsOf : EntryKeys → Table → ℕ → ℕ → List (List ℕ)
-idsOf keys t u n = idsBy (entryTag program (numberedBy (keys .mt) u)) (numberedBy (keys .me) u) t n
+  -- what is kept, with the id at one address, at addresses 1 to n, of the shares below n [02:W1.1 W1.2]
+  unfoldable pub notedAt : ℕ → ℕ → Kept → Kept
+  notedAt u a k = cond (holds (tagOf u a) t) (noted (keys .me) t (4096 * u + placeOf (tagOf u a) t) k) k
 
--- of shares 0 to p, by their counts
-unfoldable pub foundIn : EntryKeys → Table → List ℕ → ℕ → ℕ
-foundIn keys t of p = sum (map (λ u. foundOf keys t u (getD of u 0)) (upTo p))
+  unfoldable pub notedTo : ℕ → ℕ → Kept → Kept
+  notedTo u zero k = k
+  notedTo u (suc n) k = notedAt u (suc n) (notedTo u n k)
 
-unfoldable pub idsIn : EntryKeys → Table → List ℕ → ℕ → List (List ℕ)
-idsIn keys t of p = flat (map (λ u. idsOf keys t u (getD of u 0)) (upTo p))
+  unfoldable pub notedIn : List ℕ → ℕ → Kept → Kept
+  notedIn of zero k = k
+  notedIn of (suc n) k = notedTo n (getD of n 0) (notedIn of n k)

@@ -10,6 +10,7 @@ use lib.Dec.{ltb}
 use lib.ListN.{length, length-append}
 use borrow.Author.Tests.{ltb-true, ltb-false}
 use Rattle.table.specs.Lists.{anyOf, flat, sum, upTo}
+use Rattle.table.proofs.Counting.{any-append}
 
 abbrev pub below : ℕ → List ℕ
 below zero = []
@@ -74,15 +75,6 @@ sum-grows f = grows (λ n. sum (map f (below n))) (λ n. omega (arith, sum-next 
 
 -- ---- tests
 
-any-append : (p : ℕ → Bool) (l r : List ℕ) → anyOf p (l ++ r) ≡ (anyOf p l || anyOf p r)
-any-append p [] r = refl
-any-append p (x ∷ xs) r = go (p x) (any-append p xs r)
-  where
-    go : (b : Bool) → anyOf p (xs ++ r) ≡ (anyOf p xs || anyOf p r) → (b || anyOf p (xs ++ r)) ≡ ((b || anyOf p xs) || anyOf p r)
-    go true e = refl
-    go false e = e
-
--- none so far, and not the next one
 pub none-next : (p : ℕ → Bool) (n : ℕ) → anyOf p (below n) ≡ false → p n ≡ false → anyOf p (below (suc n)) ≡ false
 none-next p n e f = any-append p (below n) (n ∷ []) ∙ rw (e, f) refl
 

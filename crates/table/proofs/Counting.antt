@@ -152,6 +152,14 @@ module _ {A : Type 0} where
   all-map h [] a = tt
   all-map h (x ∷ xs) a = (h x (a .0), all-map h xs (a .1))
 
+  pub any-append : (p : A → Bool) (l r : List A) → anyOf p (l ++ r) ≡ (anyOf p l || anyOf p r)
+  any-append p [] r = refl
+  any-append p (x ∷ xs) r = go (p x) (any-append p xs r)
+    where
+      go : (b : Bool) → anyOf p (xs ++ r) ≡ (anyOf p xs || anyOf p r) → (b || anyOf p (xs ++ r)) ≡ ((b || anyOf p xs) || anyOf p r)
+      go true e = refl
+      go false e = e
+
   -- a test that one element passes counts at least one
   pub any-count : (p : A → Bool) (l : List A) → anyOf p l ≡ true → 1 ≤ count p l
   any-count p [] e = absurd (true≢false (sym e))

@@ -2,12 +2,12 @@
 use Prim.Native.Nat.{ℕ, zero, suc, _+_, _≤_}
 use mathlib.Core.Path.{_≡_, refl, sym, ap, _∙_}
 use mathlib.Core.Bool.{Bool, true, false, cond, not, _&&_, _||_, true≢false, and-false, not-and-self}
-use mathlib.Core.List.{List, [], _∷_}
+use mathlib.Core.List.{List, [], _∷_, _++_, append-nil}
 use native.Mathlib.Nat.{zero-add}
 use native.Mathlib.Omega.{arith}
 use lib.ListN.{length}
-use Rattle.table.specs.Lists.{bit, same, select, count, anyOf, Same, distinct}
-use Rattle.table.proofs.Counting.{same-true, same-refl, ne-same, count-select, count-split, count-ext, count-none, any-count, count-any, Same-select, same-length}
+use Rattle.table.specs.Lists.{bit, same, select, count, anyOf, All, Same, distinct}
+use Rattle.table.proofs.Counting.{same-true, same-refl, same-sym, ne-same, count-select, count-split, count-ext, count-none, select-append, any-count, none-any, count-any, Same-select, same-length}
 
 abbrev pub without : List ℕ → List (List ℕ) → List (List ℕ)
 without x l = select (λ y. not (same y x)) l
@@ -121,3 +121,50 @@ distinct-more x l =
     let a = distinct-split x l in
     let b : length (without x (distinct l)) ≡ length (distinct (without x l)) = ap length (sym (distinct-without x l)) in
     omega arith
+
+-- one element more at the end: it comes last, unless it was there
+pub distinct-end : (x : List ℕ) (l : List (List ℕ)) → distinct (l ++ (x ∷ [])) ≡ cond (anyOf (λ y. same y x) l) (distinct l) (distinct l ++ (x ∷ []))
+distinct-end x [] = refl
+distinct-end x (z ∷ zs) = ap (λ (r : List (List ℕ)). z ∷ without z r) (distinct-end x zs) ∙ go (anyOf (λ y. same y x) zs) (same z x) refl
+  where
+    more : without z (distinct zs ++ (x ∷ [])) ≡ without z (distinct zs) ++ cond (not (same x z)) (x ∷ []) []
+    more = select-append (λ y. not (same y z)) (distinct zs) (x ∷ [])
+
+    go : (a b : Bool) → same z x ≡ b → z ∷ without z (cond a (distinct zs) (distinct zs ++ (x ∷ [])))
+        ≡ cond (b || a) (z ∷ without z (distinct zs)) ((z ∷ without z (distinct zs)) ++ (x ∷ []))
+    go true true h = refl
+    go true false h = refl
+    go false true h = ap (λ (r : List (List ℕ)). z ∷ r) (more ∙ rw (same-sym x z ∙ h) (append-nil (without z (distinct zs))))
+    go false false h = ap (λ (r : List (List ℕ)). z ∷ r) (more ∙ rw (same-sym x z ∙ h) refl)
+
+pub any-distinct : (x : List ℕ) (l : List (List ℕ)) → anyOf (λ y. same y x) (distinct l) ≡ anyOf (λ y. same y x) l
+any-distinct x l = go (anyOf (λ y. same y x) l) (distinct-once x l)
+  where
+    go : (b : Bool) → count (λ y. same y x) (distinct l) ≡ bit b → anyOf (λ y. same y x) (distinct l) ≡ b
+    go true e = count-any (λ y. same y x) (distinct l) (omega arith)
+    go false e = none-any (λ y. same y x) (distinct l) e
+
+-- no more than the list has, and no more than any list that has them all
+pub distinct-few : (l : List (List ℕ)) → length (distinct l) ≤ length l
+distinct-few [] = omega arith
+distinct-few (x ∷ xs) = omega (arith, distinct-few xs, count-split (λ y. same y x) (distinct xs))
+
+abbrev pub Within : List (List ℕ) → List (List ℕ) → Type 0
+Within r l = All (λ x. anyOf (λ y. same y x) r ≡ true) l
+
+within-without : (y : List ℕ) (ys l : List (List ℕ)) → Within (y ∷ ys) l → Within ys (without y l)
+within-without y ys [] h = tt
+within-without y ys (x ∷ xs) h = go (same x y) refl (h .0) (within-without y ys xs (h .1))
+  where
+    go : (b : Bool) → same x y ≡ b → (same y x || anyOf (λ z. same z x) ys) ≡ true → Within ys (without y xs) → Within ys (cond (not b) (x ∷ without y xs) (without y xs))
+    go true e k w = w
+    go false e k w = (sym (rw (same-sym y x ∙ e) refl) ∙ k, w)
+
+pub distinct-within : (r l : List (List ℕ)) → Within r l → length (distinct l) ≤ length r
+distinct-within [] [] h = omega arith
+distinct-within [] (x ∷ xs) h = absurd (true≢false (sym (h .0)))
+distinct-within (y ∷ ys) l h = go (anyOf (λ z. same z y) l) (distinct-split y l) (distinct-within ys (without y l) (within-without y ys l h))
+  where
+    go : (b : Bool) → length (distinct l) ≡ bit b + length (distinct (without y l)) → length (distinct (without y l)) ≤ length ys → length (distinct l) ≤ suc (length ys)
+    go true e k = omega arith
+    go false e k = omega arith

@@ -1,0 +1,248 @@
+-- An id put at the head of its bucket leaves the chains whole, and the ids that are kept are the distinct ones of those noted.
+use Prim.Native.Nat.{ℕ, zero, suc, _+_, _*_, _-_, _%_, _≤_, _<_}
+use mathlib.Core.Path.{_≡_, refl, sym, ap, ap₂, subst, _∙_}
+use mathlib.Core.Bool.{Bool, true, false, cond}
+use mathlib.Core.List.{List, [], _∷_, _++_}
+use native.Mathlib.Nat.{not-suc-le-zero}
+use native.Mathlib.Numerals.{add-one}
+use native.Mathlib.Omega.{arith}
+use lib.Dec.{eqb, ltb}
+use lib.ListN.{length, getD, set, take, drop, replicate, length-set}
+use lib.Seq.{getD-set-same, getD-set-other, take-take}
+use borrow.Author.Tests.{eqb-true, eqb-false, lt-ltb, ltb-true, ltb-false}
+use Rattle.octets.specs.Part.{written}
+use Rattle.octets.proofs.Parts.{length-written, take-back, part-back}
+use Rattle.table.specs.Lists.{same, anyOf, distinct}
+use Rattle.table.specs.Table.{Table}
+use Rattle.table.proofs.Walk.{drop-take}
+use Rattle.table.proofs.Distinct.{distinct-end, any-distinct}
+use Rattle.hmac.specs.declared.Keyed.{Keyed}
+use Rattle.chains.specs.Chains.{idBy, Kept, kept, rowAt, linkAt, keptIds, met, bucketOf, linked, firstIds, added, noted, lastIn, Readable, Chained}
+use Rattle.chains.proofs.Chains.{last-alike, RowsM, id-wide, idOf}
+
+bucket-below : (x : List ℕ) → bucketOf x < 4096
+unfolding bucketOf
+bucket-below x = omega arith
+
+-- ---- the index with an id more
+
+module _ (index : List ℕ) (n r b : ℕ) (hb : b < 4096) (room : 4096 + 2 * n + 2 ≤ length index) where
+  one : List ℕ
+  one = set index (4096 + 2 * n) r
+
+  two : List ℕ
+  two = set one (4096 + 2 * n + 1) (getD one b 0)
+
+  length-two : length two ≡ length index
+  unfolding one two
+  length-two = length-set one (4096 + 2 * n + 1) (getD one b 0) ∙ length-set index (4096 + 2 * n) r
+
+  length-linked : length (linked index n r b) ≡ length index
+  unfolding linked one two
+  length-linked = length-set two b (n + 1) ∙ length-two
+
+  -- elsewhere it is as it was
+  linked-other : (j : ℕ) → (j ≡ b → ⊥) → (j ≡ 4096 + 2 * n → ⊥) → (j ≡ 4096 + 2 * n + 1 → ⊥) → getD (linked index n r b) j 0 ≡ getD index j 0
+  unfolding linked one two
+  linked-other j e f g =
+      getD-set-other two b j (n + 1) 0 e ∙ getD-set-other one (4096 + 2 * n + 1) j (getD one b 0) 0 g ∙ getD-set-other index (4096 + 2 * n) j r 0 f
+
+  linked-row : rowAt (linked index n r b) n ≡ r
+  unfolding linked one two
+  linked-row =
+      getD-set-other two b (4096 + 2 * n) (n + 1) 0 (λ q. absurd (omega arith))
+      ∙ getD-set-other one (4096 + 2 * n + 1) (4096 + 2 * n) (getD one b 0) 0 (λ q. absurd (omega arith))
+      ∙ getD-set-same index (4096 + 2 * n) r 0 (omega arith)
+
+  linked-link : linkAt (linked index n r b) n ≡ getD index b 0
+  unfolding linked one two
+  linked-link =
+      getD-set-other two b (4096 + 2 * n + 1) (n + 1) 0 (λ q. absurd (omega arith))
+      ∙ getD-set-same one (4096 + 2 * n + 1) (getD one b 0) 0 (omega (arith, length-set index (4096 + 2 * n) r))
+      ∙ getD-set-other index (4096 + 2 * n) b r 0 (λ q. absurd (omega arith))
+
+  linked-head : getD (linked index n r b) b 0 ≡ n + 1
+  unfolding linked one two
+  linked-head = getD-set-same two b (n + 1) 0 (omega (arith, length-two))
+
+  rows-before : (i : ℕ) → i < n → rowAt (linked index n r b) i ≡ rowAt index i
+  rows-before i h = linked-other (4096 + 2 * i) (λ q. absurd (omega arith)) (λ q. absurd (omega arith)) (λ q. absurd (omega arith))
+
+  links-before : (i : ℕ) → i < n → linkAt (linked index n r b) i ≡ linkAt index i
+  links-before i h = linked-other (4096 + 2 * i + 1) (λ q. absurd (omega arith)) (λ q. absurd (omega arith)) (λ q. absurd (omega arith))
+
+kept-alike : (me : Keyed) (t : Table) (index index′ : List ℕ) (n : ℕ) → ((i : ℕ) → i < n → rowAt index′ i ≡ rowAt index i) → keptIds me t index′ n ≡ keptIds me t index n
+unfolding keptIds
+kept-alike me t index index′ zero h = refl
+kept-alike me t index index′ (suc n) h =
+    ap₂ (λ (l : List (List ℕ)) (r : ℕ). l ++ (idBy me t r ∷ [])) (kept-alike me t index index′ n (λ i l. h i (omega arith))) (h n (omega arith))
+
+-- ---- the bytes of the first ids
+
+module _ (ids : List ℕ) (n : ℕ) (x : List ℕ) (room : length ids ≡ 65536) (wide : length x ≡ 16) where
+  first-long : length (firstIds ids n x) ≡ 65536
+  unfolding firstIds
+  first-long = go (ltb n 4096) refl
+    where
+      go : (b : Bool) → ltb n 4096 ≡ b → length (cond b (written ids (16 * n) x) ids) ≡ 65536
+      go true e = length-written ids x (16 * n) (omega (arith, ltb-true n 4096 e)) ∙ room
+      go false e = room
+
+  first-before : (i : ℕ) → i < n → i < 4096 → take 16 (drop (16 * i) (firstIds ids n x)) ≡ take 16 (drop (16 * i) ids)
+  unfolding firstIds
+  first-before i h k = go (ltb n 4096) refl
+    where
+      front : (l : List ℕ) → take 16 (drop (16 * i) (take (16 * n) l)) ≡ take 16 (drop (16 * i) l)
+      front l = ap (take 16) (drop-take (16 * i) (16 * n) l) ∙ take-take 16 (16 * n - 16 * i) (drop (16 * i) l) (omega arith)
+
+      go : (b : Bool) → ltb n 4096 ≡ b → take 16 (drop (16 * i) (cond b (written ids (16 * n) x) ids)) ≡ take 16 (drop (16 * i) ids)
+      go true e =
+          sym (front (written ids (16 * n) x))
+          ∙ ap (λ (l : List ℕ). take 16 (drop (16 * i) l)) (take-back ids (16 * n) (16 * n + length x) x (omega arith) (omega (arith, ltb-true n 4096 e)) (omega arith))
+          ∙ front ids
+      go false e = refl
+
+  first-here : n < 4096 → take 16 (drop (16 * n) (firstIds ids n x)) ≡ x
+  unfolding firstIds
+  first-here h =
+      ap (λ (b : Bool). take 16 (drop (16 * n) (cond b (written ids (16 * n) x) ids))) (lt-ltb n 4096 h)
+      ∙ ap (λ (k : ℕ). take k (drop (16 * n) (written ids (16 * n) x))) (sym part)
+      ∙ part-back ids (16 * n) (16 * n + length x) x (omega arith) (omega arith) (omega arith)
+    where
+      part : 16 * n + length x - 16 * n ≡ 16
+      part = omega arith
+
+-- ---- the chains stay whole
+
+pub chained-none : (me : Keyed) (t : Table) (index ids : List ℕ) → index ≡ replicate (length index) 0 → 4096 ≤ length index → length index ≤ 135168 → length ids ≡ 65536
+    → Chained me t (kept index ids 0)
+chained-none me t index ids e h k l = record {
+  buckets = omega arith;
+  most = k;
+  room = l;
+  readable = λ i z. absurd (not-suc-le-zero z);
+  heads = λ b z. ap (λ (l : List ℕ). getD l b 0) e ∙ zeros (length index) b;
+  links = λ i z. absurd (not-suc-le-zero z);
+}
+  where
+    zeros : (n b : ℕ) → getD (replicate n zero) b zero ≡ zero
+    zeros zero b = refl
+    zeros (suc n) zero = refl
+    zeros (suc n) (suc b) = zeros n b
+
+module _ (me : Keyed) (t : Table) (w : RowsM t) (r : ℕ) (inside : r % 4096 < length t) (k : Kept) (c : Chained me t k) where
+  module _ (room : 4096 + 2 * (k .n + 1) ≤ length (k .index)) where
+    x : List ℕ
+    x = idBy me t r
+
+    b : ℕ
+    b = bucketOf x
+
+    index : List ℕ
+    index = linked (k .index) (k .n) r b
+
+    hb : b < 4096
+    unfolding b
+    hb = bucket-below x
+
+    before : (i : ℕ) → i < k .n → idOf me t index i ≡ idOf me t (k .index) i
+    unfolding index
+    before i h = ap (idBy me t) (rows-before (k .index) (k .n) r b hb (omega (arith, room)) i h)
+
+    here : idOf me t index (k .n) ≡ x
+    unfolding index x
+    here = ap (idBy me t) (linked-row (k .index) (k .n) r b hb (omega (arith, room)))
+
+    x-wide : length x ≡ 16
+    unfolding x
+    x-wide = id-wide me t r w inside
+
+    long : length index ≡ length (k .index)
+    unfolding index
+    long = length-linked (k .index) (k .n) r b hb (omega (arith, room))
+
+    -- before the new id, or the new one
+    by : (P : ℕ → Type 0) → ((i : ℕ) → i < k .n → P i) → P (k .n) → (i : ℕ) → i < k .n + 1 → P i
+    by P f g i h = go (ltb i (k .n)) refl
+      where
+        go : (a : Bool) → ltb i (k .n) ≡ a → P i
+        go true e = f i (ltb-true i (k .n) e)
+        go false e =
+            let q : k .n ≡ i = omega (arith, ltb-false i (k .n) e) in
+            subst P q g
+
+    readable : (i : ℕ) → i < k .n + 1 → Readable me t index (firstIds (k .ids) (k .n) x) i
+    unfolding index x b
+    readable = by (λ i. Readable me t index (firstIds (k .ids) (k .n) x) i)
+        (λ i h. record {
+          listed = omega (arith, room, long);
+          inside = subst (λ (j : ℕ). j % 4096 < length t) (sym (rows-before (k .index) (k .n) r b hb (omega (arith, room)) i h)) (c .readable i h .inside);
+          room = first-long (k .ids) (k .n) x (c .room) x-wide;
+          bytes = λ l. first-before (k .ids) (k .n) x (c .room) x-wide i h l ∙ c .readable i h .bytes l ∙ sym (before i h);
+        })
+        (record {
+          listed = omega (arith, room, long);
+          inside = subst (λ (j : ℕ). j % 4096 < length t) (sym (linked-row (k .index) (k .n) r b hb (omega (arith, room)))) inside;
+          room = first-long (k .ids) (k .n) x (c .room) x-wide;
+          bytes = λ l. first-here (k .ids) (k .n) x (c .room) x-wide l ∙ sym here;
+        })
+
+    heads : (a : ℕ) → a < 4096 → getD index a 0 ≡ lastIn a (idOf me t index) (k .n + 1)
+    unfolding index b
+    heads a h = rw (add-one (k .n)) (rw here (go (eqb b a) refl))
+      where
+        go : (q : Bool) → eqb b a ≡ q → getD index a 0 ≡ cond q (suc (k .n)) (lastIn a (idOf me t index) (k .n))
+        go true q =
+            ap (λ (a : ℕ). getD index a 0) (sym (eqb-true b a q)) ∙ linked-head (k .index) (k .n) r b hb (omega (arith, room)) ∙ add-one (k .n)
+        go false q =
+            linked-other (k .index) (k .n) r b hb (omega (arith, room)) a (λ z. eqb-false b a q (sym z)) (λ z. absurd (omega arith)) (λ z. absurd (omega arith))
+            ∙ c .heads a h ∙ sym (last-alike a (idOf me t index) (idOf me t (k .index)) (k .n) before)
+
+    links : (i : ℕ) → i < k .n + 1 → linkAt index i ≡ lastIn (bucketOf (idOf me t index i)) (idOf me t index) i
+    unfolding index b
+    links = by (λ i. linkAt index i ≡ lastIn (bucketOf (idOf me t index i)) (idOf me t index) i)
+        (λ i h. links-before (k .index) (k .n) r b hb (omega (arith, room)) i h ∙ c .links i h
+        ∙ ap (λ (y : List ℕ). lastIn (bucketOf y) (idOf me t (k .index)) i) (sym (before i h))
+        ∙ sym (last-alike (bucketOf (idOf me t index i)) (idOf me t index) (idOf me t (k .index)) i (λ j l. before j (omega arith))))
+        (linked-link (k .index) (k .n) r b hb (omega (arith, room)) ∙ c .heads b hb
+        ∙ ap (λ (y : List ℕ). lastIn (bucketOf y) (idOf me t (k .index)) (k .n)) (sym here)
+        ∙ sym (last-alike (bucketOf (idOf me t index (k .n))) (idOf me t index) (idOf me t (k .index)) (k .n) before))
+
+    chained-added : Chained me t (added r (idBy me t r) k)
+    unfolding added index x b
+    chained-added = record {
+      buckets = omega (arith, room, long);
+      most = omega (arith, c .most, long);
+      room = first-long (k .ids) (k .n) x (c .room) x-wide;
+      readable = readable;
+      heads = heads;
+      links = links;
+    }
+
+    kept-added : keptIds me t (added r (idBy me t r) k .index) (added r (idBy me t r) k .n) ≡ keptIds me t (k .index) (k .n) ++ (idBy me t r ∷ [])
+    unfolding added index x b keptIds
+    kept-added = rw (add-one (k .n))
+        (ap₂ (λ (l : List (List ℕ)) (y : List ℕ). l ++ (y ∷ []))
+        (kept-alike me t (k .index) index (k .n) (rows-before (k .index) (k .n) r b hb (omega (arith, room)))) here)
+
+  pub chained-noted : 4096 + 2 * noted me t r k .n ≤ length (k .index) → Chained me t (noted me t r k)
+  unfolding noted
+  chained-noted h = go (met me t k (idBy me t r)) h
+    where
+      go : (a : Bool) → 4096 + 2 * cond a k (added r (idBy me t r) k) .n ≤ length (k .index) → Chained me t (cond a k (added r (idBy me t r) k))
+      go true h = c
+      go false h = chained-added (unfold added in h)
+
+  -- those kept of xs, and one more
+  pub kept-noted : 4096 + 2 * noted me t r k .n ≤ length (k .index) → (xs : List (List ℕ)) → keptIds me t (k .index) (k .n) ≡ distinct xs
+      → keptIds me t (noted me t r k .index) (noted me t r k .n) ≡ distinct (xs ++ (idBy me t r ∷ []))
+  unfolding noted
+  kept-noted h xs e =
+      go (met me t k (idBy me t r)) h
+      ∙ ap (λ (a : Bool). cond a (distinct xs) (distinct xs ++ (idBy me t r ∷ []))) (ap (anyOf (λ y. same y (idBy me t r))) e ∙ any-distinct (idBy me t r) xs)
+      ∙ sym (distinct-end (idBy me t r) xs)
+    where
+      go : (a : Bool) → 4096 + 2 * cond a k (added r (idBy me t r) k) .n ≤ length (k .index)
+          → keptIds me t (cond a k (added r (idBy me t r) k) .index) (cond a k (added r (idBy me t r) k) .n) ≡ cond a (distinct xs) (distinct xs ++ (idBy me t r ∷ []))
+      go true h = e
+      go false h = kept-added (unfold added in h) ∙ ap (λ (l : List (List ℕ)). l ++ (idBy me t r ∷ [])) e
