@@ -2,12 +2,12 @@
 use Prim.Native.Nat.{ℕ, zero, suc, _+_, _*_, _-_, _%_, _≤_, _<_}
 use mathlib.Core.Path.{_≡_, refl, sym, ap, ap₂, subst, _∙_}
 use mathlib.Core.Bool.{Bool, true, false, cond}
-use mathlib.Core.List.{List, [], _∷_, _++_}
+use mathlib.Core.List.{List, [], _∷_, _++_, append-nil, append-assoc}
 use native.Mathlib.Nat.{not-suc-le-zero}
 use native.Mathlib.Numerals.{add-one}
 use native.Mathlib.Omega.{arith}
 use lib.Dec.{eqb, ltb}
-use lib.ListN.{length, getD, set, take, drop, replicate, length-set}
+use lib.ListN.{length, getD, set, take, drop, replicate, length-set, length-append}
 use lib.Seq.{getD-set-same, getD-set-other, take-take}
 use borrow.Author.Tests.{eqb-true, eqb-false, lt-ltb, ltb-true, ltb-false}
 use Rattle.octets.specs.Part.{written}
@@ -15,7 +15,7 @@ use Rattle.octets.proofs.Parts.{length-written, take-back, part-back}
 use Rattle.table.specs.Lists.{same, anyOf, distinct}
 use Rattle.table.specs.Table.{Table}
 use Rattle.table.proofs.Walk.{drop-take}
-use Rattle.table.proofs.Distinct.{distinct-end, any-distinct}
+use Rattle.table.proofs.Distinct.{distinct-end, distinct-grows, any-distinct}
 use Rattle.hmac.specs.declared.Keyed.{Keyed}
 use Rattle.chains.specs.Chains.{idBy, Kept, kept, rowAt, linkAt, keptIds, met, bucketOf, linked, firstIds, added, noted, lastIn, Readable, Chained}
 use Rattle.chains.proofs.Chains.{last-alike, RowsM, id-wide, idOf}
@@ -25,6 +25,13 @@ unfolding bucketOf
 bucket-below x = omega arith
 
 -- ---- the index with an id more
+
+linked-long : (index : List ℕ) (n r b : ℕ) → length (linked index n r b) ≡ length index
+unfolding linked
+linked-long index n r b =
+    let one = set index (4096 + 2 * n) r in
+    let two = set one (4096 + 2 * n + 1) (getD one b 0) in
+    length-set two b (n + 1) ∙ length-set one (4096 + 2 * n + 1) (getD one b 0) ∙ length-set index (4096 + 2 * n) r
 
 module _ (index : List ℕ) (n r b : ℕ) (hb : b < 4096) (room : 4096 + 2 * n + 2 ≤ length index) where
   one : List ℕ
@@ -36,10 +43,6 @@ module _ (index : List ℕ) (n r b : ℕ) (hb : b < 4096) (room : 4096 + 2 * n +
   length-two : length two ≡ length index
   unfolding one two
   length-two = length-set one (4096 + 2 * n + 1) (getD one b 0) ∙ length-set index (4096 + 2 * n) r
-
-  length-linked : length (linked index n r b) ≡ length index
-  unfolding linked one two
-  length-linked = length-set two b (n + 1) ∙ length-two
 
   -- elsewhere it is as it was
   linked-other : (j : ℕ) → (j ≡ b → ⊥) → (j ≡ 4096 + 2 * n → ⊥) → (j ≡ 4096 + 2 * n + 1 → ⊥) → getD (linked index n r b) j 0 ≡ getD index j 0
@@ -159,7 +162,7 @@ module _ (me : Keyed) (t : Table) (w : RowsM t) (r : ℕ) (inside : r % 4096 < l
 
     long : length index ≡ length (k .index)
     unfolding index
-    long = length-linked (k .index) (k .n) r b hb (omega (arith, room))
+    long = linked-long (k .index) (k .n) r b
 
     -- before the new id, or the new one
     by : (P : ℕ → Type 0) → ((i : ℕ) → i < k .n → P i) → P (k .n) → (i : ℕ) → i < k .n + 1 → P i
@@ -246,3 +249,69 @@ module _ (me : Keyed) (t : Table) (w : RowsM t) (r : ℕ) (inside : r % 4096 < l
           → keptIds me t (cond a k (added r (idBy me t r) k) .index) (cond a k (added r (idBy me t r) k) .n) ≡ cond a (distinct xs) (distinct xs ++ (idBy me t r ∷ []))
       go true h = e
       go false h = kept-added (unfold added in h) ∙ ap (λ (l : List (List ℕ)). l ++ (idBy me t r ∷ [])) e
+
+-- ---- ids noted one after the other
+
+-- k′ comes of k by noting ids: the chains stay whole, and those kept are the distinct ones, where there is room for them
+pub record Gathers (me : Keyed) (t : Table) (k k′ : Kept) (ids : List (List ℕ)) : Type 0 where
+  pub grows : k .n ≤ k′ .n
+  pub long : length (k′ .index) ≡ length (k .index)
+  pub chained : Chained me t k → 4096 + 2 * k′ .n ≤ length (k .index) → Chained me t k′
+  pub keeps : Chained me t k → 4096 + 2 * k′ .n ≤ length (k .index) → (xs : List (List ℕ)) → keptIds me t (k .index) (k .n) ≡ distinct xs
+      → keptIds me t (k′ .index) (k′ .n) ≡ distinct (xs ++ ids)
+  pub fits : Chained me t k → (xs : List (List ℕ)) → keptIds me t (k .index) (k .n) ≡ distinct xs → 4096 + 2 * length (distinct (xs ++ ids)) ≤ length (k .index)
+      → 4096 + 2 * k′ .n ≤ length (k .index)
+
+pub kept-length : (me : Keyed) (t : Table) (index : List ℕ) (n : ℕ) → length (keptIds me t index n) ≡ n
+unfolding keptIds
+kept-length me t index zero = refl
+kept-length me t index (suc n) = length-append (keptIds me t index n) (idBy me t (rowAt index n) ∷ []) ∙ omega (arith, kept-length me t index n)
+
+pub gathers-none : (me : Keyed) (t : Table) (k : Kept) → Gathers me t k k []
+gathers-none me t k = record { grows = omega arith; long = refl; chained = λ c h. c; keeps = λ c h xs e. e ∙ ap distinct (sym (append-nil xs)); fits = λ c xs e h. c .buckets }
+
+pub gathers-one : (me : Keyed) (t : Table) → RowsM t → (r : ℕ) → r % 4096 < length t → (k : Kept) → Gathers me t k (noted me t r k) (idBy me t r ∷ [])
+unfolding noted added
+gathers-one me t w r inside k = record {
+  grows = grows (met me t k (idBy me t r));
+  long = long (met me t k (idBy me t r));
+  chained = λ c. chained-noted me t w r inside k c;
+  keeps = λ c. kept-noted me t w r inside k c;
+  fits = λ c xs e h. omega (arith, h, counted xs e);
+}
+  where
+    -- one more than there were, where it was not met
+    counted : (xs : List (List ℕ)) → keptIds me t (k .index) (k .n) ≡ distinct xs → noted me t r k .n ≡ length (distinct (xs ++ (idBy me t r ∷ [])))
+    counted xs e =
+        ap (λ (b : Bool). cond b k (added r (idBy me t r) k) .n) (ap (anyOf (λ y. same y (idBy me t r))) e ∙ any-distinct (idBy me t r) xs)
+        ∙ go (anyOf (λ y. same y (idBy me t r)) xs) ∙ sym (ap length (distinct-end (idBy me t r) xs))
+      where
+        now : k .n ≡ length (distinct xs)
+        now = sym (kept-length me t (k .index) (k .n)) ∙ ap length e
+
+        go : (b : Bool) → cond b k (added r (idBy me t r) k) .n ≡ length (cond b (distinct xs) (distinct xs ++ (idBy me t r ∷ [])))
+        go true = now
+        go false = omega (arith, now, length-append (distinct xs) (idBy me t r ∷ []))
+
+    grows : (a : Bool) → k .n ≤ cond a k (added r (idBy me t r) k) .n
+    grows true = omega arith
+    grows false = omega arith
+
+    long : (a : Bool) → length (cond a k (added r (idBy me t r) k) .index) ≡ length (k .index)
+    long true = refl
+    long false = linked-long (k .index) (k .n) r (bucketOf (idBy me t r))
+
+pub gathers-then : (me : Keyed) (t : Table) (k k′ k″ : Kept) (l l′ : List (List ℕ)) → Gathers me t k k′ l → Gathers me t k′ k″ l′ → Gathers me t k k″ (l ++ l′)
+gathers-then me t k k′ k″ l l′ g g′ = record {
+  grows = omega (arith, g .grows, g′ .grows);
+  long = g′ .long ∙ g .long;
+  chained = λ c h. g′ .chained (g .chained c (omega (arith, h, g′ .grows))) (omega (arith, h, g .long));
+  keeps = λ c h xs e.
+      g′ .keeps (g .chained c (omega (arith, h, g′ .grows))) (omega (arith, h, g .long)) (xs ++ l) (g .keeps c (omega (arith, h, g′ .grows)) xs e)
+      ∙ ap distinct (append-assoc xs l l′);
+  fits = λ c xs e h.
+      let q = ap (λ (a : List (List ℕ)). length (distinct a)) (append-assoc xs l l′) in
+      let f = g .fits c xs e (omega (arith, h, q, distinct-grows (xs ++ l) l′)) in
+      let f′ = g′ .fits (g .chained c f) (xs ++ l) (g .keeps c f xs e) (omega (arith, h, q, g .long)) in
+      omega (arith, f′, g .long);
+}

@@ -1,7 +1,7 @@
 -- The counts of the shares, the ids by them, and each way out of a find are the definitions'.
 use Prim.Native.Nat.{ℕ, zero, suc, _+_, _*_, _-_, _≤_, _<_}
 use mathlib.Core.Path.{_≡_, refl, sym, ap, ap₂, subst, _∙_}
-use mathlib.Core.Bool.{Bool, true, false, cond, true≢false}
+use mathlib.Core.Bool.{Bool, true, false, cond, not, true≢false}
 use mathlib.Core.Option.{Option, none, some}
 use mathlib.Core.List.{List, [], _∷_, _++_, map}
 use native.Mathlib.Nat.{not-suc-le-zero}
@@ -15,28 +15,37 @@ use Rattle.octets.proofs.Parts.{written-next}
 use Rattle.answer.specs.Answer.{Answer, done, refused, refusal}
 use Rattle.answer.specs.declared.Refusal.{Refusal}
 use Rattle.answer.specs.Verdict.{Test, _⇒_, _⇒_carrying_, verdict, answerOr, unlessRefused}
-use Rattle.table.specs.Lists.{anyOf, flat, sum, upTo}
-use Rattle.table.specs.Table.{Table, rows, lookup}
+use Rattle.table.specs.Lists.{same, anyOf, flat, sum, upTo, distinct, All}
+use Rattle.table.specs.Table.{Table, rows}
+use Rattle.table.proofs.Counting.{all-select}
+use Rattle.table.proofs.Rows.{flat-length}
+use Rattle.table.proofs.Below.{below, up-to-below, flat-next}
 use Rattle.hmac.specs.declared.Keyed.{Keyed}
 use Rattle.scheme.specs.Keys.{findTokenLength, share, findMT, findME, findCL}
-use Rattle.scheme.specs.Store.{Sizes, widthOf, sizesOf, cut, stateTests, entryTag}
+use Rattle.scheme.specs.Store.{Sizes, widthOf, sizesOf, cut, stateTests}
 use Rattle.scheme.specs.Reading.{Reading, damaged, countOf}
 use Rattle.scheme.specs.Refusals.{tokenTests}
-use Rattle.scheme.specs.Find.{idOf, idsTo, shareReading, idsOfShare, idsFound, findVerdict, find}
+use Rattle.scheme.specs.Find
+use Rattle.scheme.specs.Find.{shareReading, idsOfShare, idsHeld, idsFound, findVerdict, find}
 use Rattle.scheme.proofs.Verdicts.{map-upTo}
 use Rattle.suite.specs.Program.{program}
 use Rattle.store.specs.declared.Shape.{Shape}
 use Rattle.store.specs.declared.Checked.the-variants.{Fit, Refused}
 use Rattle.store.specs.Check.{checkedOf}
 use Rattle.store.proofs.Laws.{tableM, tableC, unfit, fit-verdict, fit-sizes, fit-range, fits}
-use Rattle.format.specs.Tags.{Prepared}
+use Rattle.format.specs.Tags.{numberedBy, Prepared}
 use Rattle.counter.specs.Outcome.{shareRead}
 use Rattle.format.proofs.Tags.{share-is}
 use Rattle.counter.proofs.Shares.{share-read}
 use Rattle.find.specs.declared.Counts.{Counts}
 use Rattle.ids.specs.declared.EntryKeys.{EntryKeys}
 use Rattle.find.specs.Counts.{filled, countsOf}
-use Rattle.ids.specs.Ids.{idAt, idsBy, idsOf, idsIn}
+use Rattle.find.specs.Given.{givenAnswer, givenOutput, Empty}
+use Rattle.chains.specs.Chains.{Kept, kept, keptIds, Chained}
+use Rattle.chains.proofs.Chains.{RowsM}
+use Rattle.chains.proofs.Kept.{chained-none, kept-length, Gathers}
+use Rattle.ids.specs.Ids.{idAt, idsTo, idsIn, notedIn}
+use Rattle.ids.proofs.Noted.{gathers-in, wide-in}
 
 -- ---- the counts
 
@@ -104,10 +113,16 @@ counts-sum f p c s l = ap sum (map-upTo p (λ u. getD (c .of) u 0) (λ u. countO
 
 -- ---- the ids are the scheme's
 
-ids-to : (mt me : List ℕ) (t : Table) (n : ℕ) → idsBy (entryTag program mt) me t n ≡ idsTo program mt me t n
-unfolding idsBy idAt
-ids-to mt me t zero = refl
-ids-to mt me t (suc n) = ap (λ (l : List (List ℕ)). l ++ idOf program me (lookup (entryTag program mt (suc n)) t)) (ids-to mt me t n)
+ids-to : (keys : EntryKeys) (t : Table) (u n : ℕ) → idsTo keys t u n ≡ Find.idsTo program (numberedBy (keys .mt) u) (numberedBy (keys .me) u) t n
+unfolding idsTo idAt
+ids-to keys t u zero = refl
+ids-to keys t u (suc n) = ap (λ (l : List (List ℕ)). l ++ idAt keys t u (suc n)) (ids-to keys t u n)
+
+ids-below : (keys : EntryKeys) (t : Table) (of : List ℕ) (n : ℕ) → idsIn keys t of n ≡ flat (map (λ u. idsTo keys t u (getD of u 0)) (below n))
+unfolding idsIn
+ids-below keys t of zero = refl
+ids-below keys t of (suc n) =
+    ap (λ (l : List (List ℕ)). l ++ idsTo keys t n (getD of n 0)) (ids-below keys t of n) ∙ sym (flat-next (λ u. idsTo keys t u (getD of u 0)) n)
 
 -- a part of the store or of the token
 token-CL : (token : List ℕ) → length token ≡ findTokenLength → take 32 (drop 64 token) ≡ findCL token
@@ -126,18 +141,21 @@ module _ (before token : List ℕ) (z : Shape) (e : checkedOf before ≡ Fit z) 
 
   pub ids-are : (keys : EntryKeys) (c : Counts) → Prepared (keys .mt) (findMT token) → Prepared (keys .me) (findME token)
       → Sound (shareReading program before (findCL token)) (z .p) c
-      → idsIn keys (rows (widthOf tableM) (z .m .rows) (take (z .m .end - z .m .start) (drop (z .m .start) before))) (c .of) (z .p) ≡ idsFound program before token
-  unfolding idsIn idsFound idsOf idsOfShare
+      → distinct (idsIn keys (rows (widthOf tableM) (z .m .rows) (take (z .m .end - z .m .start) (drop (z .m .start) before))) (c .of) (z .p + 1)) ≡ idsFound program before token
+  unfolding idsFound idsHeld idsOfShare
   ids-are keys c km ke s =
       let f = shareReading program before (findCL token) in
       let t = rows (widthOf tableM) (z .m .rows) (take (z .m .end - z .m .start) (drop (z .m .start) before)) in
       let q : t ≡ cut before .table tableM = fits before z e tableM .same in
-      ap flat (map-upTo (z .p) (λ u. idsOf keys t u (getD (c .of) u 0)) (idsOfShare program before token)
+      ap distinct (
+      ids-below keys t (c .of) (z .p + 1)
+      ∙ ap (λ (l : List ℕ). flat (map (λ u. idsTo keys t u (getD (c .of) u 0)) l)) (sym (up-to-below (z .p)))
+      ∙ ap flat (map-upTo (z .p) (λ u. idsTo keys t u (getD (c .of) u 0)) (idsOfShare program before token)
       (λ u l.
-      ap₂ (λ (a b : List ℕ). idsBy (entryTag program a) b t (getD (c .of) u 0)) (share-is (keys .mt) (findMT token) u km) (share-is (keys .me) (findME token) u ke)
-      ∙ ids-to (share program (findMT token) u) (share program (findME token) u) t (getD (c .of) u 0)
-      ∙ ap₂ (idsTo program (share program (findMT token) u) (share program (findME token) u)) q (count-at f (z .p) c s (fit-range before z e .p-most) u l)))
-      ∙ ap (λ (p : ℕ). flat (map (idsOfShare program before token) (upTo p))) shares-are
+      ids-to keys t u (getD (c .of) u 0)
+      ∙ ap₂ (λ (a b : List ℕ). Find.idsTo program a b t (getD (c .of) u 0)) (share-is (keys .mt) (findMT token) u km) (share-is (keys .me) (findME token) u ke)
+      ∙ ap₂ (Find.idsTo program (share program (findMT token) u) (share program (findME token) u)) q (count-at f (z .p) c s (fit-range before z e .p-most) u l)))
+      ∙ ap (λ (p : ℕ). flat (map (idsOfShare program before token) (upTo p))) shares-are)
 
 -- ---- each way out
 
@@ -176,20 +194,77 @@ module _ (before token output : List ℕ) where
           → (refused 13 [] ≡ find program before token output .answer) × (output ≡ find program before token output .output)
       damage-found d = told (some (refused 13 [])) (passed ∙ rw (sym (ap (λ (p : ℕ). anyOf (λ u. damaged (shareReading program before (findCL token) u)) (upTo p)) (shares-are before token z e h)) ∙ d) refl)
 
-      module _ (d : anyOf (λ u. damaged (shareReading program before (findCL token) u)) (upTo (z .p)) ≡ false) (n : ℕ) (q : n ≡ length (idsFound program before token)) where
-        sound : anyOf (λ u. damaged (shareReading program before (findCL token) u)) (upTo (sizesOf before .p)) ≡ false
-        sound = sym (ap (λ (p : ℕ). anyOf (λ u. damaged (shareReading program before (findCL token) u)) (upTo p)) (shares-are before token z e h)) ∙ d
+      pub given : anyOf (λ u. damaged (shareReading program before (findCL token) u)) (upTo (z .p)) ≡ false
+          → (givenAnswer (idsFound program before token) output ≡ find program before token output .answer) × (givenOutput (idsFound program before token) output ≡ find program before token output .output)
+      unfolding givenAnswer givenOutput
+      given d = go (ltb (length output) (16 * length ids)) refl
+        where
+          ids : List (List ℕ)
+          ids = idsFound program before token
 
-        pub no-room : length output < 16 * n → (refused 18 (n ∷ []) ≡ find program before token output .answer) × (output ≡ find program before token output .output)
-        no-room l =
-            let v = told (some (refused 18 (length (idsFound program before token) ∷ []))) (passed ∙ rw (sound, lt-ltb (length output) (16 * length (idsFound program before token)) (omega arith)) refl) in
-            (ap (λ (k : ℕ). refused 18 (k ∷ [])) q ∙ v .0, v .1)
+          sound : anyOf (λ u. damaged (shareReading program before (findCL token) u)) (upTo (sizesOf before .p)) ≡ false
+          sound = sym (ap (λ (p : ℕ). anyOf (λ u. damaged (shareReading program before (findCL token) u)) (upTo p)) (shares-are before token z e h)) ∙ d
 
-        pub all-written : 16 * n ≤ length output → (o : List ℕ) → o ≡ written output 0 (flat (idsFound program before token)) → length (flat (idsFound program before token)) ≡ 16 * n
-            → (done (n ∷ []) ≡ find program before token output .answer) × (o ≡ find program before token output .output)
-        all-written l o w k =
-            let ids = idsFound program before token in
-            let v = told none (passed ∙ rw (sound, le-ltb (length output) (16 * length ids) (omega arith)) refl) in (
-              ap (λ (k : ℕ). done (k ∷ [])) q ∙ v .0,
-              w ∙ written-next [] output (flat ids) 0 refl ∙ ap (λ (j : ℕ). flat ids ++ drop j output) (k ∙ ap (λ (j : ℕ). 16 * j) q) ∙ v .1,
-            )
+          go : (b : Bool) → ltb (length output) (16 * length ids) ≡ b
+              → (cond b (refused 18 (length ids ∷ [])) (done (length ids ∷ [])) ≡ find program before token output .answer)
+              × (cond b output (flat ids ++ drop (16 * length ids) output) ≡ find program before token output .output)
+          go true q = told (some (refused 18 (length ids ∷ []))) (passed ∙ rw (sound, q) refl)
+          go false q = told none (passed ∙ rw (sound, q) refl)
+
+-- ---- what is given of the ids that are kept
+
+module _ (ids : List (List ℕ)) (output : List ℕ) (n : ℕ) (q : n ≡ length ids) where
+  pub no-room : length output < 16 * n → (refused 18 (n ∷ []) ≡ givenAnswer ids output) × (output ≡ givenOutput ids output)
+  unfolding givenAnswer givenOutput
+  no-room h =
+      let e = lt-ltb (length output) (16 * length ids) (omega arith) in (
+        ap (λ (k : ℕ). refused 18 (k ∷ [])) q ∙ sym (ap (λ (b : Bool). cond b (refused 18 (length ids ∷ [])) (done (length ids ∷ []))) e),
+        sym (ap (λ (b : Bool). cond b output (flat ids ++ drop (16 * length ids) output)) e),
+      )
+
+  pub all-written : 16 * n ≤ length output → All (λ id. length id ≡ 16) ids → (o : List ℕ) → o ≡ written output 0 (flat ids)
+      → (done (n ∷ []) ≡ givenAnswer ids output) × (o ≡ givenOutput ids output)
+  unfolding givenAnswer givenOutput
+  all-written h w o k =
+      let e = le-ltb (length output) (16 * length ids) (omega arith) in (
+        ap (λ (k : ℕ). done (k ∷ [])) q ∙ sym (ap (λ (b : Bool). cond b (refused 18 (length ids ∷ [])) (done (length ids ∷ []))) e),
+        k ∙ written-next [] output (flat ids) 0 refl ∙ ap (λ (j : ℕ). flat ids ++ drop j output) (flat-length 16 ids w)
+            ∙ sym (ap (λ (b : Bool). cond b output (flat ids ++ drop (16 * length ids) output)) e),
+      )
+
+-- an index of so many zeros has room for half of those behind the buckets
+pub empty : (size n : ℕ) → 4096 + 2 * n ≤ size → size ≤ 135168 → Empty (replicate size 0) n
+empty size n h k =
+    let l : length (replicate size zero) ≡ size = length-replicate size zero in
+    record { clear = ap (λ (m : ℕ). replicate m zero) (sym l); room = omega (arith, l); most = omega (arith, l) }
+
+-- ---- gathered in an index with no id: those kept are the distinct ones
+
+module _ (keys : EntryKeys) (t : Table) (few : length t ≤ 4096) (w : RowsM t) (of : List ℕ) (p : ℕ) (index ids : List ℕ) (e : Empty index (length (distinct (idsIn keys t of p)))) (l : length ids ≡ 65536) where
+  pub ready : Chained (keys .me) t (kept index ids 0)
+  ready = chained-none (keys .me) t index ids (e .clear) (omega (arith, e .room)) (e .most) l
+
+  none-kept : keptIds (keys .me) t index 0 ≡ distinct []
+  unfolding keptIds
+  none-kept = refl
+
+  pub room : 4096 + 2 * notedIn keys t of p (kept index ids 0) .n ≤ length index
+  room = gathers-in keys t few w of p (kept index ids 0) .fits ready [] none-kept (e .room)
+
+  module _ (k : Kept) (q : k ≡ notedIn keys t of p (kept index ids 0)) where
+    pub gathered-chained : Chained (keys .me) t k
+    gathered-chained = subst (Chained (keys .me) t) (sym q) (gathers-in keys t few w of p (kept index ids 0) .chained ready room)
+
+    pub gathered-ids : keptIds (keys .me) t (k .index) (k .n) ≡ distinct (idsIn keys t of p)
+    gathered-ids =
+        ap (λ (k : Kept). keptIds (keys .me) t (k .index) (k .n)) q ∙ gathers-in keys t few w of p (kept index ids 0) .keeps ready room [] none-kept
+
+    pub gathered-number : k .n ≡ length (distinct (idsIn keys t of p))
+    gathered-number = sym (kept-length (keys .me) t (k .index) (k .n)) ∙ ap length gathered-ids
+
+  pub gathered-wide : All (λ id. length id ≡ 16) (distinct (idsIn keys t of p))
+  gathered-wide = distinct-all (λ id. length id ≡ 16) (idsIn keys t of p) (wide-in keys t few w of p)
+    where
+      distinct-all : (P : List ℕ → Type 0) (l : List (List ℕ)) → All P l → All P (distinct l)
+      distinct-all P [] h = tt
+      distinct-all P (x ∷ xs) h = (h .0, all-select P (λ y. not (same y x)) (distinct xs) (distinct-all P xs (h .1)))

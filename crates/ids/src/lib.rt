@@ -29,7 +29,7 @@ struct Share {
 }
 
 // The keys of share u.
-fn share(keys: EntryKeys, u: u64) -> Share
+fn keys_of(keys: EntryKeys, u: u64) -> Share
     ensures { λ r. ⌜ ShareOf keys u r ⌝ }
 {
     let key = format::numbered(keys.mt, u);
@@ -113,7 +113,7 @@ pub fn gather(
     let mut u: u64 = 0;
     while u <= p {
         let i = u as usize;
-        let s = share(keys, u);
+        let s = keys_of(keys, u);
         n = note_share(t, m, s, keys, of[i], index, ids, n);
         u += 1;
     }

@@ -2,10 +2,10 @@
 use Prim.Native.Nat.{ℕ, zero, suc, _+_, _≤_}
 use mathlib.Core.Path.{_≡_, refl, sym, ap, _∙_}
 use mathlib.Core.Bool.{Bool, true, false, cond, not, _&&_, _||_, true≢false, and-false, not-and-self}
-use mathlib.Core.List.{List, [], _∷_, _++_, append-nil}
+use mathlib.Core.List.{List, [], _∷_, _++_, append-nil, append-assoc}
 use native.Mathlib.Nat.{zero-add}
 use native.Mathlib.Omega.{arith}
-use lib.ListN.{length}
+use lib.ListN.{length, length-append}
 use Rattle.table.specs.Lists.{bit, same, select, count, anyOf, All, Same, distinct}
 use Rattle.table.proofs.Counting.{same-true, same-refl, same-sym, ne-same, count-select, count-split, count-ext, count-none, select-append, any-count, none-any, count-any, Same-select, same-length}
 
@@ -136,6 +136,20 @@ distinct-end x (z ∷ zs) = ap (λ (r : List (List ℕ)). z ∷ without z r) (di
     go true false h = refl
     go false true h = ap (λ (r : List (List ℕ)). z ∷ r) (more ∙ rw (same-sym x z ∙ h) (append-nil (without z (distinct zs))))
     go false false h = ap (λ (r : List (List ℕ)). z ∷ r) (more ∙ rw (same-sym x z ∙ h) refl)
+
+distinct-next : (x : List ℕ) (l : List (List ℕ)) → length (distinct l) ≤ length (distinct (l ++ (x ∷ [])))
+distinct-next x l = go (anyOf (λ y. same y x) l) (ap length (distinct-end x l))
+  where
+    go : (a : Bool) → length (distinct (l ++ (x ∷ []))) ≡ length (cond a (distinct l) (distinct l ++ (x ∷ []))) → length (distinct l) ≤ length (distinct (l ++ (x ∷ [])))
+    go true e = omega arith
+    go false e = omega (arith, e, length-append (distinct l) (x ∷ []))
+
+-- a longer list has no fewer
+pub distinct-grows : (l r : List (List ℕ)) → length (distinct l) ≤ length (distinct (l ++ r))
+distinct-grows l [] = rw (append-nil l) (omega arith)
+distinct-grows l (x ∷ xs) =
+    let e = ap (λ (a : List (List ℕ)). length (distinct a)) (append-assoc l (x ∷ []) xs) in
+    omega (arith, distinct-next x l, distinct-grows (l ++ (x ∷ [])) xs, e)
 
 pub any-distinct : (x : List ℕ) (l : List (List ℕ)) → anyOf (λ y. same y x) (distinct l) ≡ anyOf (λ y. same y x) l
 any-distinct x l = go (anyOf (λ y. same y x) l) (distinct-once x l)

@@ -1,0 +1,28 @@
+-- No more different ids than 16 shares can read in 4,096 rows.
+use Prim.Native.Nat.{ℕ, _+_, _*_, _≤_}
+use mathlib.Core.Path.{_≡_, sym, ap}
+use mathlib.Core.List.{List}
+use native.Mathlib.Omega.{arith}
+use lib.ListN.{length}
+use Rattle.table.specs.Lists.{distinct}
+use Rattle.table.specs.Table.{Table, rows}
+use Rattle.table.proofs.Rows.{rows-length}
+use Rattle.scheme.specs.Store.{tableM, widthOf}
+use Rattle.ids.specs.Ids.{idsIn}
+use Rattle.ids.proofs.Noted.{most-in}
+use Rattle.find.proofs.Laws.{empty}
+use borrow.Author.Needs.{needs}
+use Rattle.find.proofs.give_many.Statement.{statement}
+use Rattle.find.proofs.give_many.Tie as tie
+
+give-requires : tie.Need-give-requires
+give-requires c κs =
+    let s = c .before .before .before .before in
+    let a = s .args in
+    let t = rows (widthOf tableM) (a .m) (a .t .now) in
+    let few : length t ≤ 4096 = omega (arith, rows-length (widthOf tableM) (a .m) (a .t .now), s .pre .1 .0) in
+    let ids = idsIn (a .keys) t (a .of) (a .p + 1) in
+    (s .pre .0, (s .pre .1 .0, (s .pre .1 .1, empty 135168 (length (distinct ids)) (omega (arith, most-in (a .keys) t few (a .of) (a .p + 1) (omega (arith, s .pre .1 .1)))) (omega arith))))
+
+pub give-many-spec : {M : Type 1} → statement M
+give-many-spec = tie.close (tie.spec (λ c. search needs) give-requires (λ c. search needs) (λ c. search needs))
