@@ -57,4 +57,4 @@ small = record {
 pub examples-hold : All Holds (examples small)
 unfolding bytes continued lookup holds placeOf number8 valueOf sameField fieldLengthsBad sevens label KM KC KS MTof MEof CLof share MT ME CL CT CE insertToken findToken countToken compactionToken tokenP tokenMT tokenME tokenCL tokenLog findMT findME findCL sizesBad lengthFor headerOf sizesOf cut joined headerBad marksBad stateTests fresh makeTests make entryTag entryRow reverseRow counterTag anchorTag countedRow counterRow anchorRow idIn plainIn clIn logRow reverseId reverseTag numbersAt anchorsHeld anchorNumbers startOf countersHeld counterNumbers isDamage reading insertTokenTests fieldTokenTests keyTests insertInputTests eraseInputTests compactionInputTests tokenTests insertReading newCount insertStateTests insertVerdict newEntries newReverses newCounter newLog insertedStore eraseVerdict isReverse erasedTags isErased erasedStore erase shareReading idsOfShare idsHeld idsFound findVerdict find countVerdict sumOfCounts Count.count logOf freeLog compactVerdict freedCounters nextAnchor logged compactedStore samePair empty H removed withPair ledgerInsertVerdict appended afterInsert afterErase ledgerLists ledgerIds ledgerSum ledgerFindVerdict ledgerCompactVerdict afterCompaction ledgerStep findCall countCall insertedLowest insertLowest treatedLowest compactLowest callLowest
 examples-hold =
-    (refl, (refl, (refl, (refl, (refl, (refl, (refl, (refl, ((λ suite k l nonce id. refl), (refl, (refl, (refl, (refl, (refl, (refl, tt)))))))))))))))
+    (refl, (refl, (refl, (refl, (refl, (refl, (refl, (refl, (refl, (refl, ((λ suite k l nonce id. refl), (refl, (refl, (refl, (refl, (refl, (refl, tt)))))))))))))))))

@@ -1,4 +1,4 @@
--- What an example states: what the definitions give, beside what document 01 says. The right side is written down from the document
+-- What an example states: what the definitions give, beside what documents 01 and 02 say. The right side is written down from the documents
 -- and is never what the definitions gave.
 use Prim.Native.Nat.{ℕ, zero, suc}
 use mathlib.Core.Path.{_≡_}

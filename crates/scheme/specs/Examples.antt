@@ -1,4 +1,5 @@
--- The examples, as one list: L1 to L6 of document 01's "Labels" and G1 to G8 of "A day in the ledger", then bytes, readings and refusals.
+-- The examples, as one list: L1 to L6 of document 01's "Labels" and G1 to G8 of "A day in the ledger", ids that come more than once, then
+-- bytes, readings and refusals.
 use Prim.Native.Nat.{ℕ}
 use mathlib.Core.List.{List, [], _∷_, _++_, map}
 use lib.ListN.{take, replicate}
@@ -9,7 +10,7 @@ use Rattle.scheme.specs.Labels.{Field, label}
 use Rattle.scheme.specs.Example.{Example, _yields_, _tells_, bytes, every, cases, fieldOf}
 use Rattle.scheme.specs.ByteExamples.{byteEquations, eraseCases}
 use Rattle.scheme.specs.RefusalExamples.{makingCases, storeMakingCases, inputCases, stateCases, insertCases, queryCases, queryBytes}
-use Rattle.scheme.specs.ReadingExamples.{readingBytes, laterBytes, compactionCases, compactionBytes}
+use Rattle.scheme.specs.ReadingExamples.{readingBytes, laterBytes, blindBytes, blindCases, compactionCases, compactionBytes}
 use Rattle.scheme.specs.Store.{Sizes, fresh}
 use Rattle.scheme.specs.Call
 use Rattle.scheme.specs.Call.{Call, Told}
@@ -54,12 +55,15 @@ sizeL = fieldOf (0x73 ∷ 0x69 ∷ 0x7a ∷ 0x65 ∷ []) (0x4c ∷ [])
 abbrev pub idBytes : List ℕ → List ℕ
 idBytes letters = flat (map (replicate 16) letters)
 
--- the calls, with nonces of their own and an output of 64 bytes
+-- the calls, with nonces of their own, and a find with an output of so many bytes, or of 64
 abbrev pub inserts : Field → ℕ → List ℕ → ℕ → Call
 inserts f u letters n = Call.insert key f 1 u (replicate 12 0x4e) (idBytes letters) (replicate n 0x6e)
 
+abbrev pub findsIn : ℕ → Call
+findsIn room = Call.find key hueRed (replicate room 0x2e)
+
 abbrev pub finds : Call
-finds = Call.find key hueRed (replicate 64 0x2e)
+finds = findsIn 64
 
 abbrev pub counts : Call
 counts = Call.count key hueRed
@@ -79,6 +83,10 @@ number n = says (done (n ∷ []))
 
 abbrev pub found : ℕ → List ℕ → ℕ → Told
 found n letters left = record { answer = done (n ∷ []); output = idBytes letters ++ replicate left 0x2e }
+
+-- 18 with how many, and an output of so many bytes that is as it was
+abbrev pub needs : ℕ → ℕ → Told
+needs n room = record { answer = refused 18 (n ∷ []); output = replicate room 0x2e }
 
 -- calls, and what they are to tell
 pub record Block : Type 0 where
@@ -111,23 +119,52 @@ worked =
     ∷ record { calls = compacts ∷ inserts sizeL 0 (71 ∷ []) 24 ∷ []; told = says (done (1 ∷ 2 ∷ [])) ∷ number 1 ∷ [] }
     ∷ []
 
-abbrev pub workedCalls : List Call
-workedCalls = flat (map (λ (b : Block). b .calls) worked)
+abbrev pub callsOf : List Block → List Call
+callsOf bs = flat (map (λ (b : Block). b .calls) bs)
 
-abbrev pub workedTold : List Told
-workedTold = flat (map (λ (b : Block). b .told) worked)
+abbrev pub toldOf : List Block → List Told
+toldOf bs = flat (map (λ (b : Block). b .told) bs)
 
--- the labels, the worked list on the ledger and on the store [01:DY10], and the further examples
+-- ---- ids that are inserted more than once: found once, counted and erased as often as they were inserted
+
+abbrev pub repeatedSizes : Sizes
+repeatedSizes = record { p = 1; m = 7; c = 5; s = 5 }
+
+abbrev pub repeated : List Block
+repeated =
+    -- twice in a share, another id between: at the first place [02:W1.1 W1.2], and counted twice [02:W1.4]
+    record { calls = inserts hueRed 0 (65 ∷ 66 ∷ 65 ∷ []) 48 ∷ finds ∷ counts ∷ []; told = number 3 ∷ found 2 (65 ∷ 66 ∷ []) 32 ∷ number 3 ∷ [] }
+    -- in two shares, and the same insert again, as after a lost connection: room for the 3 different ids and not for all 7 entries is enough,
+    -- a byte less is not [02:W1.3]
+    ∷ record {
+      calls = inserts hueRed 1 (67 ∷ 66 ∷ []) 36 ∷ inserts hueRed 1 (67 ∷ 66 ∷ []) 36 ∷ findsIn 48 ∷ findsIn 47 ∷ counts ∷ [];
+      told = number 2 ∷ number 4 ∷ found 3 (65 ∷ 66 ∷ 67 ∷ []) 0 ∷ needs 3 47 ∷ number 7 ∷ [];
+    }
+    -- erase: every entry of the id [02:W1.6]; inserted again it stands at its new place
+    ∷ record {
+      calls = erases 65 ∷ finds ∷ inserts hueRed 0 (65 ∷ []) 24 ∷ finds ∷ [];
+      told = number 2 ∷ found 2 (66 ∷ 67 ∷ []) 32 ∷ number 4 ∷ found 3 (66 ∷ 65 ∷ 67 ∷ []) 16 ∷ [];
+    }
+    -- in every share, and under another field too
+    ∷ record {
+      calls = inserts sizeL 0 (66 ∷ []) 24 ∷ erases 66 ∷ finds ∷ counts ∷ [];
+      told = number 1 ∷ number 4 ∷ found 2 (65 ∷ 67 ∷ []) 32 ∷ number 8 ∷ [];
+    }
+    ∷ []
+
+-- the labels, both lists of calls on the ledger and on the store [01:DY10] [02:W1.5], and the further examples
 abbrev pub examples : Suite → List Example
 examples suite =
     labelExamples ++
-    ((ledgerTells (boundsOf workedSizes) empty workedCalls tells workedTold)
-    ∷ (tellsLowest suite workedCalls (fresh workedSizes) tells workedTold)
+    ((ledgerTells (boundsOf workedSizes) empty (callsOf worked) tells toldOf worked)
+    ∷ (tellsLowest suite (callsOf worked) (fresh workedSizes) tells toldOf worked)
+    ∷ (ledgerTells (boundsOf repeatedSizes) empty (callsOf repeated) tells toldOf repeated)
+    ∷ (tellsLowest suite (callsOf repeated) (fresh repeatedSizes) tells toldOf repeated)
     ∷ every byteEquations
-    ∷ bytes (readingBytes suite ++ (laterBytes suite ++ (compactionBytes suite ++ queryBytes suite)))
+    ∷ bytes (readingBytes suite ++ (laterBytes suite ++ (blindBytes ++ (compactionBytes suite ++ queryBytes suite))))
     ∷ cases (makingCases ++ storeMakingCases)
     ∷ cases (inputCases suite)
     ∷ cases (stateCases suite)
-    ∷ cases (insertCases suite ++ (eraseCases ++ queryCases suite))
+    ∷ cases (insertCases suite ++ (eraseCases ++ (queryCases suite ++ blindCases)))
     ∷ cases (compactionCases suite)
     ∷ [])

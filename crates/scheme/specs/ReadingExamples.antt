@@ -1,4 +1,4 @@
--- Examples of readings, inserts and compactions (document 01, "Reading a counter", "Operations"), most of them on stores that no list of calls
+-- Examples of readings, inserts, finds and compactions (document 01, "Reading a counter", "Operations"), most of them on stores that no list of calls
 -- makes: rows that are missing, stand twice or are damaged. The claim does not see these.
 use Prim.Native.Nat.{ℕ}
 use mathlib.Core.Path.{refl}
@@ -9,8 +9,9 @@ use Rattle.answer.specs.Answer.{done, refused}
 use Rattle.scheme.specs.Suite.{Suite}
 use Rattle.scheme.specs.Reading.{Reading, damage, counter, reading}
 use Rattle.scheme.specs.Refusals.{Result}
+use Rattle.scheme.specs.Find
 use Rattle.scheme.specs.Lowest.{insertLowest, compactLowest}
-use Rattle.scheme.specs.Example.{Equation, _is_, Case, _gives_, zeros, places, eight, by}
+use Rattle.scheme.specs.Example.{Equation, _is_, Case, _gives_, zeros, places, eight, number, by}
 use Rattle.scheme.specs.ByteExamples.{newM, newV, newC, newS}
 use Rattle.scheme.specs.RefusalExamples.{withC, rowC, counterIs, anchorIs, atLimit, aboveLimit}
 
@@ -79,6 +80,23 @@ module _ (suite : Suite) where
       (insertLowest suite (withC 0 3 (heldC ++ (zeros 61 ∷ []))) (places 1 16) (places 1 24) (places 0 141) .store is
       (1 ∷ 0 ∷ 0 ∷ 1 ∷ 0 ∷ 3 ∷ 0 ∷ 1 ∷ newM suite 10 1 1 ++ (newV suite 10 1 ++ (flat (heldC ++ (newC suite 7 13 10 ∷ [])) ++ newS suite))))
       ∷ []
+
+-- ---- a find where one row of M is every address from 1 to 7: the id once, and 18 by one id [02:W1.1 W1.3]
+
+abbrev pub blindEntry : List ℕ
+blindEntry = 1 ∷ 0 ∷ 0 ∷ 1 ∷ 0 ∷ 1 ∷ 0 ∷ 1 ∷ 1 ∷ zeros 44 ++ (places 1 16 ++ (zeros 49 ++ (blindRow 7 ++ zeros 45)))
+
+abbrev pub blindBytes : List Equation
+blindBytes =
+    (Find.find blind blindEntry (zeros 96) (places 101 40) .output is (places 1 16 ++ places 117 24))
+    ∷ (Find.find blind blindEntry (zeros 96) (places 101 15) .output is places 101 15)
+    ∷ []
+
+abbrev pub blindCases : List Case
+blindCases =
+    (Find.find blind blindEntry (zeros 96) (zeros 16) .answer gives number 1)
+    ∷ (Find.find blind blindEntry (zeros 96) (zeros 15) .answer gives refused 18 (1 ∷ []))
+    ∷ []
 
 -- ---- compactions: p = 0, m = 1, with these rows in C and S
 

@@ -323,8 +323,18 @@ module _ (suite : Suite) where
   entryOf u id = 1 ∷ F (F (places 0 32) (eight u)) (eight 1) ++ (zeros 12 ++ E (F (places 32 32) (eight u)) (zeros 12) id)
 
   -- one id in share 0 and one in share 1; m = 2, c = 3, s = 1, and these rows in C
+  abbrev pub withEntries : List ℕ → List ℕ → ℕ → List (List ℕ) → List ℕ
+  withEntries id other p rows = 1 ∷ p ∷ 0 ∷ 2 ∷ 0 ∷ 3 ∷ 0 ∷ 1 ∷ entryOf 0 id ++ (entryOf 1 other ++ (zeros 98 ++ (flat rows ++ zeros 45)))
+
+  -- two ids; two that differ in the last byte alone; one id, twice
   abbrev pub twoEntries : ℕ → List (List ℕ) → List ℕ
-  twoEntries p rows = 1 ∷ p ∷ 0 ∷ 2 ∷ 0 ∷ 3 ∷ 0 ∷ 1 ∷ entryOf 0 (places 1 16) ++ (entryOf 1 (places 17 16) ++ (zeros 98 ++ (flat rows ++ zeros 45)))
+  twoEntries p rows = withEntries (places 1 16) (places 17 16) p rows
+
+  abbrev pub alikeEntries : ℕ → List (List ℕ) → List ℕ
+  alikeEntries p rows = withEntries (places 1 16) (places 1 15 ++ (17 ∷ [])) p rows
+
+  abbrev pub repeatedEntry : ℕ → List (List ℕ) → List ℕ
+  repeatedEntry p rows = withEntries (places 1 16) (places 1 16) p rows
 
   -- share 0 has made 1 entry, share 1 has made 4, of which 3 are gone
   abbrev pub bothShares : List (List ℕ)
@@ -349,6 +359,12 @@ module _ (suite : Suite) where
       ∷ (finding (twoEntries 1 bothShares) 96 32 gives number 2)
       ∷ (finding (twoEntries 1 bothShares) 96 31 gives refused 18 (2 ∷ []))
       ∷ (finding (twoEntries 1 damagedShare) 96 32 gives by 13)
+      -- an id that is in both shares needs the room of one, is found once and counted twice [02:W1.1 W1.3 W1.4]
+      ∷ (finding (repeatedEntry 1 bothShares) 96 16 gives number 1)
+      ∷ (finding (repeatedEntry 1 bothShares) 96 15 gives refused 18 (1 ∷ []))
+      ∷ (counting (repeatedEntry 1 bothShares) 32 gives number 5)
+      ∷ (finding (alikeEntries 1 bothShares) 96 32 gives number 2)
+      ∷ (finding (alikeEntries 1 bothShares) 96 31 gives refused 18 (2 ∷ []))
       -- in order [01:RS1]
       ∷ (finding (twoEntries 1 damagedShare) 96 15 gives by 13)
       ∷ (finding (set (twoEntries 1 damagedShare) 130 2) 96 15 gives by 11)
@@ -365,4 +381,7 @@ module _ (suite : Suite) where
       ∷ (finds (twoEntries 0 bothShares) 40 is (places 1 16 ++ places 117 24))
       ∷ (finds (twoEntries 1 bothShares) 31 is places 101 31)
       ∷ (finds (twoEntries 1 damagedShare) 40 is places 101 40)
+      -- each id once, and its own [02:W1.1]
+      ∷ (finds (repeatedEntry 1 bothShares) 40 is (places 1 16 ++ places 117 24))
+      ∷ (finds (alikeEntries 1 bothShares) 40 is (places 1 16 ++ (places 1 15 ++ (17 ∷ places 133 8))))
       ∷ []
