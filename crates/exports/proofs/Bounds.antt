@@ -27,7 +27,7 @@ use Rattle.scheme.specs.Reading.{Reading, damage, counter, limit, countOf, dama
 use Rattle.scheme.specs.Refusals.{lengthNot, tokenTests, eraseInputTests, insertInputTests, compactionInputTests, insertTokenTests, fieldTokenTests, keyTests}
 use Rattle.scheme.specs.Insert.{insertReading, newCount, insertStateTests, insertVerdict}
 use Rattle.scheme.specs.Erase.{isReverse, eraseVerdict, erase}
-use Rattle.scheme.specs.Find.{idOf, idsTo, shareReading, idsOfShare, idsFound, findVerdict, find}
+use Rattle.scheme.specs.Find.{idOf, idsTo, shareReading, idsOfShare, idsHeld, idsFound, findVerdict, find}
 use Rattle.scheme.specs.Count.{countVerdict, sumOfCounts, count}
 use Rattle.scheme.specs.Compaction.{Treats, finished, stopped, skipped, anchored, logOf, logged, compactVerdict, Compact}
 use Rattle.suite.specs.Program.{program}
@@ -137,9 +137,13 @@ share-few : (before token : List ℕ) (u : ℕ) → length (idsOfShare program b
 unfolding idsOfShare
 share-few before token u = le-trans (ids-few _ _ _ _) (share-small before (findCL token) u)
 
-found-few : (before token : List ℕ) → headerBad before ≡ false → length (idsFound program before token) ≤ limit * 16
-unfolding idsFound
-found-few before token h =
+distinct-few : (l : List (List ℕ)) → length (distinct l) ≤ length l
+distinct-few [] = omega arith
+distinct-few (x ∷ xs) = omega (arith, distinct-few xs, count-split (λ y. same y x) (distinct xs))
+
+held-few : (before token : List ℕ) → headerBad before ≡ false → length (idsHeld program before token) ≤ limit * 16
+unfolding idsHeld
+held-few before token h =
     omega (
       arith,
       good-header before h .range .p-most,
@@ -148,16 +152,16 @@ found-few before token h =
       sum-few (λ u. length (idsOfShare program before token u)) (share-few before token) (upTo (sizesOf before .p)),
     )
 
+found-few : (before token : List ℕ) → headerBad before ≡ false → length (idsFound program before token) ≤ limit * 16
+unfolding idsFound
+found-few before token h = le-trans (distinct-few (idsHeld program before token)) (held-few before token h)
+
 pub find-fits : (before token output : List ℕ) → Fits 1 (find program before token output .answer)
 unfolding find findVerdict tokenTests stateTests
 find-fits before token output =
     let n = length (idsFound program before token) in
     bounded (tokenTests findTokenLength token ++ (stateTests before ++ ((anyOf (λ u. damaged (shareReading program before (findCL token) u)) (upTo (sizesOf before .p)) ⇒ 13) ∷ (ltb (length output) (16 * n) ⇒ 18 carrying (n ∷ [])) ∷ []))) _
     (tt, λ _. (tt, λ h. (tt, λ _. (tt, λ _. (record { small = omega (arith, found-few before token h); gives = (omega arith, omega arith, one) }, λ _. record { small = omega (arith, found-few before token h); gives = one })))))
-
-distinct-few : (l : List (List ℕ)) → length (distinct l) ≤ length l
-distinct-few [] = omega arith
-distinct-few (x ∷ xs) = omega (arith, distinct-few xs, count-split (λ y. same y x) (distinct xs))
 
 treats-few : {c : ℕ} {ks : List ℕ} {cls : List (List ℕ)} {tC tS : Table} {nonces : List ℕ} {anchors counters : ℕ} {answer : Answer} {tC′ tS′ : Table} → c ≤ 4096
     → Treats program c ks cls tC tS nonces anchors counters answer tC′ tS′
