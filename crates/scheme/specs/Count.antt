@@ -19,7 +19,7 @@ module _ (suite : Suite) (before token : List ℕ) where
       ((anyOf (λ u. damaged (shareReading suite before token u)) (upTo (sizesOf before .p)) ⇒ 13)
       ∷ [])))
 
-  -- the sum over shares, erased entries included [01:OP9]
+  -- the sum over shares, erased entries and repeats included [01:OP9] [02:W1.4]
   unfoldable pub sumOfCounts : ℕ
   sumOfCounts = sum (map (λ u. countOf (shareReading suite before token u)) (upTo (sizesOf before .p)))
 

@@ -32,7 +32,7 @@ module _ (before id : List ℕ) where
       putIn tableV (freeWhere (widthOf tableV) isReverse (cut before .table tableV))
       (putIn tableM (freeWhere (widthOf tableM) isErased (cut before .table tableM)) (cut before))
 
-  -- answer: V rows freed [01:OP5]
+  -- answer: V rows freed, each entry of the id [01:OP5] [02:W1.6]
   unfoldable pub erase : Result
   erase = record {
     answer = answerOr eraseVerdict (done (count isReverse (used (cut before .table tableV)) ∷ []));

@@ -30,7 +30,7 @@ module _ (suite : Suite) where
   shareReading before clx u = reading suite (sizesOf before .c) (share suite clx u) (cut before .table tableC)
 
 module _ (suite : Suite) (before token : List ℕ) where
-  -- for u = 0 to p, addresses 1 to the count [01:OP6]
+  -- for u = 0 to p, addresses 1 to the count: what is held, repeats among it [01:OP6]
   unfoldable pub idsOfShare : ℕ → List (List ℕ)
   idsOfShare u =
       idsTo suite (share suite (findMT token) u) (share suite (findME token) u) (cut before .table tableM) (countOf (shareReading suite before (findCL token) u))
@@ -38,7 +38,7 @@ module _ (suite : Suite) (before token : List ℕ) where
   unfoldable pub idsHeld : List (List ℕ)
   idsHeld = flat (map idsOfShare (upTo (sizesOf before .p)))
 
-  -- each id once, at the first place where it would have come [02:W1.1 W1.2]
+  -- each id once, at the first place where it would have come [01:OP6] [02:W1.1 W1.2]
   unfoldable pub idsFound : List (List ℕ)
   idsFound = distinct idsHeld
 

@@ -108,11 +108,11 @@ module _ (z : Bounds) (l : Ledger) where
     A = l .A;
   }
 
-  -- erase: removes the id from all lists; answer the number removed [01:LG9]
+  -- erase: removes the id from all lists; answer the number removed, repeats counted [01:LG9] [02:W1.6]
   unfoldable pub afterErase : List ℕ → Ledger
   afterErase id = record { entries = map (removed id) (l .entries); W = l .W; T = l .T; A = l .A }
 
-  -- find: lists for u = 0 to p joined [01:LG10], without later repeats [02:W1.5]; count: sum of made [01:LG11]
+  -- find: lists for u = 0 to p joined, without later repeats [01:LG10] [02:W1.5]; count: sum of made [01:LG11] [02:W1.4]
   unfoldable pub ledgerLists : Field → List (List ℕ)
   ledgerLists f = flat (map (λ u. entryOf (record { field = f; u = u }) (l .entries) .ids) (upTo (z .p)))
 
@@ -122,6 +122,7 @@ module _ (z : Bounds) (l : Ledger) where
   unfoldable pub ledgerSum : Field → ℕ
   ledgerSum f = sum (map (λ u. entryOf (record { field = f; u = u }) (l .entries) .made) (upTo (z .p)))
 
+  -- 18 by the different ids [01:LG10] [02:W1.3]
   unfoldable pub ledgerFindVerdict : List ℕ → Field → List ℕ → Option Answer
   ledgerFindVerdict key f output = verdict (fieldTokenTests key f ++
       ((ltb (length output) (16 * length (ledgerIds f)) ⇒ 18 carrying (length (ledgerIds f) ∷ [])) ∷ []))
