@@ -60,7 +60,7 @@ enum {
   MAZHKURI_ENTRY_ROWS = 15,    /* fewer free entry rows than ids */
   MAZHKURI_COUNTER_ROWS = 16,  /* no free counter row: compact, or make a larger store */
   MAZHKURI_LOG_ROWS = 17,      /* no free log row: compact */
-  MAZHKURI_OUTPUT_LENGTH = 18, /* the output is shorter than the ids found; carries how many */
+  MAZHKURI_OUTPUT_LENGTH = 18, /* the output is too short for the different ids; carries how many */
   MAZHKURI_NONCE_COUNT = 19    /* a compaction has fewer nonces than used log rows */
 };
 
@@ -132,25 +132,27 @@ int64_t mazhkuri_make(uint64_t p, uint64_t m, uint64_t c, uint64_t s, uint8_t *s
                       size_t store_length);
 
 /* Inserts 1 to 64 ids of 16 bytes each, one after the other, with a nonce of 12 bytes for each id
- * and one more. Returns how many ids were ever inserted under the token's field and share, the new
- * ones included, 1 to 4,294,967,295; or -4, -5, -6, -10, -11, -12, -13, -14, -15, -16, -17. */
+ * and one more. An id may be inserted again: it gets another entry, and a find gives it once.
+ * Returns how many ids were ever inserted under the token's field and share, the new ones and repeats
+ * included, 1 to 4,294,967,295; or -4, -5, -6, -10, -11, -12, -13, -14, -15, -16, -17. */
 int64_t mazhkuri_insert(uint8_t *store, size_t store_length, const uint8_t *ids, size_t ids_length,
                         const uint8_t *nonces, size_t nonces_length, const uint8_t *token,
                         size_t token_length);
 
-/* Erases the id of 16 bytes from every field and share. Returns how many entries were freed, 0 to
- * 4,096; or -5, -10, -11. */
+/* Erases the id of 16 bytes from every field and share. Returns how many entries were freed, each
+ * repeat counted, 0 to 4,096; or -5, -10, -11. */
 int64_t mazhkuri_erase(uint8_t *store, size_t store_length, const uint8_t *id, size_t id_length);
 
-/* Finds the ids under the token's field, in all shares, and writes them to the start of the output;
- * bytes after them stay. Returns how many; or -6, -10, -11, -13, or -(18 + 256 * how many) where
- * the output is shorter than 16 times that. The output may be empty. The time grows with how many
- * ids were ever inserted under the field. */
+/* Finds the ids under the token's field, in all shares, and writes them to the start of the output,
+ * each once, at the first place where it would have come; bytes after them stay. Returns how many;
+ * or -6, -10, -11, -13, or -(18 + 256 * how many) where the output is shorter than 16 times that. The
+ * output may be empty. The time grows with how many ids were ever inserted under the field. It needs
+ * some 0.6 MiB of stack at the most. */
 int64_t mazhkuri_find(const uint8_t *store, size_t store_length, const uint8_t *token,
                       size_t token_length, uint8_t *output, size_t output_length);
 
-/* Counts the ids ever inserted under the token's field, erased ones included, in all shares.
- * Returns 0 to 68,719,476,720; or -6, -10, -11, -13. */
+/* Counts the ids ever inserted under the token's field, erased ones and repeats included, in all
+ * shares. Returns 0 to 68,719,476,720; or -6, -10, -11, -13. */
 int64_t mazhkuri_count(const uint8_t *store, size_t store_length, const uint8_t *token,
                        size_t token_length);
 
