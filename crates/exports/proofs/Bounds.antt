@@ -11,9 +11,10 @@ use lib.Dec.{T, ltb, eqb, lit<, eqb→eq}
 use lib.ListN.{length, drop, length-append, length-map}
 use Rattle.answer.specs.Answer.{Answer, done, refused}
 use Rattle.answer.specs.Verdict.{Test, _⇒_, _⇒_carrying_, verdict, answerOr}
-use Rattle.table.specs.Lists.{anyOf, same, sum, upTo, distinct}
+use Rattle.table.specs.Lists.{anyOf, sum, upTo, distinct}
 use Rattle.table.specs.Table.{Table, used, lookup}
-use Rattle.table.proofs.Counting.{count-le, count-split}
+use Rattle.table.proofs.Counting.{count-le}
+use Rattle.table.proofs.Distinct.{distinct-few}
 use Rattle.table.proofs.Rows.{rows-length, free-used}
 use Rattle.table.proofs.Below.{flat-length-sum}
 use Rattle.sha256.specs.Hash.{hashTests, hashAnswer}
@@ -136,10 +137,6 @@ ids-few mt me t (suc n) = rw length-append (omega (arith, ids-few mt me t n, one
 share-few : (before token : List ℕ) (u : ℕ) → length (idsOfShare program before token u) ≤ limit
 unfolding idsOfShare
 share-few before token u = le-trans (ids-few _ _ _ _) (share-small before (findCL token) u)
-
-distinct-few : (l : List (List ℕ)) → length (distinct l) ≤ length l
-distinct-few [] = omega arith
-distinct-few (x ∷ xs) = omega (arith, distinct-few xs, count-split (λ y. same y x) (distinct xs))
 
 held-few : (before token : List ℕ) → headerBad before ≡ false → length (idsHeld program before token) ≤ limit * 16
 unfolding idsHeld
