@@ -1,5 +1,6 @@
-"""Fixed examples: document 01's L1 to L6 and its worked list G1 to G8, on store and ledger both;
-and refusals 7 to 19 on made and forged stores, in the paper's order.
+"""Fixed examples: document 01's L1 to L6 and its worked list G1 to G8, on store and ledger both, and a list
+with ids that come more than once (document 02, request 1); and refusals 7 to 19 on made and forged
+stores, in the paper's order.
 """
 import scheme
 from calls import Compact, Count, Done, Erase, Find, Insert, Refused
@@ -86,6 +87,37 @@ def worked():
     ]
 
 
+def repeated():
+    """Calls with what each tells, where ids have several entries: each is found once [02:W1.1], at its first
+    place [02:W1.2], which is another after an erase and a new insert; 18 by the different ids [02:W1.3];
+    count [02:W1.4] and erase [02:W1.6] by entries. For p = 1, m = 9, c = s = 6."""
+    def find(letters, ids=None):
+        """A find with room for as many ids; refused where it finds more."""
+        lent = bytes([255]) * (16 * (len(letters) if ids is None else ids))
+        found = b"".join(id_of(x) for x in letters)
+        if len(lent) < len(found):
+            return Find(KEY, *HUE, lent), (Refused(18, (len(letters),)), lent)
+        return Find(KEY, *HUE, lent), (Done((len(letters),)), found + lent[len(found):])
+
+    def told(n):
+        return Done((n,)), None
+
+    count = Count(KEY, *HUE)
+    return [
+        ("R1", insert(HUE, 0, "AABA"), told(4)), ("R1", *find("AB")), ("R1", *find("AB", 1)),
+        ("R1", *find("AB", 3)), ("R1", count, told(4)),
+        ("R2", insert(HUE, 1, "CBA"), told(3)), ("R2", *find("ABC")), ("R2", *find("ABC", 2)),
+        ("R2", *find("ABC", 6)), ("R2", count, told(7)),
+        ("R3", insert(HUE, 0, "AABA"), (Refused(15, ()), None)), ("R3", *find("ABC", 0)),
+        ("R4", Erase(id_of("A")), told(4)), ("R4", *find("BC")), ("R4", count, told(7)),
+        ("R5", insert(HUE, 0, "A"), told(5)), ("R5", *find("BAC")), ("R5", insert(HUE, 1, "AB"), told(5)),
+        ("R5", *find("BAC", 4)), ("R5", *find("BAC", 2)), ("R5", count, told(10)),
+        ("R6", Compact(KEY, bytes(12 * 6)), (Done((2, 4)), None)), ("R6", *find("BAC")),
+        ("R7", Erase(id_of("B")), told(3)), ("R7", *find("AC")), ("R7", Erase(id_of("A")), told(2)),
+        ("R7", *find("C")), ("R7", count, told(10)),
+    ]
+
+
 def made(build, suite, p, m, c, s):
     model = build(suite)
     store = bytearray(scheme.length_of(m, c, s))
@@ -93,11 +125,11 @@ def made(build, suite, p, m, c, s):
     return model, store
 
 
-def run_worked(build, build_ledger):
+def run_calls(build, build_ledger, sizes, calls):
     for suite in (Cheap, Real):
-        model, store = made(build, suite, 1, 4, 4, 4)
-        ledger = build_ledger(1, 4, 4, 4)
-        for name, call, wanted in worked():
+        model, store = made(build, suite, *sizes)
+        ledger = build_ledger(*sizes)
+        for name, call, wanted in calls:
             expect(name + " in the ledger", ledger.call(call), wanted)
             expect(name + " in the store", model.call(store, call), wanted)
 
@@ -305,7 +337,8 @@ def rows():
 def shared(build, build_ledger):
     """The examples that a wrong version of store or ledger is held against."""
     labels(build)
-    run_worked(build, build_ledger)
+    run_calls(build, build_ledger, (1, 4, 4, 4), worked())
+    run_calls(build, build_ledger, (1, 9, 6, 6), repeated())
 
 
 def all_examples():

@@ -177,6 +177,8 @@ def fault_of(call, answer, output, before, after):
         return None
     if kind in ("Find", "Count") and before != after:
         return "a reading call changed the store"
+    if kind == "Find" and len(set(scheme.parts(output[:16 * answer.values[0]], 16))) < answer.values[0]:
+        return "a find gave an id twice"
     t = tables(before)
     for name, table in t.items():
         for i in range(table.rows):

@@ -1,4 +1,4 @@
-"""The ledger of document 01, 'The ledger', from its paragraph alone.
+"""The ledger of document 01, 'The ledger', from its paragraph alone, with request 1 of document 02.
 
 It is fed each call's raw arguments and never an answer or a byte of the store [01:LG3]; with
 the store it shares the form of an answer and the conditions 1 to 6 [01:LG4].
@@ -72,15 +72,22 @@ class Ledger:
         return Done((before - self.total(),))
 
     def find(self, call):
-        """[01:LG10], [01:LG14]"""
+        """[01:LG10], [01:LG14], [02:W1.3 W1.5]"""
         refused = first(calls.field_token_conditions(call.key, call.name, call.value))
         if refused:
             return refused, call.output
-        found = [id for u in range(self.p + 1)
-                 for id in self.lists.get((call.name, call.value, u), [])]
+        found = self.without_later_repeats(self.joined(call.name, call.value))
         if len(call.output) < 16 * len(found):
             return Refused(18, (len(found),)), call.output
         return Done((len(found),)), b"".join(found) + call.output[16 * len(found):]
+
+    def joined(self, name, value):
+        """The lists for u = 0 to p, one after the other."""
+        return [id for u in range(self.p + 1) for id in self.lists.get((name, value, u), [])]
+
+    def without_later_repeats(self, ids):
+        """Each id that stands nowhere before its place."""
+        return [id for at, id in enumerate(ids) if ids.index(id) == at]
 
     def count(self, call):
         """[01:LG11]"""

@@ -1,5 +1,6 @@
 """Labels, tokens, the store and the five operations on its bytes: document 01, 'Labels' to
-'Refusals from the state', for all inputs, hostile stores among them. Written from the paper.
+'Refusals from the state', with request 1 of document 02, for all inputs, hostile stores among them. Written
+from the papers.
 
 The row placing is a parameter: `lowest`, `random_place(generator)`, or `follow(after)`.
 """
@@ -328,7 +329,8 @@ class Scheme:
     # Find and count
 
     def find(self, store, token, output):
-        """Ids go to the start of the output, later bytes stay [01:OP7].
+        """Each id once, to the start of the output; later bytes stay [01:OP7]. 18 counts each id once
+        [01:RS11] [02:W1.3].
 
         The walk is as long as the count: a forged count makes it long, so tests
         with forged stores keep an accepted count small.
@@ -336,15 +338,24 @@ class Scheme:
         refused = first(self.find_all_conditions(store, token))
         if refused:
             return refused
-        found = []
-        for u, count in enumerate(self.counts(store, token[64:])):
-            mt = self.F(token[:32], number(u))
-            me = self.F(token[32:64], number(u))
-            found += self.share(store, mt, me, count)
+        found = self.once(self.shares(store, token))
         if len(output) < 16 * len(found):
             return Refused(18, (len(found),))
         output[:16 * len(found)] = b"".join(found)
         return Done((len(found),))
+
+    def once(self, shares):
+        """Each id at the first place where it comes [02:W1.1 W1.2]."""
+        return list(dict.fromkeys(id for ids in shares for id in ids))
+
+    def shares(self, store, token):
+        """For shares 0 to p the ids of their entries [01:OP6]."""
+        result = []
+        for u, count in enumerate(self.counts(store, token[64:])):
+            mt = self.F(token[:32], number(u))
+            me = self.F(token[32:64], number(u))
+            result.append(self.share(store, mt, me, count))
+        return result
 
     def share(self, store, mt, me, count):
         """The ids at addresses 1 to the count; a missing one is skipped [01:OP6]."""
