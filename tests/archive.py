@@ -32,6 +32,7 @@ from gate import left_out  # noqa: E402
 from hostile import FIELDS, KEY, Hostile  # noqa: E402
 from ledger import Ledger  # noqa: E402
 from primitives import Real  # noqa: E402
+from repeats import Repeats  # noqa: E402
 
 GUARD = bytes([0xA5]) * 32
 
@@ -312,9 +313,10 @@ def made(library, model, p, sizes, generator):
     return bytes(store)
 
 
-def one_list(library, model, drawn, listed, tally):
+def one_list(library, model, drawn, listed, tally, repeats):
     """A list of calls on a made store, against model store and ledger both."""
     ledger = Ledger(drawn.p, *drawn.sizes)
+    repeats.begin()
     store = made(library, model, drawn.p, drawn.sizes, drawn.r)
     try:
         for at, call in enumerate(listed):
@@ -328,23 +330,24 @@ def one_list(library, model, drawn, listed, tally):
             if (answer, output) != (wanted, wanted_output):
                 raise Difference("%s: the library gives %r, the ledger %r" % (kind, answer, wanted))
             note(tally, kind, answer)
+            repeats.call(ledger, call, answer)
     except Difference as difference:
         compare.show(drawn, listed, difference, "call %d of a list" % at)
         raise
 
 
 def lists(library, number, seed):
-    drawn, tally = compare.Lists(seed, 40), {}
+    drawn, tally, repeats = compare.Lists(seed, 40), {}, Repeats()
     model = scheme.Scheme(Other)
     began = shown = time.time()
     for i in range(number):
-        one_list(library, model, drawn, drawn.draw(), tally)
+        one_list(library, model, drawn, drawn.draw(), tally, repeats)
         shown = progress(began, shown, "lists", i + 1, number)
     if number >= 1000:
         often = {n: sum(v for (_, k), v in tally.items() if k == n) for n in (15, 16, 17, 18, 19)}
-        if not compare.all_told(tally) or min(often.values()) < number / 40:
+        if not compare.all_told(tally, repeats, number // 40) or min(often.values()) < number / 40:
             raise Difference("not tried often enough: %r" % often)
-    return "%d lists, %d calls, told %s" % (number, sum(tally.values()), numbers_told(tally))
+    return "%d lists, %d calls, told %s, %s" % (number, sum(tally.values()), numbers_told(tally), repeats)
 
 
 def large(library, seed):
@@ -366,7 +369,7 @@ def large(library, seed):
         listed += [calls.Find(drawn.key, *field, bytes(16 * n)) for n in (10, 4096)]
         listed += [calls.Count(drawn.key, *field)]
         listed += [calls.Compact(drawn.key, nonces(12 * n)) for n in (3, 4)]
-    one_list(library, scheme.Scheme(Other), drawn, listed, tally)
+    one_list(library, scheme.Scheme(Other), drawn, listed, tally, Repeats())
     return "%d calls, told %s" % (sum(tally.values()), numbers_told(tally))
 
 

@@ -3,7 +3,8 @@
 Each call's answer, or refusal with what it carries, and a find's whole output are compared;
 exit status 1 at the first difference, with the list of calls. `--mutants` shows that the
 comparison can fail: each deliberately wrong version has to be caught. Whole lists, from a fresh
-store of any sizes, under any row placing [01:LG2 LG5 LG6 LG14 LG15 LG17 LG18 LG19].
+store of any sizes, under any row placing [01:LG2 LG5 LG6 LG14 LG15 LG17 LG18 LG19]; ids with several
+entries in each way that a find may meet them [02:W1.1 W1.2 W1.3 W1.4 W1.5 W1.6].
 """
 import argparse
 import random
@@ -16,6 +17,7 @@ import scheme
 from calls import Compact, Count, Erase, Find, Insert, Refused, field_lengths_wrong
 from ledger import Ledger
 from primitives import Cheap, Real
+from repeats import Repeats
 
 FIELDS = [(b"hue", b"red"), (b"ab", b"c"), (b"a", b"bc"), (b"a", b""), (b"n" * 128, b"v" * 7)]
 WRONG_FIELDS = [(b"", b"c"), (b"n" * 256, b""), (b"a", b"v" * 1025)]
@@ -44,14 +46,30 @@ class Lists:
         r = self.r
         self.p = r.choice((0, 0, 1, 1, 2, 15))
         self.sizes = tuple(r.randint(1, 6) for _ in range(3))
-        if r.random() < 0.3:
+        shape = r.random()
+        if shape < 0.3:
             # Room for many entries, so that counters and anchors decide.
             self.sizes = (r.randint(6, 70),) + self.sizes[1:]
+        elif shape < 0.6:
+            # Room for many inserts, so that ids come to have several entries.
+            self.sizes = tuple(r.randint(6, 20) for _ in range(3))
         self.key = self.bytes(32)
         self.fields = r.sample(FIELDS, r.randint(1, 3))
-        self.ids = [self.bytes(16) for _ in range(r.randint(1, 6))]
+        self.ids = self.some_ids(r.randint(1, 6))
+        self.given, self.erased = [], []
         self.weights = [r.choice((4, 8)), r.choice((1, 4)), 4, 2, r.choice((1, 3))]
         return [self.call() for _ in range(r.randint(1, self.longest))]
+
+    def some_ids(self, n):
+        """Ids that have nothing in common, or that differ from the first in one byte."""
+        if self.r.random() < 0.6:
+            return [self.bytes(16) for _ in range(n)]
+        result = [self.bytes(16)]
+        while len(result) < n:
+            changed = bytearray(result[0])
+            changed[self.r.randrange(16)] ^= self.r.choice((1, 128, 255))
+            result.append(bytes(changed))
+        return result
 
     def any_key(self):
         """K, or a key of a length that 1 refuses [01:LG17]."""
@@ -71,17 +89,33 @@ class Lists:
         u = r.randint(0, min(p, 2)) if r.random() < 0.96 else r.choice((p, p + 1))
         most = self.sizes[0] + 1 if r.random() < 0.1 else min(3, self.sizes[0])
         j = r.choice((r.randint(1, most), 1, r.choice((0, 64, 65)) if r.random() < 0.1 else 1))
-        ids = b"".join(r.choice(self.ids) for _ in range(j))[:self.near(16 * j)]
+        ids = self.inserted(j)
+        ids = ids[:self.near(len(ids))]
         return Insert(self.any_key(), *self.field(), p, u, self.nonce_bytes(self.near(12)),
                       self.nonce_bytes(self.near(12 * (len(ids) // 16 + 1))), ids)
 
+    def inserted(self, j):
+        """The ids of an insert: any; those of an earlier insert once more, as of a client that lost its
+        connection; with one that was erased before."""
+        r = self.r
+        if self.given and r.random() < 0.2:
+            return r.choice(self.given)
+        ids = [r.choice(self.ids) for _ in range(j)]
+        if ids and self.erased and r.random() < 0.4:
+            ids[r.randrange(j)] = r.choice(self.erased)
+        self.given.append(b"".join(ids))
+        return self.given[-1]
+
     def erase(self):
         id = self.r.choice(self.ids) if self.r.random() < 0.9 else self.bytes(16)
+        self.erased.append(id)
         return Erase(id if self.r.random() < 0.97 else (id + id)[:self.near(17)])
 
     def find(self):
         r = self.r
-        room = 16 * (self.sizes[0] + 1) if r.random() < 0.6 else r.randint(0, 16 * self.sizes[0])
+        most = self.sizes[0]
+        room = r.choice((16 * (most + 1), 16 * (most + 1), 16 * r.randint(0, most), 16 * r.randint(0, min(6, most)),
+                         r.randint(0, 16 * most)))
         return Find(self.any_key(), *self.field(), self.bytes(room))
 
     def count(self):
@@ -121,7 +155,7 @@ def run_list(calls, stores, ledger, tell=None):
     for at, call in enumerate(calls):
         wanted = ledger.call(call)
         if tell:
-            tell(call, wanted)
+            tell(ledger, call, wanted)
         for model, store in stores:
             before = bytes(store)
             got = model.call(store, call)
@@ -160,16 +194,18 @@ def stores_for(builders, lists):
 
 
 def compare(suite, seed, number, longest, premise):
-    """`number` lists over one suite; a tally of what was told, or None at a difference."""
-    lists, tally, began, shown = Lists(seed, longest), {}, time.time(), time.time()
+    """`number` lists over one suite; a tally of what was told and one of repeats, or None at a difference."""
+    lists, tally, repeats, began, shown = Lists(seed, longest), {}, Repeats(), time.time(), time.time()
 
-    def tell(call, said):
+    def tell(ledger, call, said):
         answer = said[0].number if isinstance(said[0], Refused) else "done"
         key = (type(call).__name__, answer)
         tally[key] = tally.get(key, 0) + 1
+        repeats.call(ledger, call, said[0])
 
     for i in range(number):
         calls = lists.draw()
+        repeats.begin()
         models = [scheme.Scheme(suite),
                   scheme.Scheme(suite, scheme.random_place(random.Random(seed + i)))]
         try:
@@ -184,18 +220,23 @@ def compare(suite, seed, number, longest, premise):
             print("  %s suite: %d of %d lists" % (suite.name, i + 1, number), flush=True)
     print("%s suite: %d lists alike, %d calls, %.1f s"
           % (suite.name, number, sum(tally.values()), time.time() - began), flush=True)
-    return tally
+    print("%s suite: %s" % (suite.name, repeats), flush=True)
+    return tally, repeats
 
 
-def all_told(tally):
-    """Every answer that a list can come to was come to, so that no rule went untried."""
+def all_told(tally, repeats, least):
+    """Every answer that a list can come to was come to, so that no rule went untried; and each kind of
+    repeats was met as often as `least` says."""
     wanted = {"Insert": (1, 2, 3, 4, 5, 12, 15, 16, 17), "Erase": (5,), "Find": (1, 2, 18),
               "Count": (1, 2), "Compact": (1, 4, 19)}
     missing = [(kind, n) for kind, numbers in wanted.items() for n in ("done",) + numbers
                if not tally.get((kind, n))]
     if missing:
         print("NOT TRIED", missing)
-    return not missing
+    seldom = repeats.too_seldom(least)
+    if seldom:
+        print("NOT TRIED OFTEN ENOUGH, %d times: %s" % (least, seldom))
+    return not missing and not seldom
 
 
 def hostile_stores(given):
@@ -226,8 +267,8 @@ def main():
         return mutants.caught(given)
     real = given.lists // 10 if given.real is None else given.real
     for suite, number in ((Cheap, given.lists), (Real, real)):
-        tally = compare(suite, given.seed, number, given.longest, given.premise)
-        if tally is None or (number >= 1000 and not all_told(tally)):
+        told_all = compare(suite, given.seed, number, given.longest, given.premise)
+        if told_all is None or (number >= 1000 and not all_told(*told_all, number // 40)):
             return 1
     return hostile_stores(given)
 

@@ -101,6 +101,41 @@ class LedgerAnchorsNotKept(Ledger):
         return self.inserts + 1 > self.c
 
 
+class LedgerFindsRepeats(Ledger):
+    def without_later_repeats(self, ids):
+        return ids
+
+
+class LedgerDropsEarlierRepeats(Ledger):
+    def without_later_repeats(self, ids):
+        return super().without_later_repeats(ids[::-1])[::-1]
+
+
+class LedgerErasesEachIdOnce(Ledger):
+    def erase(self, call):
+        answer = super().erase(call)
+        return Done((min(1, answer.values[0]),)) if isinstance(answer, Done) else answer
+
+
+class LedgerCountsEachIdOnce(Ledger):
+    def count(self, call):
+        answer = super().count(call)
+        if isinstance(answer, Refused):
+            return answer
+        joined = self.joined(call.name, call.value)
+        return Done((answer.values[0] - len(joined) + len(set(joined)),))
+
+
+class LedgerKeepsEachIdOnce(Ledger):
+    """An insert leaves out what its list has: fewer rows are used, and erase tells fewer."""
+    def insert(self, call):
+        answer = super().insert(call)
+        if isinstance(answer, Done):
+            pair = (call.name, call.value, call.u)
+            self.lists[pair] = self.without_later_repeats(self.lists[pair])
+        return answer
+
+
 class CompactionLeavesS(Scheme):
     def free_s(self, store, token, cl):
         pass
@@ -169,6 +204,102 @@ class FindAlwaysEmpty(Scheme):
         return []
 
 
+class FindGivesRepeats(Scheme):
+    def once(self, shares):
+        return [id for ids in shares for id in ids]
+
+
+class FindAtLastPlace(Scheme):
+    def once(self, shares):
+        return super().once([ids[::-1] for ids in shares[::-1]])[::-1]
+
+
+class FindDropsNeighboursOnly(Scheme):
+    def once(self, shares):
+        joined = [id for ids in shares for id in ids]
+        return [id for at, id in enumerate(joined) if at == 0 or joined[at - 1] != id]
+
+
+class FindOnceWithinShare(Scheme):
+    def once(self, shares):
+        return [id for ids in shares for id in super(FindOnceWithinShare, self).once([ids])]
+
+
+class FindOnceWithinFirstShare(Scheme):
+    """Repeats in later shares are dropped where share 0 has the id, and not among themselves."""
+    def once(self, shares):
+        first_share = super().once(shares[:1])
+        return first_share + [id for ids in shares[1:] for id in ids if id not in first_share]
+
+
+class FindDropsEveryRepeated(Scheme):
+    """An id with several entries is left out whole."""
+    def once(self, shares):
+        joined = [id for ids in shares for id in ids]
+        return [id for id in joined if joined.count(id) == 1]
+
+
+class FindOnceByFifteenBytes(Scheme):
+    def once(self, shares):
+        kept = {}
+        for ids in shares:
+            for id in ids:
+                kept.setdefault(id[:15], id)
+        return list(kept.values())
+
+
+class FindOnceByEightBytes(Scheme):
+    """The last eight."""
+    def once(self, shares):
+        kept = {}
+        for ids in shares:
+            for id in ids:
+                kept.setdefault(id[8:], id)
+        return list(kept.values())
+
+
+class FindInOrderOfBytes(Scheme):
+    def once(self, shares):
+        return sorted(super().once(shares))
+
+
+class FindCarriesEntries(Scheme):
+    """18 carries the number with repeats."""
+    def find(self, store, token, output):
+        answer = super().find(store, token, output)
+        if answer[0] != 18:
+            return answer
+        return Refused(18, (sum(len(ids) for ids in self.shares(store, token)),))
+
+
+class FindWantsRoomForEntries(Scheme):
+    """18 is judged on the number with repeats, and carries the right one."""
+    def find(self, store, token, output):
+        lent = bytes(output)
+        answer = super().find(store, token, output)
+        if isinstance(answer, Done) and len(lent) < 16 * sum(len(ids) for ids in self.shares(store, token)):
+            output[:] = lent
+            return Refused(18, answer.values)
+        return answer
+
+
+class FindLeavesRepeatsBehind(Scheme):
+    """All entries' ids are written where there is room, then the different ones over them."""
+    def find(self, store, token, output):
+        answer = super().find(store, token, output)
+        if isinstance(answer, Done):
+            all_ids = b"".join(id for ids in self.shares(store, token) for id in ids)
+            n = 16 * answer.values[0]
+            output[n:len(all_ids)] = all_ids[n:len(output)]
+        return answer
+
+
+class EraseCountsEachIdOnce(Scheme):
+    def erase(self, store, id):
+        answer = super().erase(store, id)
+        return Done((min(1, answer.values[0]),)) if isinstance(answer, Done) else answer
+
+
 class RoomInAnotherOrder(Scheme):
     def room_conditions(self, store, count, j):
         return iter(sorted(super().room_conditions(store, count, j), reverse=True))
@@ -210,14 +341,22 @@ class SharesAlike(Scheme):
         return token[:1] + self.F(self.address_key(key, name, value), number(0)) + token[33:]
 
 
+# What document 02, request 1, could be taken for [02:W1.1 W1.2 W1.3 W1.6]; the lists have to catch each of these, the ledger's
+# below among them [02:W1.4 W1.5 W1.6].
+REPEATS = [FindGivesRepeats, FindAtLastPlace, FindDropsNeighboursOnly, FindOnceWithinShare,
+           FindOnceWithinFirstShare, FindDropsEveryRepeated, FindOnceByFifteenBytes, FindOnceByEightBytes,
+           FindInOrderOfBytes, FindCarriesEntries, FindWantsRoomForEntries, FindLeavesRepeatsBehind,
+           EraseCountsEachIdOnce]
+LEDGERS_REPEATS = [LedgerFindsRepeats, LedgerDropsEarlierRepeats, LedgerErasesEachIdOnce,
+                   LedgerCountsEachIdOnce, LedgerKeepsEachIdOnce]
 STORES = [CountsFromZeroAfterAnchor, NextAddressFromIdsListed, AnchorPerSRow, AnchorCountOneShort,
           AnchorNumberAgain, EraseLeavesM, EraseLeavesV, EraseFirstOnly, CompactionLeavesS,
           CompactionLeavesCounters, CompactionNeverTreats, InsertWritesNoCounter,
           InsertWritesOnlyFirst, FindStopsAtMissing, FindOneAddressShort, FindOnlyShareZero,
           FindWritesBeforeRefusing, FindCarriesRoom, FindAlwaysEmpty, RoomInAnotherOrder,
-          RefusesWhenFull, CompactionByLabels, LabelWithoutLength, LabelBigGroupsFirst, SharesAlike]
+          RefusesWhenFull, CompactionByLabels, LabelWithoutLength, LabelBigGroupsFirst, SharesAlike] + REPEATS
 LEDGERS = [LedgerMadeFromIdsListed, LedgerAnchorPerInsert, LedgerSixteenTooLate,
-           LedgerAnchorsNotKept]
+           LedgerAnchorsNotKept] + LEDGERS_REPEATS
 
 
 def by_examples(build, build_ledger):
@@ -256,6 +395,6 @@ def caught(given):
             continue
         print("%-28s examples: %-18s lists: %s"
               % (wrong.__name__, example or "-", "after %d" % after if after else "-"), flush=True)
-        missed += not (example or after)
+        missed += not (after if wrong in REPEATS + LEDGERS_REPEATS else example or after)
     print("%d wrong versions, %d not caught, %d at fault" % (len(STORES + LEDGERS), missed, faults))
     return 1 if missed or faults else 0
