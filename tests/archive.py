@@ -1,6 +1,6 @@
 """The static library against the model, through the C interface: hash, F and E, on published vectors too;
-random lists of calls against the model store and the model ledger; calls on hostile stores against the
-model store. Expected values come from tests/model, Python's hashlib and hmac, OpenSSL's libcrypto and
+random lists of calls against the model store and the model ledger; large lists whose ids have many entries;
+calls on hostile stores against the model store. Expected values come from tests/model, Python's hashlib and hmac, OpenSSL's libcrypto and
 published files, never from our own code. Exit status 1 at the first difference.
 
   archive.py LIBRARY [--lists N] [--hostile N] [--seed N] [--long]
@@ -9,6 +9,7 @@ LIBRARY is the archive linked as a shared object (tests/run makes it). --long ru
 The row placing is read off the store that the library left, so that stores are compared byte for byte.
 """
 import argparse
+import collections
 import ctypes
 import functools
 import hashlib
@@ -152,7 +153,8 @@ def encoded(answer):
 
 def same(what, got, wanted):
     if got != wanted:
-        show = [x.hex() if isinstance(x, bytes) else x for x in (got, wanted)]
+        show = [compare.short(x) if isinstance(x, bytes) and len(x) > 4096 else x.hex() if isinstance(x, bytes) else x
+                for x in (got, wanted)]
         raise Difference("%s: the library gives %s, expected %s" % (what, *show))
 
 
@@ -373,6 +375,112 @@ def large(library, seed):
     return "%d calls, told %s" % (sum(tally.values()), numbers_told(tally))
 
 
+# Ids with many entries
+
+
+class Filled:
+    """The largest store, on which the model store is slow: each answer and output of the library is held to the
+    ledger's."""
+
+    SIZES = (4096, 4096, 4096)
+
+    def __init__(self, library, p, generator, repeats):
+        self.library, self.p, self.r, self.repeats = library, p, generator, repeats
+        self.model, self.ledger, self.calls = scheme.Scheme(Other), Ledger(p, *self.SIZES), 0
+        self.key, self.field = generator.randbytes(32), compare.FIELDS[0]
+        store = bytearray(scheme.length_of(*self.SIZES))
+        self.model.make(store, p, *self.SIZES)
+        self.store = bytes(store)
+        repeats.begin()
+
+    def call(self, call):
+        wanted, wanted_output = self.ledger.call(call)
+        kind, token = type(call).__name__, None if isinstance(call, calls.Erase) else self.model.token(call)
+        told, output, self.store = by_library(self.library, self.store, kind, token, call)
+        same(kind, told, encoded(wanted))
+        same(kind + ", output", output, wanted_output)
+        self.repeats.call(self.ledger, call, wanted)
+        self.calls += 1
+        return wanted
+
+    def insert(self, u, ids):
+        """Ids into a share, 64 at a time."""
+        for at in range(0, len(ids), 64):
+            part = ids[at:at + 64]
+            answer = self.call(calls.Insert(self.key, *self.field, self.p, u, self.r.randbytes(12),
+                                            self.r.randbytes(12 * (len(part) + 1)), b"".join(part)))
+            same("an insert is done", type(answer), Done)
+
+    def entries(self):
+        return self.ledger.joined(*self.field)
+
+    def finds(self):
+        """Outputs at both sides of what the different ids take, and of what the entries take."""
+        ids, entries = 16 * len(set(self.entries())), 16 * len(self.entries())
+        for room in sorted({0, ids - 16, ids - 1, ids, ids + 1, entries - 1, entries, 16 * 4096 + 5}):
+            self.call(calls.Find(self.key, *self.field, self.r.randbytes(room)))
+        self.call(calls.Count(self.key, *self.field))
+
+    def changes(self):
+        """Ids erased, one of them inserted again, a compaction: finds after each."""
+        ids = sorted(set(self.entries()), key=self.entries().count)
+        gone = [ids[0], ids[len(ids) // 2], ids[-1]]
+        for id in gone:
+            self.call(calls.Erase(id))
+        self.finds_or_nothing()
+        for u in (self.p, 0):
+            self.insert(u, [gone[-1]] * 2)
+        self.finds()
+        self.call(calls.Compact(self.key, self.r.randbytes(12 * 4096)))
+        self.finds()
+
+    def finds_or_nothing(self):
+        if self.entries():
+            self.finds()
+        else:
+            self.call(calls.Find(self.key, *self.field, b""))
+
+
+def one_byte_changed(id):
+    """The ids that differ from one in a byte."""
+    return [id[:at] + bytes([other]) + id[at + 1:] for at in range(16) for other in range(256) if other != id[at]]
+
+
+def repeated(library, seed):
+    """Thousands of entries of few ids, of one, of ids that differ in one byte, in all shares, and of ids that are
+    multiples of one number, as would fall into one bucket of a hash table [02:W1.1 W1.2 W1.3 W1.4 W1.6]."""
+    r, repeats, made = random.Random(seed), Repeats(), 0
+    hundred, one = [r.randbytes(16) for _ in range(100)], r.randbytes(16)
+    near = [one] + one_byte_changed(one)
+    steps = [(4093 * n).to_bytes(16, "big") for n in range(1000)] + [(4093 * n << 64).to_bytes(16, "big") for n in range(1000)]
+    for p, ids, wanted in (
+            (0, [r.choice(hundred) for _ in range(3900)] + hundred, (4000, 100, 1)),
+            (3, [one] * 4000, (4000, 1, 4)),
+            (1, r.sample(near, len(near)) + near[:10], (4091, 4081, 2)),
+            (15, [r.choice(hundred[:80]) for _ in range(3920)] + hundred[:80], (4000, 80, 16)),
+            (0, steps + r.sample(steps, len(steps)), (4000, 1999, 1))):
+        filled = Filled(library, p, r, repeats)
+        shares = p + 1
+        for u in r.sample(range(shares), shares):
+            filled.insert(u, ids[u::shares])
+        entries = collections.Counter(filled.entries())
+        several = sum(any(entries[id] > 1 for id in listed) for listed in filled.ledger.lists.values())
+        same("entries, different ids, shares with repeats", (sum(entries.values()), len(entries), several), wanted)
+        filled.finds()
+        if len(entries) == 100:
+            # once what the model finds in the library's bytes
+            output = bytearray(1600)
+            token = filled.model.find_token(filled.key, *filled.field)
+            same("the model's find", filled.model.find(filled.store, token, output), Done((100,)))
+            same("its output", library.find(filled.store, token, bytes(1600)), (100, bytes(output)))
+        filled.changes()
+        made += filled.calls
+    seldom = repeats.too_seldom(5)
+    if seldom:
+        raise Difference("not tried often enough: %s" % seldom)
+    return "%d calls, %s" % (made, repeats)
+
+
 # Hostile stores
 
 
@@ -383,10 +491,10 @@ class Stores(Hostile):
         super().__init__(seed, suite)
         self.bases = []
         for _ in range(bases):
-            self.p, self.sizes = self.r.choice((0, 1, 2)), [self.r.randint(1, 6) for _ in range(3)]
+            self.shape()
             model, store = scheme.Scheme(suite), bytearray(scheme.length_of(*self.sizes))
             model.make(store, self.p, *self.sizes)
-            for _ in range(self.r.randint(0, 10)):
+            for _ in range(self.r.randint(0, 2 * self.sizes[2])):
                 model.call(store, self.call())
             self.bases.append((self.p, self.sizes, bytes(store)))
 
@@ -399,8 +507,8 @@ class Stores(Hostile):
             self.counts += [scheme.GREATEST - 2, scheme.GREATEST - 1, scheme.GREATEST]
         for _ in range(r.choice((1, 1, 2, 3, 5))):
             r.choices((self.forge, self.repeat, self.damage, self.swap, self.free_bytes, self.mark,
-                       self.header, self.length, self.noise, self.rows),
-                      (10, 4, 4, 3, 2, 1, 1, 1, 1, 1))[0](model, store)
+                       self.header, self.length, self.noise, self.rows, self.entry),
+                      (10, 4, 4, 3, 2, 1, 1, 1, 1, 1, 6))[0](model, store)
             if scheme.header(store) is None:
                 break
         return bytes(store)
@@ -421,35 +529,52 @@ class Stores(Hostile):
             return right[:at] + bytes([right[at] ^ self.r.randint(1, 255)]) + right[at + 1:]
         return self.bytes(len(right)) if kind < 0.97 else right[:-1] if kind < 0.985 else right + b"\0"
 
-    def five(self):
+    def five(self, store):
         """A call of each kind, with its token."""
         r, model = self.r, scheme.Scheme(self.suite)
         field, u = r.choice(FIELDS), r.randint(0, self.p)
-        id, j = bytes([r.randint(0, 3)]) * 16, r.choice((1, 1, 2, 3))
+        id, j = self.id(), r.choice((1, 1, 2, 3))
         insert = calls.Insert(KEY, *field, self.p, u, self.bytes(12), self.bytes(12 * (j + 1)), id * j)
         nonces = r.choice((self.sizes[2], self.sizes[2], r.randint(0, self.sizes[2])))
         for call in (insert, calls.Erase(id), calls.Count(KEY, *field),
-                     calls.Find(KEY, *field, self.bytes(r.choice((0, 15, 16, 96, 200)))),
+                     calls.Find(KEY, *field, self.bytes(self.room(model, store, field))),
                      calls.Compact(KEY, self.bytes(12 * nonces))):
             token = model.token(call)
             yield type(call).__name__, token and self.other(token), call
 
 
-def walks_far(model, store, token):
+    def room(self, model, store, field):
+        """An output's length: any, or at either side of what the different ids and the entries take."""
+        r, shares = self.r, found(model, store, model.find_token(KEY, *field))
+        if shares is None or r.random() < 0.5:
+            return r.choice((0, 15, 16, 96, 200))
+        entries = [id for ids in shares for id in ids]
+        return max(0, 16 * len(r.choice((entries, set(entries), set(entries)))) + r.choice((-16, -1, 0, 1)))
+
+
+def found(model, store, token, most=1000):
+    """For each share the ids of its entries; None where a find is refused before 18, or would walk a forged
+    count, for which there is no time."""
+    if walks_far(model, store, token, most) or calls.first(model.find_all_conditions(store, token)):
+        return None
+    return model.shares(store, token)
+
+
+def walks_far(model, store, token, most=1000):
     """Whether a find would walk a forged count, for which there is no time."""
     if len(token) != 96 or scheme.header(store) is None or scheme.marks_wrong(store):
         return False
     counts = model.counts(store, token[64:])
-    return counts is not None and sum(counts) > 1000
+    return counts is not None and sum(counts) > most
 
 
 def hostile_stores(library, number, seed):
-    drawn, tally, left_out = Stores(seed, Other, 400), {}, 0
+    drawn, tally, left_out, repeats = Stores(seed, Other, 400), {}, 0, Repeats()
     model = scheme.Scheme(Other)
     began = shown = time.time()
     for i in range(number):
         store = drawn.broken()
-        for kind, token, call in drawn.five():
+        for kind, token, call in drawn.five(store):
             if kind == "Find" and walks_far(model, store, token):
                 left_out += 1
                 continue
@@ -459,15 +584,51 @@ def hostile_stores(library, number, seed):
                 if fault:
                     raise Difference(fault)
             except Difference:
-                print("store %d, seed %d: %s\n%r %s" % (i, seed, store.hex(), call, token.hex()))
+                print("store %d, seed %d: %s\n%r %s" % (i, seed, store.hex(), call, token and token.hex()))
                 raise
             note(tally, kind, answer)
+            if kind == "Find":
+                repeats.find(found(model, store, token) or [], answer, len(call.output))
         shown = progress(began, shown, "hostile stores", i + 1, number)
     missing = {6, 10, 11, 12, 13, 14, 15, 16, 17, 18, 19} - set(numbers_told(tally))
     if number >= 5000 and missing:
         raise Difference("not tried: %s" % sorted(missing))
-    return "%d stores, %d calls, %d finds of forged counts left out, told %s" % (
-        number, sum(tally.values()), left_out, numbers_told(tally))
+    # A broken store tells nothing of what was erased before.
+    seldom = repeats.too_seldom(number // 200, but=["after an erase"])
+    if number >= 5000 and seldom:
+        raise Difference("not tried often enough: %s" % seldom)
+    return "%d stores, %d calls, %d finds of forged counts left out, told %s, %s" % (
+        number, sum(tally.values()), left_out, numbers_told(tally), repeats)
+
+
+def long_walks(library, number, seed):
+    """Finds by forged counts that sum to either side of the rows that a table can have, as counts do after many
+    erases; entries of few ids at near and far addresses."""
+    drawn, repeats, sums = Stores(seed, Other, 0), Repeats(), []
+    r, model = drawn.r, scheme.Scheme(Other)
+    for i in range(number):
+        drawn.p, drawn.sizes = r.choice((0, 1, 2)), [r.randint(6, 16), 6, 6]
+        store = bytearray(scheme.length_of(*drawn.sizes))
+        model.make(store, drawn.p, *drawn.sizes)
+        sums.append((4095, 4096, 4097, r.randint(4098, 10000))[i % 4])
+        cuts = sorted(r.randint(0, sums[-1]) for _ in range(drawn.p))
+        counts = [y - x for x, y in zip([0] + cuts, cuts + [sums[-1]])]
+        for u, count in enumerate(counts):
+            cl = model.F(model.counter_key(KEY, *FIELDS[0]), scheme.number(u))
+            model.put_c(store, cl, model.counter_tag(cl, 1), drawn.bytes(12), 0, count)
+        for _ in range(2 * drawn.sizes[0]):
+            drawn.entry(model, store, FIELDS[:1], [1, 2] + [n + more for n in counts for more in (-1, 0, 1)])
+        token = model.find_token(KEY, *FIELDS[0])
+        shares = found(model, bytes(store), token, most=10000)
+        different = len({id for ids in shares for id in ids})
+        for room in {16 * different, max(0, 16 * different - 16), 16 * sum(map(len, shares))}:
+            call = calls.Find(KEY, *FIELDS[0], drawn.bytes(room))
+            answer, _, _ = operate(library, model, bytes(store), "Find", token, call)
+            repeats.find(shares, answer, room)
+    seldom = repeats.too_seldom(number // 10, but=["after an erase"])
+    if seldom:
+        raise Difference("not tried often enough: %s" % seldom)
+    return "%d stores, counts from %d to %d, %s" % (number, min(sums), max(sums), repeats)
 
 
 def main():
@@ -489,8 +650,10 @@ def main():
     parts = [("hash, F and E", lambda: primitives(library, random.Random(given.seed))),
              ("published vectors", lambda: published(library)),
              ("the largest store", lambda: large(library, given.seed)),
+             ("ids with many entries", lambda: repeated(library, given.seed)),
              ("lists", lambda: lists(library, many * given.lists, given.seed)),
-             ("hostile stores", lambda: hostile_stores(library, many * given.hostile, given.seed))]
+             ("hostile stores", lambda: hostile_stores(library, many * given.hostile, given.seed)),
+             ("counts past the rows", lambda: long_walks(library, many * 40, given.seed))]
     for name, part in parts:
         began = time.time()
         try:

@@ -1,5 +1,5 @@
-/* The worked list of calls of document 01 (G1 to G8) through the C interface, with every answer and
- * find checked. Each argument has a heap block of exactly its size, so that valgrind sees a read or
+/* The worked list of calls of document 01 (G1 to G8) through the C interface, then a list whose ids have
+ * several entries (document 02, request 1), with every answer and find checked. Each argument has a heap block of exactly its size, so that valgrind sees a read or
  * write past it; tests/run runs it so. */
 #include "../include/mazhkuri.h"
 
@@ -131,12 +131,42 @@ static void empty(void) {
   free(none), free(out), free(token);
 }
 
-int main(void) {
-  store_length = MAZHKURI_STORE(4, 4, 4);
+static void make(uint64_t p, uint64_t m, uint64_t c, uint64_t s) {
+  store_length = MAZHKURI_STORE(m, c, s);
   store = block(NULL, 0xaa, store_length);
+  expect("make", mazhkuri_make(p, m, c, s, store, store_length), 0);
+}
+
+/* Each id is found once, at its first place [02:W1.1 W1.2]; find tries room for the different ids, where there
+ * are more entries, and a byte less: 18 with the number of different ids [02:W1.3]. Count and erase tell of
+ * entries [02:W1.4 W1.6]. */
+static void repeated(void) {
+  make(1, 9, 6, 6);
+  insert("R1", HUE, 0, "AABA", 4);
+  find("R1", HUE, "AB");
+  count("R1", HUE, 4);
+  insert("R2", HUE, 1, "CBA", 3);
+  find("R2", HUE, "ABC");
+  count("R2", HUE, 7);
+  erase("R4", "A", 4);
+  find("R4", HUE, "BC");
+  insert("R5", HUE, 0, "A", 5);
+  find("R5", HUE, "BAC");
+  insert("R5", HUE, 1, "AB", 5);
+  find("R5", HUE, "BAC");
+  compact("R6", 4, 2 * 4294967296 + 4);
+  find("R6", HUE, "BAC");
+  erase("R7", "B", 3);
+  erase("R7", "A", 2);
+  find("R7", HUE, "C");
+  count("R7", HUE, 10);
+  free(store);
+}
+
+int main(void) {
   key = block("0123456789abcdef0123456789abcdef", 0, 32);
+  make(1, 4, 4, 4);
   expect("store length", (int64_t)store_length, 872);
-  expect("make", mazhkuri_make(1, 4, 4, 4, store, store_length), 0);
   insert("G1", HUE, 0, "AB", 2);
   insert("G1", HUE, 1, "C", 1);
   find("G1", HUE, "ABC");
@@ -169,7 +199,9 @@ int main(void) {
   expect("anchors", mazhkuri_anchors(2 * 4294967296 + 7), 2);
   expect("counters", mazhkuri_counters(2 * 4294967296 + 7), 7);
   empty();
-  free(store), free(key);
-  if (!failed) printf("G1 to G8 over the archive: as document 01 says\n");
+  free(store);
+  repeated();
+  free(key);
+  if (!failed) printf("G1 to G8, and ids with several entries, over the archive: as the papers say\n");
   return failed;
 }

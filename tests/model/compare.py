@@ -261,7 +261,7 @@ def main():
     options.add_argument("--mutants", action="store_true", help="wrong versions are caught")
     given = options.parse_args()
     examples.all_examples()
-    print("L1 to L6, G1 to G8 and the forged stores: as document 01 says", flush=True)
+    print("L1 to L6, G1 to G8, ids with several entries and the forged stores: as the papers say", flush=True)
     if given.mutants:
         import mutants
         return mutants.caught(given)

@@ -1,7 +1,7 @@
 """Hostile stores for the five operations: document 01 says what each call does for all inputs.
 
 A store that some calls made is broken in one or more ways: header, length, marks, damaged and
-forged rows, tags that repeat, bytes in free rows, random bytes. `Hostile.draw` gives the store
+forged rows, tags and ids that repeat, bytes in free rows, random bytes. `Hostile.draw` gives the store
 and a call; `check` runs the model on it and holds it to what no store may change.
 """
 import random
@@ -26,7 +26,7 @@ class Hostile:
     def draw(self):
         """A broken store and a call on it."""
         r, model = self.r, Scheme(self.suite)
-        self.p, self.sizes = r.choice((0, 1, 2)), [r.randint(1, 6) for _ in range(3)]
+        self.shape()
         store = bytearray(scheme.length_of(*self.sizes))
         model.make(store, self.p, *self.sizes)
         for _ in range(r.randint(0, 8)):
@@ -38,18 +38,34 @@ class Hostile:
             self.counts += [GREATEST - 2, GREATEST - 1, GREATEST]
         for _ in range(r.choice((1, 1, 2, 4))):
             r.choices((self.forge, self.repeat, self.damage, self.swap, self.free_bytes, self.mark,
-                       self.header, self.length, self.noise),
-                      (8, 4, 4, 3, 2, 1, 1, 1, 1))[0](model, store)
+                       self.header, self.length, self.noise, self.entry),
+                      (8, 4, 4, 3, 2, 1, 1, 1, 1, 4))[0](model, store)
             if scheme.header(store) is None:
                 break
         return store, call
 
+    def shape(self):
+        """The store's p, m, c, s; some have room for many entries of an id."""
+        r = self.r
+        self.p, self.sizes = r.choice((0, 1, 2)), [r.randint(1, 6) for _ in range(3)]
+        if r.random() < 0.3:
+            self.sizes = [r.randint(6, 20) for _ in range(3)]
+
+    def id(self):
+        """One of few ids: they differ in every byte, or in one."""
+        r = self.r
+        id = bytearray(bytes([r.randint(0, 3)]) * 16)
+        if r.random() < 0.2:
+            id[r.choice((0, 7, 8, 15))] ^= 1
+        return bytes(id)
+
     def call(self):
         r = self.r
-        field, id = r.choice(FIELDS), bytes([r.randint(0, 3)]) * 16
+        field, id = r.choice(FIELDS), self.id()
         j = r.choice((1, 1, 2, 3))
+        ids = id * j if r.random() < 0.5 else b"".join(self.id() for _ in range(j))
         insert = calls.Insert(KEY, *field, self.p, r.randint(0, self.p), self.bytes(12),
-                              self.bytes(12 * (j + 1)), id * j)
+                              self.bytes(12 * (j + 1)), ids)
         nonces = r.choice((self.sizes[2], self.sizes[2], r.randint(0, self.sizes[2])))
         compact = calls.Compact(KEY, self.bytes(12 * nonces))
         find = calls.Find(KEY, *field, self.bytes(r.choice((0, 16, 96, 200))))
@@ -90,6 +106,14 @@ class Hostile:
         nonce, key = self.bytes(12), model.F(cl, number(2))
         plain = number(one) + number(r.choice(self.counts))
         set_row(store, t, i, b"\1" + tag + nonce + model.E(key, nonce, plain))
+
+    def entry(self, model, store, fields=FIELDS, addresses=range(1, 7)):
+        """An M row at an address of a field and share that no insert wrote, with one of the few ids."""
+        t, i = self.any_row(store, "M")
+        field, u = self.r.choice(fields), number(self.r.randint(0, self.p))
+        mt, me = model.F(model.address_key(KEY, *field), u), model.F(model.entry_key(KEY, *field), u)
+        tag, nonce = model.entry_tag(mt, max(0, self.r.choice(addresses))), self.bytes(12)
+        set_row(store, t, i, b"\1" + tag + nonce + model.E(me, nonce, self.id()))
 
     def repeat(self, model, store):
         """A row stands twice, or its tag does."""

@@ -53,7 +53,7 @@ def kinds(shares, erased, done, room):
            "side by side": any(joined[at - 1] == joined[at] for at in again),
            "apart": any(joined[at - 1] != joined[at] for at in again),
            "another order by last places": list(first) != list(last)[::-1],
-           "one byte apart": any(one_byte_apart(x, y) for x in list(first)[:20] for y in first),
+           "one byte apart": any(one_byte_apart(x, y) for x in list(first)[:20] for y in list(first)[:200]),
            "after an erase": any(joined[at] in erased for at in again),
            "room for ids, not for entries": done and room < 16 * len(joined),
            "just room for ids": done and room == wanted,
