@@ -1,6 +1,6 @@
 """The records and lines of the program crates/scenario: document 01's worked list G1 to G8, then
-every refusal at both sides of its limit, damage, forged and hostile stores. The lines come from
-the model of this folder, which was written from the paper, and never from our own program.
+every refusal at both sides of its limit, damage, forged and hostile stores, ids with several entries. The
+lines come from the model of this folder, which was written from the papers, and never from our own program.
 
   scenario.py            compares crates/scenario/stdin and stdout with what is derived here
   scenario.py --write    writes them
@@ -16,7 +16,7 @@ import sys
 
 import examples
 import scheme
-from calls import Compact, Count, Done, Erase, Find, Insert
+from calls import Compact, Count, Done, Erase, Find, Insert, Refused
 from examples import GREATEST, HUE, KEY, NONCE, SIZE, id_of
 from primitives import Real
 
@@ -47,6 +47,11 @@ def number(n):
 
 def string(content):
     return b"\0" + number(len(content)) + content
+
+
+def different(n):
+    """The bytes of n different ids."""
+    return b"".join(bytes([i]) * 8 + bytes(range(i, i + 8)) for i in range(n))
 
 
 def shown(answer):
@@ -267,7 +272,7 @@ def makings(s):
     s.make("the greatest", 15, 4096, 4096, 4096)
     s.call("count in it", Count(KEY, *HUE))
     s.call("insert of 64 ids into it",
-           Insert(KEY, *HUE, 15, 3, NONCE, bytes(12 * 65), bytes(range(64)) * 16))
+           Insert(KEY, *HUE, 15, 3, NONCE, bytes(12 * 65), different(64)))
     s.call("compaction of it", Compact(KEY, NONCE))
     s.call("find in it", Find(KEY, *HUE, bytes(1024)))
     s.hash("hash of 65,536 bytes", 65536)
@@ -300,9 +305,9 @@ def call_inputs(s):
         s.call("a name of 256 bytes", Count(KEY, bytes(256), b""))
         s.call("a key of no bytes", Compact(b"", NONCE))
         s.insert("one id", token, ids, bytes(24))
-        s.insert("62 ids", s.insert_token(SIZE), bytes(range(62)) * 16, bytes(12 * 63))
+        s.insert("62 ids", s.insert_token(SIZE), different(62), bytes(12 * 63))
     s.make("a store", 1, 64, 4, 4)
-    s.insert("64 ids", token, bytes(range(64)) * 16, bytes(12 * 65))
+    s.insert("64 ids", token, different(64), bytes(12 * 65))
     s.find("them", s.model.find_token(KEY, *HUE), bytes(1024))
 
 
@@ -371,8 +376,8 @@ def limits(s):
     """14 to 17 and their order [01:RS7 RS8 RS9 RS10]; 18 [01:RS11]; 19 before 13 [01:RS5]."""
     token = s.insert_token()
 
-    def insert(title, n=1):
-        return s.insert(title, token, b"".join(bytes([65 + i]) * 16 for i in range(n)), bytes(12 * n + 12))
+    def insert(title, n=1, first=65):
+        return s.insert(title, token, b"".join(bytes([first + i]) * 16 for i in range(n)), bytes(12 * n + 12))
 
     for count, title in ((GREATEST, "14"), (GREATEST - 1, "14 and 15"), (GREATEST - 2, "15 and 16")):
         s.make("a store", 1, 1, 1, 1)
@@ -405,7 +410,7 @@ def limits(s):
     s.call("erase of one", Erase(b"A" * 16))
     for room in (0, 15, 16, 17, 31, 32, 33):
         s.find("one id at two addresses, room %d" % room, s.model.find_token(KEY, *HUE), bytes([LENT]) * room)
-    insert("two more", 2)
+    insert("two more", 2, first=67)
     for room in (31, 47, 48, 63, 64, 65):
         s.find("three ids at four addresses, room %d" % room, s.model.find_token(KEY, *HUE), bytes([LENT]) * room)
     ks = s.model.compact_token(KEY)
@@ -474,6 +479,84 @@ def rows(s):
     s.call("erase of the rest", Erase(id_of("B")))
 
 
+def repeats(s):
+    """Ids with several entries: each is found once [02:W1.1] at its first place [02:W1.2], 18 by the different ids
+    [02:W1.3], count and erase by entries [02:W1.4 W1.6]."""
+    token = s.model.find_token(KEY, *HUE)
+
+    def insert(title, u, ids, p=1, field=HUE):
+        return s.insert(title, s.insert_token(field, u, p), b"".join(ids), bytes(12 * len(ids) + 12))
+
+    def finds(title, found, entries):
+        """Room for one id less, a byte less, just enough, a byte more, a byte less than all entries take, for all."""
+        for room in sorted({16 * found - 16, 16 * found - 1, 16 * found, 16 * found + 1, 16 * entries - 1, 16 * entries}):
+            answer = s.find("%s, room %d" % (title, room), token, bytes([LENT]) * room)
+            assert answer == (Done if 16 * found <= room else lambda n: Refused(18, n))((found,)), title
+
+    s.make("a store, p = 1, m = 9, c = s = 6", 1, 9, 6, 6)
+    for name, call, wanted in examples.repeated():
+        answer = s.call("%s %s" % (name, type(call).__name__.lower()), call)
+        assert answer == wanted[0], name
+
+    a, b, c = (id_of(x) for x in "ABC")
+    s.make("a store", 1, 20, 6, 6)
+    insert("five entries of two ids in a share", 0, [a, b, b, a, b])
+    finds("two ids at five addresses", 2, 5)
+    insert("the same insert again", 0, [a, b, b, a, b])
+    finds("two ids at ten addresses", 2, 10)
+    insert("another share with them", 1, [c, b, a])
+    finds("three ids in two shares", 3, 13)
+    insert("another field with them", 0, [b, a], field=SIZE)
+    s.call("the other field", Find(KEY, *SIZE, bytes(32)))
+    s.call("erase of what stood first", Erase(a))
+    finds("two ids after it", 2, 8)
+    insert("a new insert of the same id", 0, [a])
+    finds("three ids, it comes later", 3, 9)
+    insert("and of it again, in both shares", 1, [a, a])
+    s.compact("compaction", s.model.compact_token(KEY), bytes(12 * 6))
+    finds("three ids after it", 3, 11)
+    s.count("count by entries", s.model.count_token(KEY, *HUE))
+    s.call("erase by entries", Erase(b))
+    s.call("erase of the other", Erase(a))
+    finds("one id", 1, 1)
+
+    near = [a] + [a[:at] + bytes([a[at] ^ bit]) + a[at + 1:] for at, bit in zip(range(16), (1, 128) * 8)]
+    s.make("a store", 1, 40, 4, 4)
+    insert("ids that differ in one byte", 0, near)
+    insert("in the other share too, backwards", 1, near[::-1])
+    finds("17 ids that differ in one byte", 17, 34)
+
+    # As many entries as the program has room to write, and more.
+    many = scheme.parts(different(64), 16)
+    s.make("a store", 15, 196, 20, 20)
+    insert("64 ids in share 3", 3, many, p=15)
+    insert("four of them in share 12", 12, many[32:36], p=15)
+    finds("64 ids at 68 addresses", 64, 68)
+    insert("all in share 12, from another on", 12, many[40:] + many[:40], p=15)
+    insert("again in share 3", 3, many[::-1], p=15)
+    s.find("64 ids at 196 addresses", token, bytes([LENT]) * 1024)
+    s.find("64 ids at 196 addresses, a byte short", token, bytes([LENT]) * 1023)
+
+    s.make("a store", 15, 20, 20, 20)
+    for u in range(16):
+        insert("one id in share %d" % u, u, [a], p=15)
+    finds("one id in 16 shares", 1, 16)
+    insert("another id in share 15, and it again", 15, [b, a, b], p=15)
+    finds("two ids in 16 shares", 2, 19)
+    s.count("count by entries", s.model.count_token(KEY, *HUE))
+    s.call("erase by entries", Erase(a))
+    finds("one id in one share", 1, 2)
+
+    s.make("a store", 0, 6, 4, 4)
+    s.forge(0, "anchor", 1, 1, 9)
+    mt = s.model.F(s.model.address_key(KEY, *HUE), scheme.number(0))
+    me = s.model.F(s.model.entry_key(KEY, *HUE), scheme.number(0))
+    for i, (address, id) in enumerate(((9, a), (2, b), (5, a), (7, b), (5, c), (10, c))):
+        nonce = bytes([i]) * 12
+        s.set_row("M", i, b"\1" + s.model.entry_tag(mt, address) + nonce + s.model.E(me, nonce, id))
+    finds("forged entries, a tag twice, an address past the count", 2, 4)
+
+
 def hostile(s):
     """Any bytes behind a good header and good marks."""
     pick = random.Random(1)
@@ -506,7 +589,7 @@ def hostile(s):
 
 def main():
     s = Scenario()
-    for part in (worked, token_makings, makings, call_inputs, states, damage, limits, compactions, rows, hostile):
+    for part in (worked, token_makings, makings, call_inputs, states, damage, limits, compactions, rows, repeats, hostile):
         before = len(s.records)
         part(s)
         print("%s: %d records" % (part.__name__.replace("_", " "), len(s.records) - before), flush=True)
