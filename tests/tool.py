@@ -5,7 +5,7 @@
   tool.py --kills N       with as many interrupted runs (default 1000; 300 where they take more than a minute)
   tool.py --only NAME     one test, by the name that its last line has
 
-Tests: the worked list of document 01 ('A day in the ledger'), bad words, office and server apart, files that are no store,
+Tests: the worked list of document 01 ('A day in the ledger'), ids with several entries, bad words, office and server apart, files that are no store,
 refusals from the state, the largest store on a small stack, a disk that is full, a folder that cannot
 be written, no randomness, links, owner and mode, what a lock says, several tools at once, each call of the
 system failing or never reached, every state that a power cut may leave, and runs interrupted by kill -9. What
@@ -119,6 +119,12 @@ class Bench:
     def found(self, field="hue", value="red"):
         return self.answer("find", "store", "key", field, value).split()
 
+    def entries(self):
+        """The ids that the store's file has entries of, as often as it has them: the rows of V."""
+        store = self.store.read_bytes()
+        rows = scheme.tables(store)["V"]
+        return [scheme.row(store, rows, i)[1:17].hex() for i in scheme.used(store, rows)]
+
     def model_finds(self, field="hue", value="red"):
         """What the model finds in the bytes that the tool left."""
         model, store = scheme.Scheme(Real), self.store.read_bytes()
@@ -161,6 +167,50 @@ def worked_list(b):
     shown = b.answer("show", "store").splitlines()
     expect(shown[0] == "a store for shares 0 to 1" and shown[3] == "counters (C) [####################] 4 of 4 rows used, 0 free", f"show: {shown}")
     expect(b.answer("erase", "store", B) == "0\n", "an id that is not there")
+
+
+def each_once(b):
+    """Ids with several entries: a find prints each once [02:W1.1], at its first place [02:W1.2], with the key and by token; a
+    count counts entries [02:W1.4], and an erase tells how many there were [02:W1.6]."""
+    A, B, C, D = ident(1), ident(2), ident(3), ident(3)[:-1] + format(int(ident(3)[-1], 16) ^ 1, "x")
+    token = b.answer("token", "find", "key", "hue", "red")
+    (b.folder / "token").write_text(token)
+
+    def insert(u, *ids):
+        return b.answer("insert", "store", "key", "hue", "red", u, *ids)
+
+    def holds(entries, *ids):
+        for words in (["key", "hue", "red"], ["--token", token[:-1]], ["--token", "@token"]):
+            out = b.answer("find", "store", *words)
+            expect(out == "".join(id + "\n" for id in ids), f"{words[0]}: find prints {out.split()}, expected {ids}")
+        expect(b.model_finds() == list(ids), f"the model finds {b.model_finds()}, expected {ids}")
+        expect(len(b.entries()) == entries, f"{len(b.entries())} entries, expected {entries}")
+
+    def counts(n):
+        expect(b.answer("count", "store", "key", "hue", "red") == f"{n}\n", f"a count of {n} entries")
+
+    expect(insert(0, A, B, A) == "3\n", "an id twice in an insert")
+    holds(3, A, B)
+    expect(insert(0, A, B, A) == "6\n", "the same insert again")
+    holds(6, A, B)
+    expect(insert(1, C, B, D) == "3\n" and insert(1, A, A) == "5\n", "another share")
+    holds(11, A, B, C, D)
+    counts(11)
+    expect(b.answer("insert", "store", "key", "size", "L", 0, B, A, B) == "3\n" and b.found("size", "L") == [B, A], "another field has its own order")
+    expect(b.answer("erase", "store", A) == "7\n", "an erase tells of every entry, in all shares and fields")
+    holds(7, B, C, D)
+    counts(11)
+    expect(insert(0, A, A) == "8\n", "a new insert of the id that was erased")
+    holds(9, B, A, C, D)
+    expect(b.answer("compact", "store", "key") == "3 6\n", "a compaction")
+    holds(9, B, A, C, D)
+    counts(13)
+    same = [ident(9)] * 64
+    expect(insert(1, *same) == "69\n" and insert(0, *same) == "72\n", "64 entries of an id at a time")
+    holds(137, B, A, ident(9), C, D)
+    counts(141)
+    expect(b.answer("erase", "store", ident(9)) == "128\n" and b.answer("erase", "store", ident(9)) == "0\n", "an erase of 128 entries")
+    holds(9, B, A, C, D)
 
 
 def bad_words(b):
@@ -385,6 +435,16 @@ def small_stack(b):
                           [["count", "store", "key", "hue", "red"], "64\n"], [["erase", "store", ids[0]], "1\n"], [["compact", "store", "key"], "1 1\n"]):
         expect(b.run(*words, **limit) == (answer, ""), f"{words[0]} with a small stack")
     expect(b.run("show", "store", **limit)[0].startswith("a store for shares 0 to 15\n"), "show with a small stack")
+    # counts that sum to either side of the rows of the largest table: a find then keeps another number of ids
+    fresh, model, key = b.store.read_bytes(), scheme.Scheme(Real), b.key.read_bytes()
+    for count in (4093, 4094, 5000):
+        store = bytearray(fresh)
+        cl = model.F(model.counter_key(key, b"hue", b"green"), scheme.number(3))
+        model.put_c(store, cl, model.counter_tag(cl, 1), bytes(12), 0, count)
+        b.store.write_bytes(store)
+        green = ["store", "key", "hue", "green"]
+        expect(b.run("insert", *green, 3, ids[1], ids[2], ids[1], **limit) == (f"{count + 3}\n", ""), "an insert after a forged count")
+        expect(b.run("find", *green, **limit) == (f"{ids[1]}\n{ids[2]}\n", ""), f"a find of {count + 3} addresses with a small stack")
 
 
 def no_room(b):
@@ -917,10 +977,11 @@ def interrupted(b, kills):
                 expect(said.startswith(f"process {run.pid} was stopped while it was changing this store"), f"interrupted: {line!r}: {said!r}")
             left.unlink()
         if n % 25 == 24 or n == kills - 1:
-            found = b.found()
+            found, entries = b.found(), b.entries()
             checked += len(answered)
             lost += len(set(answered) - set(found))
-            twice += len(found) - len(set(found))
+            twice += len(entries) - len(set(entries))
+            expect(set(entries) == set(found), "interrupted: the find gives other ids than have entries")
             expect(lost == 0 and twice == 0, f"interrupted: {lost} ids are lost, {twice} are there twice")
             expect(set(found) <= set(answered) | set(unanswered), "interrupted: an id that was never given")
     b.answer("compact", "store", "key")
@@ -940,7 +1001,7 @@ def main():
     global shim
     if not BUILT.exists():
         sys.exit("tests/tool.py: there is no target/bin/mazhkuri: run `rt check mazhkuri` first")
-    tests = [("the worked list", worked_list, [1, 4, 4, 4]), ("bad words", bad_words, [1, 4, 4, 4]), ("office and server", halves, [1, 8, 8, 8]), ("files that are no store", no_stores, [1, 4, 4, 4]),
+    tests = [("the worked list", worked_list, [1, 4, 4, 4]), ("ids with several entries", each_once, [1, 150, 20, 20]), ("bad words", bad_words, [1, 4, 4, 4]), ("office and server", halves, [1, 8, 8, 8]), ("files that are no store", no_stores, [1, 4, 4, 4]),
              ("refusals from the state", states, [0, 8, 4, 2]), ("the largest store", small_stack, [15, 4096, 4096, 4096]),
              ("writes that fail", lambda b: (b.answer("insert", "store", "key", "hue", "red", 0, ident(1)), no_room(b)), [1, 8, 8, 8]),
              ("links", links, [1, 4, 4, 4]), ("modes", modes, [1, 64, 64, 64]), ("lock", lock, [1, 4, 4, 4]), ("tools at once", at_once, [1, 200, 200, 200]),

@@ -1,5 +1,6 @@
 """The files of the program crates/mazhkuri under the gate: a find on the store that document 01's
-worked list leaves after G6, with what the model finds there, and never from our own program.
+worked list leaves after G6, E erased and D inserted into the other share too [02:W1.1], with what the
+model finds there, and never from our own program.
 
   tool.py            compares args, data/ and stdout with what is derived here
   tool.py --write    writes them
@@ -9,7 +10,8 @@ import sys
 
 import examples
 import scheme
-from examples import HUE, KEY
+from calls import Compact, Done, Erase
+from examples import HUE, KEY, id_of
 from primitives import Real
 
 TESTS = pathlib.Path(__file__).resolve().parent.parent
@@ -25,6 +27,9 @@ def main():
         if name > "G6":
             break
         assert model.call(store, call)[0] == wanted[0], name
+    for call, wanted in ((Erase(id_of("E")), (1,)), (Compact(KEY, bytes(24)), (1, 2)),
+                         (examples.insert(HUE, 1, "D"), (2,))):
+        assert model.call(store, call)[0] == Done(wanted), call
     ids = bytearray(16 * 4)
     n, = model.find(store, model.find_token(KEY, *HUE), ids).values
     words = ["find", "store", "key", *(word.decode() for word in HUE)]
