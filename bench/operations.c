@@ -55,14 +55,17 @@ static void insert_token(unsigned f, unsigned p, unsigned u, uint8_t token[141])
   check(mazhkuri_insert_token(key, 32, name, n, empty, 0, p, u, nonce, 12, token) == 141, "insert token");
 }
 
-/* Puts j ids under a field into the base store. */
-static void add(unsigned f, unsigned p, unsigned u, size_t j) {
+/* Puts j ids under a field into the base store: new ones, or some of those given. */
+static void add_of(unsigned f, unsigned p, unsigned u, size_t j, const uint8_t *given, size_t n) {
   uint8_t token[141], ids[1024], nonces[780];
   insert_token(f, p, u, token);
   fill(ids, 16 * j);
+  for (size_t i = 0; n > 0 && i < j; i++) memcpy(ids + 16 * i, given + 16 * (ids[16 * i] % n), 16);
   fill(nonces, 12 * (j + 1));
   check(mazhkuri_insert(base, size, ids, 16 * j, nonces, 12 * (j + 1), token, 141) > 0, "set up");
 }
+
+static void add(unsigned f, unsigned p, unsigned u, size_t j) { add_of(f, p, u, j, NULL, 0); }
 
 static void fresh(unsigned p, unsigned m) {
   size = 8 + 216ul * m;
@@ -77,15 +80,18 @@ static void compact_base(void) {
   check(mazhkuri_compact(base, size, nonces, sizeof nonces, token, 32) >= 0, "set up");
 }
 
-/* Entries up to a fill of M, under one field, with C and S emptied again by compactions. */
-static void fill_entries(unsigned p, unsigned u, size_t n) {
+/* Entries up to a fill of M, under one field, with C and S emptied again by compactions; of new ids, or of some of
+ * those given. */
+static void fill_of(unsigned p, unsigned u, size_t n, const uint8_t *given, size_t ids) {
   while (n > 0) {
     size_t j = n < 64 ? n : 64;
-    add(1, p, u, j);
+    add_of(1, p, u, j, given, ids);
     n -= j;
   }
   compact_base();
 }
+
+static void fill_entries(unsigned p, unsigned u, size_t n) { fill_of(p, u, n, NULL, 0); }
 
 static void line(const char *name, double ours, double theirs, double floor) {
   printf("%-48s %10.1f us %10.1f us   ratio %5.2f", name, ours, theirs, ours / theirs);
@@ -216,6 +222,19 @@ static void bench_prepared(void) {
          ours / theirs, 2 * compression);
 }
 
+/* Entries with many to an id, and few ids among the entries of another field. */
+static void bench_repeats(void) {
+  uint8_t ids[100 * 16];
+  fill(ids, sizeof ids);
+  fresh(0, 4096);
+  fill_of(0, 0, 4000, ids, 100);
+  bench_find("find of 4000 entries of 100 ids, p = 0", 1, 100, 6 + (2 + 8 + 6 + 6) + 2.0 * 4000);
+  fresh(0, 4096);
+  fill_entries(0, 0, 3990);
+  add(2, 0, 0, 10);
+  bench_find("find of 10 ids in a store of 4000, p = 0", 2, 10, 6 + (2 + 8 + 6 + 6) + 2.0 * 10);
+}
+
 /* One line of each operation in a store of m rows a table. */
 static void growth(unsigned m) {
   char name[80];
@@ -281,6 +300,7 @@ int main(int count, char **arguments) {
       snprintf(name, sizeof name, "find of %u ids, p = %u", ids[i], p);
       bench_find(name, 1, ids[i], 6 + (p + 1) * (2 + 8 + 6 + 6) + 2.0 * ids[i]);
     }
+  bench_repeats();
   fresh(0, 4096);
   fill_entries(0, 0, 4000);
   memcpy(id, base + 8 + 61 * 4096 + 49 * 2000 + 1, 16);
