@@ -61,9 +61,13 @@ class Lists:
         return [self.call() for _ in range(r.randint(1, self.longest))]
 
     def some_ids(self, n):
-        """Ids that have nothing in common, or that differ from the first in one byte."""
-        if self.r.random() < 0.6:
+        """Ids that have nothing in common; that differ from the first in one byte; or multiples of a number, as
+        fall into one bucket of a hash table."""
+        kind = self.r.random()
+        if kind < 0.4:
             return [self.bytes(16) for _ in range(n)]
+        if kind < 0.6:
+            return [(4093 * self.r.randint(0, 9) << self.r.choice((0, 64))).to_bytes(16, "big") for _ in range(n)]
         result = [self.bytes(16)]
         while len(result) < n:
             changed = bytearray(result[0])

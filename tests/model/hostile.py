@@ -52,10 +52,13 @@ class Hostile:
             self.sizes = [r.randint(6, 20) for _ in range(3)]
 
     def id(self):
-        """One of few ids: they differ in every byte, or in one."""
-        r = self.r
+        """One of few ids: they differ in every byte, or in one; or are multiples of a number, as fall into one
+        bucket of a hash table."""
+        r, kind = self.r, self.r.random()
+        if kind < 0.2:
+            return (4093 * r.randint(0, 3) << r.choice((0, 64))).to_bytes(16, "big")
         id = bytearray(bytes([r.randint(0, 3)]) * 16)
-        if r.random() < 0.2:
+        if kind < 0.4:
             id[r.choice((0, 7, 8, 15))] ^= 1
         return bytes(id)
 
