@@ -547,14 +547,26 @@ def repeats(s):
     s.call("erase by entries", Erase(a))
     finds("one id in one share", 1, 2)
 
-    s.make("a store", 0, 6, 4, 4)
-    s.forge(0, "anchor", 1, 1, 9)
-    mt = s.model.F(s.model.address_key(KEY, *HUE), scheme.number(0))
-    me = s.model.F(s.model.entry_key(KEY, *HUE), scheme.number(0))
-    for i, (address, id) in enumerate(((9, a), (2, b), (5, a), (7, b), (5, c), (10, c))):
+    def entry(i, u, address, id):
+        """Row i of M as an entry of hue=red."""
+        mt = s.model.F(s.model.address_key(KEY, *HUE), scheme.number(u))
+        me = s.model.F(s.model.entry_key(KEY, *HUE), scheme.number(u))
         nonce = bytes([i]) * 12
         s.set_row("M", i, b"\1" + s.model.entry_tag(mt, address) + nonce + s.model.E(me, nonce, id))
+
+    s.make("a store", 0, 6, 4, 4)
+    s.forge(0, "anchor", 1, 1, 9)
+    for i, (address, id) in enumerate(((9, a), (2, b), (5, a), (7, b), (5, c), (10, c))):
+        entry(i, 0, address, id)
     finds("forged entries, a tag twice, an address past the count", 2, 4)
+    # Counts that sum to the rows of the largest table, and to one more.
+    for count in (2048, 2049):
+        s.make("a store", 1, 6, 4, 4)
+        for u, n in enumerate((2048, count)):
+            s.forge(u, "counter", 1, 0, n, u=u)
+        for i, (u, address, id) in enumerate(((1, count, a), (0, 2048, c), (0, 1, b), (1, 1, c), (1, 2, b), (0, 2049, a))):
+            entry(i, u, address, id)
+        finds("few entries at %d addresses" % (2048 + count), 3, 5)
 
 
 def hostile(s):
