@@ -1,7 +1,7 @@
 """The static library against the model, through the C interface: hash, F and E, on published vectors too;
-random lists of calls against the model store and the model ledger; large lists whose ids have many entries;
-calls on hostile stores against the model store. Expected values come from tests/model, Python's hashlib and hmac, OpenSSL's libcrypto and
-published files, never from our own code. Exit status 1 at the first difference.
+random lists of calls against the model store and the model ledger; ids with thousands of entries against the
+ledger; calls on hostile stores against the model store. Expected values come from tests/model, Python's hashlib
+and hmac, OpenSSL's libcrypto and published files, never from our own code. Exit status 1 at the first difference.
 
   archive.py LIBRARY [--lists N] [--hostile N] [--seed N] [--long]
 
@@ -153,8 +153,7 @@ def encoded(answer):
 
 def same(what, got, wanted):
     if got != wanted:
-        show = [compare.short(x) if isinstance(x, bytes) and len(x) > 4096 else x.hex() if isinstance(x, bytes) else x
-                for x in (got, wanted)]
+        show = [x.hex() if isinstance(x, bytes) and len(x) <= 4096 else compare.short(x) for x in (got, wanted)]
         raise Difference("%s: the library gives %s, expected %s" % (what, *show))
 
 
@@ -418,27 +417,22 @@ class Filled:
         """Outputs at both sides of what the different ids take, and of what the entries take."""
         ids, entries = 16 * len(set(self.entries())), 16 * len(self.entries())
         for room in sorted({0, ids - 16, ids - 1, ids, ids + 1, entries - 1, entries, 16 * 4096 + 5}):
-            self.call(calls.Find(self.key, *self.field, self.r.randbytes(room)))
+            if room >= 0:
+                self.call(calls.Find(self.key, *self.field, self.r.randbytes(room)))
         self.call(calls.Count(self.key, *self.field))
 
     def changes(self):
         """Ids erased, one of them inserted again, a compaction: finds after each."""
-        ids = sorted(set(self.entries()), key=self.entries().count)
-        gone = [ids[0], ids[len(ids) // 2], ids[-1]]
+        ids = collections.Counter(self.entries()).most_common()
+        gone = [ids[-1][0], ids[len(ids) // 2][0], ids[0][0]]
         for id in gone:
             self.call(calls.Erase(id))
-        self.finds_or_nothing()
+        self.finds()
         for u in (self.p, 0):
             self.insert(u, [gone[-1]] * 2)
         self.finds()
         self.call(calls.Compact(self.key, self.r.randbytes(12 * 4096)))
         self.finds()
-
-    def finds_or_nothing(self):
-        if self.entries():
-            self.finds()
-        else:
-            self.call(calls.Find(self.key, *self.field, b""))
 
 
 def one_byte_changed(id):
@@ -452,7 +446,7 @@ def repeated(library, seed):
     r, repeats, made = random.Random(seed), Repeats(), 0
     hundred, one = [r.randbytes(16) for _ in range(100)], r.randbytes(16)
     near = [one] + one_byte_changed(one)
-    steps = [(4093 * n).to_bytes(16, "big") for n in range(1000)] + [(4093 * n << 64).to_bytes(16, "big") for n in range(1000)]
+    steps = [(4093 * n << shift).to_bytes(16, "big") for shift in (0, 64) for n in range(1000)]
     for p, ids, wanted in (
             (0, [r.choice(hundred) for _ in range(3900)] + hundred, (4000, 100, 1)),
             (3, [one] * 4000, (4000, 1, 4)),
@@ -468,7 +462,7 @@ def repeated(library, seed):
         same("entries, different ids, shares with repeats", (sum(entries.values()), len(entries), several), wanted)
         filled.finds()
         if len(entries) == 100:
-            # once what the model finds in the library's bytes
+            # What the model finds in the library's bytes, here alone: it is slow.
             output = bytearray(1600)
             token = filled.model.find_token(filled.key, *filled.field)
             same("the model's find", filled.model.find(filled.store, token, output), Done((100,)))
@@ -541,7 +535,6 @@ class Stores(Hostile):
                      calls.Compact(KEY, self.bytes(12 * nonces))):
             token = model.token(call)
             yield type(call).__name__, token and self.other(token), call
-
 
     def room(self, model, store, field):
         """An output's length: any, or at either side of what the different ids and the entries take."""
@@ -621,7 +614,7 @@ def long_walks(library, number, seed):
         token = model.find_token(KEY, *FIELDS[0])
         shares = found(model, bytes(store), token, most=10000)
         different = len({id for ids in shares for id in ids})
-        for room in {16 * different, max(0, 16 * different - 16), 16 * sum(map(len, shares))}:
+        for room in sorted({16 * different, max(0, 16 * different - 16), 16 * sum(map(len, shares))}):
             call = calls.Find(KEY, *FIELDS[0], drawn.bytes(room))
             answer, _, _ = operate(library, model, bytes(store), "Find", token, call)
             repeats.find(shares, answer, room)
