@@ -28,7 +28,7 @@ use Rattle.chains.specs.Chains.{idBy, Kept, kept, rowAt, linkAt, keptIds
 -- ---- the last id of a bucket
 
 module _ (b : ℕ) where
-  last-le : (f : ℕ → List ℕ) (n : ℕ) → lastIn b f n ≤ n
+  pub last-le : (f : ℕ → List ℕ) (n : ℕ) → lastIn b f n ≤ n
   last-le f zero = omega arith
   last-le f (suc n) = go (eqb (bucketOf (f n)) b) (last-le f n)
     where

@@ -1,5 +1,5 @@
 -- An id put at the head of its bucket leaves the chains whole, and the ids that are kept are the distinct ones of those noted.
-use Prim.Native.Nat.{ℕ, zero, suc, _+_, _*_, _-_, _%_, _≤_, _<_}
+use Prim.Native.Nat.{ℕ, zero, suc, _+_, _*_, _-_, _/_, _%_, _≤_, _<_}
 use mathlib.Core.Path.{_≡_, refl, sym, ap, ap₂, subst, _∙_}
 use mathlib.Core.Bool.{Bool, true, false, cond}
 use mathlib.Core.List.{List, [], _∷_, _++_, append-nil, append-assoc}
@@ -18,7 +18,7 @@ use Rattle.table.proofs.Walk.{drop-take}
 use Rattle.table.proofs.Distinct.{distinct-end, distinct-grows, any-distinct}
 use Rattle.hmac.specs.declared.Keyed.{Keyed}
 use Rattle.chains.specs.Chains.{idBy, Kept, kept, rowAt, linkAt, keptIds, met, bucketOf, linked, firstIds, added, noted, lastIn, Readable, Chained}
-use Rattle.chains.proofs.Chains.{last-alike, RowsM, id-wide, idOf}
+use Rattle.chains.proofs.Chains.{last-le, last-alike, RowsM, id-wide, idOf}
 
 bucket-below : (x : List ℕ) → bucketOf x < 4096
 unfolding bucketOf
@@ -29,50 +29,41 @@ bucket-below x = omega arith
 linked-long : (index : List ℕ) (n r b : ℕ) → length (linked index n r b) ≡ length index
 unfolding linked
 linked-long index n r b =
-    let one = set index (4096 + 2 * n) r in
-    let two = set one (4096 + 2 * n + 1) (getD one b 0) in
-    length-set two b (n + 1) ∙ length-set one (4096 + 2 * n + 1) (getD one b 0) ∙ length-set index (4096 + 2 * n) r
+    let one = set index (4096 + n) (65536 * r + getD index b 0) in
+    length-set one b (n + 1) ∙ length-set index (4096 + n) (65536 * r + getD index b 0)
 
-module _ (index : List ℕ) (n r b : ℕ) (hb : b < 4096) (room : 4096 + 2 * n + 2 ≤ length index) where
-  one : List ℕ
-  one = set index (4096 + 2 * n) r
-
-  two : List ℕ
-  two = set one (4096 + 2 * n + 1) (getD one b 0)
-
-  length-two : length two ≡ length index
-  unfolding one two
-  length-two = length-set one (4096 + 2 * n + 1) (getD one b 0) ∙ length-set index (4096 + 2 * n) r
-
+module _ (index : List ℕ) (n r b : ℕ) (hb : b < 4096) (head : getD index b 0 < 65536) (room : 4096 + n + 1 ≤ length index) where
   -- elsewhere it is as it was
-  linked-other : (j : ℕ) → (j ≡ b → ⊥) → (j ≡ 4096 + 2 * n → ⊥) → (j ≡ 4096 + 2 * n + 1 → ⊥) → getD (linked index n r b) j 0 ≡ getD index j 0
-  unfolding linked one two
-  linked-other j e f g =
-      getD-set-other two b j (n + 1) 0 e ∙ getD-set-other one (4096 + 2 * n + 1) j (getD one b 0) 0 g ∙ getD-set-other index (4096 + 2 * n) j r 0 f
+  linked-other : (j : ℕ) → (j ≡ b → ⊥) → (j ≡ 4096 + n → ⊥) → getD (linked index n r b) j 0 ≡ getD index j 0
+  unfolding linked
+  linked-other j e f =
+      getD-set-other (set index (4096 + n) (65536 * r + getD index b 0)) b j (n + 1) 0 e ∙ getD-set-other index (4096 + n) j (65536 * r + getD index b 0) 0 f
+
+  linked-at : getD (linked index n r b) (4096 + n) 0 ≡ 65536 * r + getD index b 0
+  unfolding linked
+  linked-at =
+      getD-set-other (set index (4096 + n) (65536 * r + getD index b 0)) b (4096 + n) (n + 1) 0 (λ q. absurd (omega arith))
+      ∙ getD-set-same index (4096 + n) (65536 * r + getD index b 0) 0 (omega arith)
 
   linked-row : rowAt (linked index n r b) n ≡ r
-  unfolding linked one two
-  linked-row =
-      getD-set-other two b (4096 + 2 * n) (n + 1) 0 (λ q. absurd (omega arith))
-      ∙ getD-set-other one (4096 + 2 * n + 1) (4096 + 2 * n) (getD one b 0) 0 (λ q. absurd (omega arith))
-      ∙ getD-set-same index (4096 + 2 * n) r 0 (omega arith)
+  linked-row = ap (λ (v : ℕ). v / 65536) linked-at ∙ omega arith
 
   linked-link : linkAt (linked index n r b) n ≡ getD index b 0
-  unfolding linked one two
-  linked-link =
-      getD-set-other two b (4096 + 2 * n + 1) (n + 1) 0 (λ q. absurd (omega arith))
-      ∙ getD-set-same one (4096 + 2 * n + 1) (getD one b 0) 0 (omega (arith, length-set index (4096 + 2 * n) r))
-      ∙ getD-set-other index (4096 + 2 * n) b r 0 (λ q. absurd (omega arith))
+  linked-link = ap (λ (v : ℕ). v % 65536) linked-at ∙ omega arith
 
   linked-head : getD (linked index n r b) b 0 ≡ n + 1
-  unfolding linked one two
-  linked-head = getD-set-same two b (n + 1) 0 (omega (arith, length-two))
+  unfolding linked
+  linked-head =
+      getD-set-same (set index (4096 + n) (65536 * r + getD index b 0)) b (n + 1) 0 (omega (arith, length-set index (4096 + n) (65536 * r + getD index b 0)))
+
+  before-here : (i : ℕ) → i < n → getD (linked index n r b) (4096 + i) 0 ≡ getD index (4096 + i) 0
+  before-here i h = linked-other (4096 + i) (λ q. absurd (omega arith)) (λ q. absurd (omega arith))
 
   rows-before : (i : ℕ) → i < n → rowAt (linked index n r b) i ≡ rowAt index i
-  rows-before i h = linked-other (4096 + 2 * i) (λ q. absurd (omega arith)) (λ q. absurd (omega arith)) (λ q. absurd (omega arith))
+  rows-before i h = ap (λ (v : ℕ). v / 65536) (before-here i h)
 
   links-before : (i : ℕ) → i < n → linkAt (linked index n r b) i ≡ linkAt index i
-  links-before i h = linked-other (4096 + 2 * i + 1) (λ q. absurd (omega arith)) (λ q. absurd (omega arith)) (λ q. absurd (omega arith))
+  links-before i h = ap (λ (v : ℕ). v % 65536) (before-here i h)
 
 kept-alike : (me : Keyed) (t : Table) (index index′ : List ℕ) (n : ℕ) → ((i : ℕ) → i < n → rowAt index′ i ≡ rowAt index i) → keptIds me t index′ n ≡ keptIds me t index n
 unfolding keptIds
@@ -117,7 +108,7 @@ module _ (ids : List ℕ) (n : ℕ) (x : List ℕ) (room : length ids ≡ 65536)
 
 -- ---- the chains stay whole
 
-pub chained-none : (me : Keyed) (t : Table) (index ids : List ℕ) → index ≡ replicate (length index) 0 → 4096 ≤ length index → length index ≤ 135168 → length ids ≡ 65536
+pub chained-none : (me : Keyed) (t : Table) (index ids : List ℕ) → index ≡ replicate (length index) 0 → 4096 ≤ length index → length index ≤ 69632 → length ids ≡ 65536
     → Chained me t (kept index ids 0)
 chained-none me t index ids e h k l = record {
   buckets = omega arith;
@@ -134,7 +125,7 @@ chained-none me t index ids e h k l = record {
     zeros (suc n) (suc b) = zeros n b
 
 module _ (me : Keyed) (t : Table) (w : RowsM t) (r : ℕ) (inside : r % 4096 < length t) (k : Kept) (c : Chained me t k) where
-  module _ (room : 4096 + 2 * (k .n + 1) ≤ length (k .index)) where
+  module _ (room : 4096 + (k .n + 1) ≤ length (k .index)) where
     x : List ℕ
     x = idBy me t r
 
@@ -148,13 +139,17 @@ module _ (me : Keyed) (t : Table) (w : RowsM t) (r : ℕ) (inside : r % 4096 < l
     unfolding b
     hb = bucket-below x
 
+    -- a head is no more than the ids that are kept
+    hh : getD (k .index) b 0 < 65536
+    hh = omega (arith, room, c .most, c .heads b hb, last-le b (idOf me t (k .index)) (k .n))
+
     before : (i : ℕ) → i < k .n → idOf me t index i ≡ idOf me t (k .index) i
     unfolding index
-    before i h = ap (idBy me t) (rows-before (k .index) (k .n) r b hb (omega (arith, room)) i h)
+    before i h = ap (idBy me t) (rows-before (k .index) (k .n) r b hb hh (omega (arith, room)) i h)
 
     here : idOf me t index (k .n) ≡ x
     unfolding index x
-    here = ap (idBy me t) (linked-row (k .index) (k .n) r b hb (omega (arith, room)))
+    here = ap (idBy me t) (linked-row (k .index) (k .n) r b hb hh (omega (arith, room)))
 
     x-wide : length x ≡ 16
     unfolding x
@@ -179,13 +174,13 @@ module _ (me : Keyed) (t : Table) (w : RowsM t) (r : ℕ) (inside : r % 4096 < l
     readable = by (λ i. Readable me t index (firstIds (k .ids) (k .n) x) i)
         (λ i h. record {
           listed = omega (arith, room, long);
-          inside = subst (λ (j : ℕ). j % 4096 < length t) (sym (rows-before (k .index) (k .n) r b hb (omega (arith, room)) i h)) (c .readable i h .inside);
+          inside = subst (λ (j : ℕ). j % 4096 < length t) (sym (rows-before (k .index) (k .n) r b hb hh (omega (arith, room)) i h)) (c .readable i h .inside);
           room = first-long (k .ids) (k .n) x (c .room) x-wide;
           bytes = λ l. first-before (k .ids) (k .n) x (c .room) x-wide i h l ∙ c .readable i h .bytes l ∙ sym (before i h);
         })
         (record {
           listed = omega (arith, room, long);
-          inside = subst (λ (j : ℕ). j % 4096 < length t) (sym (linked-row (k .index) (k .n) r b hb (omega (arith, room)))) inside;
+          inside = subst (λ (j : ℕ). j % 4096 < length t) (sym (linked-row (k .index) (k .n) r b hb hh (omega (arith, room)))) inside;
           room = first-long (k .ids) (k .n) x (c .room) x-wide;
           bytes = λ l. first-here (k .ids) (k .n) x (c .room) x-wide l ∙ sym here;
         })
@@ -196,18 +191,18 @@ module _ (me : Keyed) (t : Table) (w : RowsM t) (r : ℕ) (inside : r % 4096 < l
       where
         go : (q : Bool) → eqb b a ≡ q → getD index a 0 ≡ cond q (suc (k .n)) (lastIn a (idOf me t index) (k .n))
         go true q =
-            ap (λ (a : ℕ). getD index a 0) (sym (eqb-true b a q)) ∙ linked-head (k .index) (k .n) r b hb (omega (arith, room)) ∙ add-one (k .n)
+            ap (λ (a : ℕ). getD index a 0) (sym (eqb-true b a q)) ∙ linked-head (k .index) (k .n) r b hb hh (omega (arith, room)) ∙ add-one (k .n)
         go false q =
-            linked-other (k .index) (k .n) r b hb (omega (arith, room)) a (λ z. eqb-false b a q (sym z)) (λ z. absurd (omega arith)) (λ z. absurd (omega arith))
+            linked-other (k .index) (k .n) r b hb hh (omega (arith, room)) a (λ z. eqb-false b a q (sym z)) (λ z. absurd (omega arith))
             ∙ c .heads a h ∙ sym (last-alike a (idOf me t index) (idOf me t (k .index)) (k .n) before)
 
     links : (i : ℕ) → i < k .n + 1 → linkAt index i ≡ lastIn (bucketOf (idOf me t index i)) (idOf me t index) i
     unfolding index b
     links = by (λ i. linkAt index i ≡ lastIn (bucketOf (idOf me t index i)) (idOf me t index) i)
-        (λ i h. links-before (k .index) (k .n) r b hb (omega (arith, room)) i h ∙ c .links i h
+        (λ i h. links-before (k .index) (k .n) r b hb hh (omega (arith, room)) i h ∙ c .links i h
         ∙ ap (λ (y : List ℕ). lastIn (bucketOf y) (idOf me t (k .index)) i) (sym (before i h))
         ∙ sym (last-alike (bucketOf (idOf me t index i)) (idOf me t index) (idOf me t (k .index)) i (λ j l. before j (omega arith))))
-        (linked-link (k .index) (k .n) r b hb (omega (arith, room)) ∙ c .heads b hb
+        (linked-link (k .index) (k .n) r b hb hh (omega (arith, room)) ∙ c .heads b hb
         ∙ ap (λ (y : List ℕ). lastIn (bucketOf y) (idOf me t (k .index)) (k .n)) (sym here)
         ∙ sym (last-alike (bucketOf (idOf me t index (k .n))) (idOf me t index) (idOf me t (k .index)) (k .n) before))
 
@@ -226,18 +221,18 @@ module _ (me : Keyed) (t : Table) (w : RowsM t) (r : ℕ) (inside : r % 4096 < l
     unfolding added index x b keptIds
     kept-added = rw (add-one (k .n))
         (ap₂ (λ (l : List (List ℕ)) (y : List ℕ). l ++ (y ∷ []))
-        (kept-alike me t (k .index) index (k .n) (rows-before (k .index) (k .n) r b hb (omega (arith, room)))) here)
+        (kept-alike me t (k .index) index (k .n) (rows-before (k .index) (k .n) r b hb hh (omega (arith, room)))) here)
 
-  pub chained-noted : 4096 + 2 * noted me t r k .n ≤ length (k .index) → Chained me t (noted me t r k)
+  pub chained-noted : 4096 + noted me t r k .n ≤ length (k .index) → Chained me t (noted me t r k)
   unfolding noted
   chained-noted h = go (met me t k (idBy me t r)) h
     where
-      go : (a : Bool) → 4096 + 2 * cond a k (added r (idBy me t r) k) .n ≤ length (k .index) → Chained me t (cond a k (added r (idBy me t r) k))
+      go : (a : Bool) → 4096 + cond a k (added r (idBy me t r) k) .n ≤ length (k .index) → Chained me t (cond a k (added r (idBy me t r) k))
       go true h = c
       go false h = chained-added (unfold added in h)
 
   -- those kept of xs, and one more
-  pub kept-noted : 4096 + 2 * noted me t r k .n ≤ length (k .index) → (xs : List (List ℕ)) → keptIds me t (k .index) (k .n) ≡ distinct xs
+  pub kept-noted : 4096 + noted me t r k .n ≤ length (k .index) → (xs : List (List ℕ)) → keptIds me t (k .index) (k .n) ≡ distinct xs
       → keptIds me t (noted me t r k .index) (noted me t r k .n) ≡ distinct (xs ++ (idBy me t r ∷ []))
   unfolding noted
   kept-noted h xs e =
@@ -245,7 +240,7 @@ module _ (me : Keyed) (t : Table) (w : RowsM t) (r : ℕ) (inside : r % 4096 < l
       ∙ ap (λ (a : Bool). cond a (distinct xs) (distinct xs ++ (idBy me t r ∷ []))) (ap (anyOf (λ y. same y (idBy me t r))) e ∙ any-distinct (idBy me t r) xs)
       ∙ sym (distinct-end (idBy me t r) xs)
     where
-      go : (a : Bool) → 4096 + 2 * cond a k (added r (idBy me t r) k) .n ≤ length (k .index)
+      go : (a : Bool) → 4096 + cond a k (added r (idBy me t r) k) .n ≤ length (k .index)
           → keptIds me t (cond a k (added r (idBy me t r) k) .index) (cond a k (added r (idBy me t r) k) .n) ≡ cond a (distinct xs) (distinct xs ++ (idBy me t r ∷ []))
       go true h = e
       go false h = kept-added (unfold added in h) ∙ ap (λ (l : List (List ℕ)). l ++ (idBy me t r ∷ [])) e
@@ -256,11 +251,11 @@ module _ (me : Keyed) (t : Table) (w : RowsM t) (r : ℕ) (inside : r % 4096 < l
 pub record Gathers (me : Keyed) (t : Table) (k k′ : Kept) (ids : List (List ℕ)) : Type 0 where
   pub grows : k .n ≤ k′ .n
   pub long : length (k′ .index) ≡ length (k .index)
-  pub chained : Chained me t k → 4096 + 2 * k′ .n ≤ length (k .index) → Chained me t k′
-  pub keeps : Chained me t k → 4096 + 2 * k′ .n ≤ length (k .index) → (xs : List (List ℕ)) → keptIds me t (k .index) (k .n) ≡ distinct xs
+  pub chained : Chained me t k → 4096 + k′ .n ≤ length (k .index) → Chained me t k′
+  pub keeps : Chained me t k → 4096 + k′ .n ≤ length (k .index) → (xs : List (List ℕ)) → keptIds me t (k .index) (k .n) ≡ distinct xs
       → keptIds me t (k′ .index) (k′ .n) ≡ distinct (xs ++ ids)
-  pub fits : Chained me t k → (xs : List (List ℕ)) → keptIds me t (k .index) (k .n) ≡ distinct xs → 4096 + 2 * length (distinct (xs ++ ids)) ≤ length (k .index)
-      → 4096 + 2 * k′ .n ≤ length (k .index)
+  pub fits : Chained me t k → (xs : List (List ℕ)) → keptIds me t (k .index) (k .n) ≡ distinct xs → 4096 + length (distinct (xs ++ ids)) ≤ length (k .index)
+      → 4096 + k′ .n ≤ length (k .index)
 
 pub kept-length : (me : Keyed) (t : Table) (index : List ℕ) (n : ℕ) → length (keptIds me t index n) ≡ n
 unfolding keptIds

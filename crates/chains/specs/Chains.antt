@@ -18,7 +18,8 @@ use Rattle.format.specs.Rows.{textIn}
 unfoldable pub idBy : Keyed → Table → ℕ → List ℕ
 idBy me t r = textIn (numberedBy me (r / 4096)) (body (getD t (r % 4096) []))
 
--- what is kept: a head for each of 4,096 buckets, then for each id the number of its row and a link; the first 4,096 ids; how many
+-- what is kept: a head for each of 4,096 buckets, then for each id the number of its row and a link in one number; the first 4,096
+-- ids; how many
 pub record Kept : Type 0 where
   pub index : List ℕ
   pub ids : List ℕ
@@ -28,10 +29,10 @@ abbrev pub kept : List ℕ → List ℕ → ℕ → Kept
 kept index ids n = record { index = index; ids = ids; n = n }
 
 abbrev pub rowAt : List ℕ → ℕ → ℕ
-rowAt index i = getD index (4096 + 2 * i) 0
+rowAt index i = getD index (4096 + i) 0 / 65536
 
 abbrev pub linkAt : List ℕ → ℕ → ℕ
-linkAt index i = getD index (4096 + 2 * i + 1) 0
+linkAt index i = getD index (4096 + i) 0 % 65536
 
 -- the ids that are kept, in the order in which they came
 unfoldable pub keptIds : Keyed → Table → List ℕ → ℕ → List (List ℕ)
@@ -48,10 +49,7 @@ bucketOf x = (61 * (number (take 8 x) % 4093) + number (take 8 (drop 8 x)) % 409
 
 -- the index with one id more: the link goes to the one before it in its bucket, the bucket's head to it
 unfoldable pub linked : List ℕ → ℕ → ℕ → ℕ → List ℕ
-linked index n r b =
-    let one = set index (4096 + 2 * n) r in
-    let two = set one (4096 + 2 * n + 1) (getD one b 0) in
-    set two b (n + 1)
+linked index n r b = set (set index (4096 + n) (65536 * r + getD index b 0)) b (n + 1)
 
 -- the bytes of the first ids
 unfoldable pub firstIds : List ℕ → ℕ → List ℕ → List ℕ
@@ -71,15 +69,15 @@ lastIn b f (suc n) = cond (eqb (bucketOf (f n)) b) (suc n) (lastIn b f n)
 
 -- an id that can be read: its row is one of M's, and the bytes are there if it is among the first 4,096
 pub record Readable (me : Keyed) (t : Table) (index ids : List ℕ) (i : ℕ) : Type 0 where
-  pub listed : 4096 + 2 * i + 2 ≤ length index
+  pub listed : 4096 + i + 1 ≤ length index
   pub inside : rowAt index i % 4096 < length t
   pub room : length ids ≡ 65536
   pub bytes : i < 4096 → take 16 (drop (16 * i) ids) ≡ idBy me t (rowAt index i)
 
 -- heads and links lead to the ids that are kept, each link to an earlier one
 pub record Chained (me : Keyed) (t : Table) (k : Kept) : Type 0 where
-  pub buckets : 4096 + 2 * k .n ≤ length (k .index)
-  pub most : length (k .index) ≤ 135168
+  pub buckets : 4096 + k .n ≤ length (k .index)
+  pub most : length (k .index) ≤ 69632
   pub room : length (k .ids) ≡ 65536
   pub readable : (i : ℕ) → i < k .n → Readable me t (k .index) (k .ids) i
   pub heads : (b : ℕ) → b < 4096 → getD (k .index) b 0 ≡ lastIn b (λ i. idBy me t (rowAt (k .index) i)) (k .n)

@@ -1,10 +1,10 @@
 // The different ids met so far in a find (document 02, "Each document once in a find"), in a hash table
-// with separate chaining: in the index a head for each bucket, then for each id the number of its row and
-// a link to the one before it in its bucket. The first 4,096 ids stand as bytes beside it; a later one,
+// with separate chaining: in the index a head for each bucket, then for each id one number: that of its
+// row, and a link to the id before it in its bucket. The first 4,096 ids stand as bytes beside it; a later one,
 // which comes only where tags collide, is read out of its row again.
 ghost use mathlib.Core.Path.{_≡_};
 ghost use Prim.Native.Nat.{_+_, _*_, _≤_, _<_};
-ghost use lib.ListN.{length};
+ghost use lib.ListN.{length, getD};
 ghost use Rattle.octets.specs.Part.{written};
 ghost use Rattle.table.specs.Lists.{flat};
 ghost use Rattle.table.specs.Table.{rows};
@@ -17,6 +17,9 @@ use store::MOST_ROWS;
 
 // The buckets' heads in an index.
 pub const BUCKETS: usize = 4096;
+
+// More than any link: the number of a row stands above it.
+const LINKS: usize = 65536;
 
 // How many ids stand as bytes.
 const FIRST: usize = 4096;
@@ -53,8 +56,8 @@ fn id_at(t: &[u8], m: usize, me: Keyed, index: &[u32], ids: &[u8], i: usize) -> 
         octets::copy(&mut id, &ids[start..end]);
         return id;
     }
-    let at = BUCKETS + 2 * i;
-    let r = wide(index[at]);
+    let at = BUCKETS + i;
+    let r = wide(index[at]) / LINKS;
     let u = (r / MOST_ROWS) as u64;
     let key = format::numbered(me, u);
     row::text_at(t, m, r % MOST_ROWS, &key)
@@ -73,8 +76,8 @@ fn seen(t: &[u8], m: usize, me: Keyed, index: &[u32], ids: &[u8], n: usize, x: &
         if octets::same(&id, x) {
             return true;
         }
-        let at = BUCKETS + 2 * i + 1;
-        j = wide(index[at]);
+        let at = BUCKETS + i;
+        j = wide(index[at]) % LINKS;
     }
     false
 }
@@ -82,12 +85,12 @@ fn seen(t: &[u8], m: usize, me: Keyed, index: &[u32], ids: &[u8], n: usize, x: &
 // Puts an id into the index as the one of number n, with the number of its row: it becomes its bucket's
 // head, with a link to the head before it.
 fn link(index: &mut [u32], n: usize, r: usize, b: usize)
-    requires { ⌜ (b < 4096) × ((r < 65536) × ((4096 + 2 * n + 2 ≤ length (now index)) × (length (now index) ≤ 135168))) ⌝ }
+    requires { ⌜ (b < 4096) × ((r < 65536) × ((getD (now index) b 0 < 65536) × ((4096 + n + 1 ≤ length (now index)) × (length (now index) ≤ 69632)))) ⌝ }
     ensures { λ _. ⌜ now (index .exit) ≡ linked (now (index .entry)) n r b ⌝ }
 {
-    let at = BUCKETS + 2 * n;
-    index[at] = r as u32;
-    index[at + 1] = index[b];
+    let at = BUCKETS + n;
+    let head = wide(index[b]);
+    index[at] = (LINKS * r + head) as u32;
     index[b] = (n + 1) as u32;
 }
 
@@ -112,7 +115,7 @@ pub fn note(
     ids: &mut [u8],
     n: usize,
 ) -> usize
-    requires { ⌜ (length (now t) ≡ widthOf tableM * m) × (Chained me (rows (widthOf tableM) m (now t)) (kept (now index) (now ids) n) × ((now x ≡ idBy me (rows (widthOf tableM) m (now t)) r) × ((r < 65536) × (4096 + 2 * noted me (rows (widthOf tableM) m (now t)) r (kept (now index) (now ids) n) .n ≤ length (now index))))) ⌝ }
+    requires { ⌜ (length (now t) ≡ widthOf tableM * m) × (Chained me (rows (widthOf tableM) m (now t)) (kept (now index) (now ids) n) × ((now x ≡ idBy me (rows (widthOf tableM) m (now t)) r) × ((r < 65536) × (4096 + noted me (rows (widthOf tableM) m (now t)) r (kept (now index) (now ids) n) .n ≤ length (now index))))) ⌝ }
     ensures { λ q. ⌜ kept (now (index .exit)) (now (ids .exit)) q ≡ noted me (rows (widthOf tableM) m (now (t .entry))) r (kept (now (index .entry)) (now (ids .entry)) n) ⌝ }
 {
     if seen(t, m, me, index, ids, n, x) {

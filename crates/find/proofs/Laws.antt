@@ -233,7 +233,7 @@ module _ (ids : List (List ℕ)) (output : List ℕ) (n : ℕ) (q : n ≡ length
       )
 
 -- an index of so many zeros has room for half of those behind the buckets
-pub empty : (size n : ℕ) → 4096 + 2 * n ≤ size → size ≤ 135168 → Empty (replicate size 0) n
+pub empty : (size n : ℕ) → 4096 + n ≤ size → size ≤ 69632 → Empty (replicate size 0) n
 empty size n h k =
     let l : length (replicate size zero) ≡ size = length-replicate size zero in
     record { clear = ap (λ (m : ℕ). replicate m zero) (sym l); room = omega (arith, l); most = omega (arith, l) }
@@ -248,7 +248,7 @@ module _ (keys : EntryKeys) (t : Table) (few : length t ≤ 4096) (w : RowsM t) 
   unfolding keptIds
   none-kept = refl
 
-  pub room : 4096 + 2 * notedIn keys t of p (kept index ids 0) .n ≤ length index
+  pub room : 4096 + notedIn keys t of p (kept index ids 0) .n ≤ length index
   room = gathers-in keys t few w of p (kept index ids 0) .fits ready [] none-kept (e .room)
 
   module _ (k : Kept) (q : k ≡ notedIn keys t of p (kept index ids 0)) where

@@ -19,5 +19,5 @@ givenOutput ids output = cond (ltb (length output) (16 * length ids)) output (fl
 -- an index with no id and with room for n
 pub record Empty (index : List ℕ) (n : ℕ) : Type 0 where
   pub clear : index ≡ replicate (length index) 0
-  pub room : 4096 + 2 * n ≤ length index
-  pub most : length index ≤ 135168
+  pub room : 4096 + n ≤ length index
+  pub most : length index ≤ 69632

@@ -31,9 +31,9 @@ use store::MOST_ROWS;
 use store::Shape;
 
 // An index for as many ids as a table has rows, and for as many in each share.
-const FEW: usize = BUCKETS + 2 * MOST_ROWS;
+const FEW: usize = BUCKETS + MOST_ROWS;
 
-const MANY: usize = BUCKETS + 2 * 16 * MOST_ROWS;
+const MANY: usize = BUCKETS + 16 * MOST_ROWS;
 
 // What the shares count, and the sum; or that one is damaged.
 struct Counts {

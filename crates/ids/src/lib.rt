@@ -59,7 +59,7 @@ fn note_entry(
     ids: &mut [u8],
     n: usize,
 ) -> usize
-    requires { ⌜ (length (now t) ≡ widthOf tableM * m) × ((m ≤ 4096) × ((s .u ≤ 15) × (ShareOf keys (s .u) s × (Chained (keys .me) (rows (widthOf tableM) m (now t)) (kept (now index) (now ids) n) × (4096 + 2 * notedAt keys (rows (widthOf tableM) m (now t)) (s .u) (a .0) (kept (now index) (now ids) n) .n ≤ length (now index)))))) ⌝ }
+    requires { ⌜ (length (now t) ≡ widthOf tableM * m) × ((m ≤ 4096) × ((s .u ≤ 15) × (ShareOf keys (s .u) s × (Chained (keys .me) (rows (widthOf tableM) m (now t)) (kept (now index) (now ids) n) × (4096 + notedAt keys (rows (widthOf tableM) m (now t)) (s .u) (a .0) (kept (now index) (now ids) n) .n ≤ length (now index)))))) ⌝ }
     ensures { λ r. ⌜ kept (now (index .exit)) (now (ids .exit)) r ≡ notedAt keys (rows (widthOf tableM) m (now (t .entry))) (s .u) (a .0) (kept (now (index .entry)) (now (ids .entry)) n) ⌝ }
 {
     let i = place(t, m, s.mt, a);
@@ -83,7 +83,7 @@ fn note_share(
     ids: &mut [u8],
     n: usize,
 ) -> usize
-    requires { ⌜ (length (now t) ≡ widthOf tableM * m) × ((m ≤ 4096) × ((s .u ≤ 15) × (ShareOf keys (s .u) s × (Chained (keys .me) (rows (widthOf tableM) m (now t)) (kept (now index) (now ids) n) × (4096 + 2 * notedTo keys (rows (widthOf tableM) m (now t)) (s .u) count (kept (now index) (now ids) n) .n ≤ length (now index)))))) ⌝ }
+    requires { ⌜ (length (now t) ≡ widthOf tableM * m) × ((m ≤ 4096) × ((s .u ≤ 15) × (ShareOf keys (s .u) s × (Chained (keys .me) (rows (widthOf tableM) m (now t)) (kept (now index) (now ids) n) × (4096 + notedTo keys (rows (widthOf tableM) m (now t)) (s .u) count (kept (now index) (now ids) n) .n ≤ length (now index)))))) ⌝ }
     ensures { λ r. ⌜ kept (now (index .exit)) (now (ids .exit)) r ≡ notedTo keys (rows (widthOf tableM) m (now (t .entry))) (s .u) count (kept (now (index .entry)) (now (ids .entry)) n) ⌝ }
 {
     let mut next = n;
@@ -106,7 +106,7 @@ pub fn gather(
     index: &mut [u32],
     ids: &mut [u8],
 ) -> usize
-    requires { ⌜ (length (now t) ≡ widthOf tableM * m) × ((m ≤ 4096) × ((p ≤ 15) × (Chained (keys .me) (rows (widthOf tableM) m (now t)) (kept (now index) (now ids) 0) × (4096 + 2 * notedIn keys (rows (widthOf tableM) m (now t)) of (p + 1) (kept (now index) (now ids) 0) .n ≤ length (now index))))) ⌝ }
+    requires { ⌜ (length (now t) ≡ widthOf tableM * m) × ((m ≤ 4096) × ((p ≤ 15) × (Chained (keys .me) (rows (widthOf tableM) m (now t)) (kept (now index) (now ids) 0) × (4096 + notedIn keys (rows (widthOf tableM) m (now t)) of (p + 1) (kept (now index) (now ids) 0) .n ≤ length (now index))))) ⌝ }
     ensures { λ r. ⌜ kept (now (index .exit)) (now (ids .exit)) r ≡ notedIn keys (rows (widthOf tableM) m (now (t .entry))) of (p + 1) (kept (now (index .entry)) (now (ids .entry)) 0) ⌝ }
 {
     let mut n: usize = 0;

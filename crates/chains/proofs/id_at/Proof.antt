@@ -29,10 +29,10 @@ returns-2 : tie.Need-returns-2
 unfolding idBy
 returns-2 c =
     let a = c .before .before .before .before .before .before .before .before .before .args in
-    let r = c .before .before .before .wide .result in
+    let r = c .before .before .before .wide .result / 65536 in
     c .text-at .ensures
     ∙ ap (λ (k : List ℕ). textIn k (body (getD (rows (widthOf tableM) (a .m) (a .t .now)) (r % 4096) []))) (c .before .before .numbered .ensures)
-    ∙ ap (λ (r : ℕ). textIn (numberedBy (a .me) (r / 4096)) (body (getD (rows (widthOf tableM) (a .m) (a .t .now)) (r % 4096) []))) (c .before .before .before .wide .ensures)
+    ∙ ap (λ (v : ℕ). textIn (numberedBy (a .me) (v / 65536 / 4096)) (body (getD (rows (widthOf tableM) (a .m) (a .t .now)) (v / 65536 % 4096) []))) (c .before .before .before .wide .ensures)
 
 pub id-at-spec : {M : Type 1} → statement M
-id-at-spec = tie.close (tie.spec (λ c. search needs) (λ c. search needs) (λ c. search needs) (λ c. search needs) (λ c. search needs) (λ c. search needs) (λ c κs. search needs) returns (λ c. search needs) (λ c. search needs) (λ c. search needs) (λ c. search needs) (λ c κs. search needs) (λ c κs. search needs) text-at-requires returns-2)
+id-at-spec = tie.close (tie.spec (λ c. search needs) (λ c. search needs) (λ c. search needs) (λ c. search needs) (λ c. search needs) (λ c. search needs) (λ c κs. search needs) returns (λ c. search needs) (λ c. search needs) (λ c. search needs) (λ c κs. search needs) (λ c κs. search needs) text-at-requires returns-2)

@@ -1,14 +1,14 @@
 -- Met before, all stays; else it is put at the head of its bucket.
-use Prim.Native.Nat.{ℕ, _+_, _*_, _≤_}
+use Prim.Native.Nat.{ℕ, _+_, _≤_, _<_}
 use mathlib.Core.Path.{_≡_, refl, sym, ap, ap₂, subst, _∙_}
 use mathlib.Core.List.{List}
 use native.Mathlib.Omega.{arith}
-use lib.ListN.{length}
+use lib.ListN.{length, getD}
 use Rattle.table.specs.Table.{rows}
 use Rattle.table.proofs.Rows.{rows-wide}
 use Rattle.scheme.specs.Store.{tableM, widthOf}
 use Rattle.chains.specs.Chains.{Kept, kept, idBy, linked, bucketOf, added, noted, Readable, Chained}
-use Rattle.chains.proofs.Chains.{noted-met, noted-new}
+use Rattle.chains.proofs.Chains.{last-le, idOf, noted-met, noted-new}
 use borrow.Author.Needs.{needs}
 use Rattle.chains.proofs.note.Statement.{statement}
 use Rattle.chains.proofs.note.Tie as tie
@@ -25,7 +25,10 @@ link-requires c κs =
     let t = rows (widthOf tableM) (a .m) (a .t .now) in
     let k = kept (a .index .now) (a .ids .now) (a .n) in
     let e = ap (λ (k : Kept). k .n) (noted-new (a .me) t (a .r) k (a .x .now) (c .before .before .before .before .before .before .before .before .before .before .pre .1 .1 .0) (sym (c .before .before .before .before .seen .ensures) ∙ c .before .before .before .if1 .left)) in
-    (c .before .bucket .ensures .1, (c .before .before .before .before .before .before .before .before .before .before .pre .1 .1 .1 .0, (omega (arith, c .before .before .before .before .before .before .before .before .before .before .pre .1 .1 .1 .1, e), c .before .before .before .before .before .before .before .before .before .before .pre .1 .0 .most)))
+    let b = c .before .bucket .result in
+    let room : 4096 + a .n + 1 ≤ length (a .index .now) = omega (arith, c .before .before .before .before .before .before .before .before .before .before .pre .1 .1 .1 .1, e) in
+    let head : getD (a .index .now) b 0 < 65536 = omega (arith, room, c .before .before .before .before .before .before .before .before .before .before .pre .1 .0 .most, c .before .before .before .before .before .before .before .before .before .before .pre .1 .0 .heads b (c .before .bucket .ensures .1), last-le b (idOf (a .me) t (a .index .now)) (a .n)) in
+    (c .before .bucket .ensures .1, (c .before .before .before .before .before .before .before .before .before .before .pre .1 .1 .1 .0, (head, (room, c .before .before .before .before .before .before .before .before .before .before .pre .1 .0 .most))))
 
 returns-2 : tie.Need-returns-2
 returns-2 c =

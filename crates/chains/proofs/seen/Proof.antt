@@ -1,5 +1,5 @@
 -- The walk goes down the bucket's chain.
-use Prim.Native.Nat.{ℕ, suc, _+_, _*_, _-_, _≤_, _<_}
+use Prim.Native.Nat.{ℕ, suc, _+_, _*_, _-_, _%_, _≤_, _<_}
 use mathlib.Core.Path.{_≡_, sym, ap, _∙_}
 use mathlib.Core.List.{List}
 use native.Mathlib.Omega.{arith}
@@ -40,8 +40,8 @@ loop-less : tie.Need-loop-less Inv-loop μ-loop
 loop-less c =
     let a = c .before .before .before .before .before .before .before .before .before .before .before .before .before .before .before .before .args in
     let j = c .before .before .before .before .before .before .before .before .loop .j in
-    walk-down (a .me) (rows (widthOf tableM) (a .m) (a .t .now)) (a .index .now) (a .x .now) (a .n) j (j - 1) (c .before .before .before .before .before .before .before .before .loop .inv) (omega (arith, c .before .before .before .before .before .before .before .loop-test .taken)) (c .wide2 .result)
-    (c .wide2 .ensures ∙ c .before .before .before .before .before .before .before .before .before .before .before .before .before .before .before .before .pre .1 .links (j - 1) (omega (arith, c .before .before .before .before .before .before .before .before .loop .inv .below, c .before .before .before .before .before .before .before .loop-test .taken)))
+    walk-down (a .me) (rows (widthOf tableM) (a .m) (a .t .now)) (a .index .now) (a .x .now) (a .n) j (j - 1) (c .before .before .before .before .before .before .before .before .loop .inv) (omega (arith, c .before .before .before .before .before .before .before .loop-test .taken)) (c .wide2 .result % 65536)
+    (ap (λ (v : ℕ). v % 65536) (c .wide2 .ensures) ∙ c .before .before .before .before .before .before .before .before .before .before .before .before .before .before .before .before .pre .1 .links (j - 1) (omega (arith, c .before .before .before .before .before .before .before .before .loop .inv .below, c .before .before .before .before .before .before .before .loop-test .taken)))
 
 loop-again : tie.Need-loop-again Inv-loop μ-loop
 loop-again c =
@@ -49,8 +49,8 @@ loop-again c =
     let j = c .before .before .before .before .before .before .before .before .loop .j in
     walk-next (a .me) (rows (widthOf tableM) (a .m) (a .t .now)) (a .index .now) (a .x .now) (a .n) j (j - 1) (c .before .before .before .before .before .before .before .before .loop .inv) (omega (arith, c .before .before .before .before .before .before .before .loop-test .taken))
     (ap (λ (y : List ℕ). same y (a .x .now)) (sym (c .before .before .before .before .before .before .id-at .ensures)) ∙ sym (c .before .before .before .same .ensures) ∙ c .before .before .if1 .left)
-    (c .wide2 .result)
-    (c .wide2 .ensures ∙ c .before .before .before .before .before .before .before .before .before .before .before .before .before .before .before .before .pre .1 .links (j - 1) (omega (arith, c .before .before .before .before .before .before .before .before .loop .inv .below, c .before .before .before .before .before .before .before .loop-test .taken)))
+    (c .wide2 .result % 65536)
+    (ap (λ (v : ℕ). v % 65536) (c .wide2 .ensures) ∙ c .before .before .before .before .before .before .before .before .before .before .before .before .before .before .before .before .pre .1 .links (j - 1) (omega (arith, c .before .before .before .before .before .before .before .before .loop .inv .below, c .before .before .before .before .before .before .before .loop-test .taken)))
 
 returns-2 : tie.Need-returns-2 Inv-loop μ-loop
 returns-2 c =
@@ -58,4 +58,4 @@ returns-2 c =
     walk-end (a .me) (rows (widthOf tableM) (a .m) (a .t .now)) (a .index .now) (a .x .now) (a .n) (c .before .loop .j) (c .before .loop .inv) (c .loop-test .left)
 
 pub seen-spec : {M : Type 1} → statement M
-seen-spec = tie.close (tie.spec Inv-loop μ-loop (λ c κs. search needs) (λ c. search needs) (λ c. search needs) (λ c κs. search needs) loop-holds (λ c. search needs) id-at-requires (λ c. search needs) (λ c κs. search needs) returns (λ c. search needs) (λ c. search needs) (λ c. search needs) (λ c. search needs) (λ c. search needs) (λ c κs. search needs) loop-less loop-again returns-2)
+seen-spec = tie.close (tie.spec Inv-loop μ-loop (λ c κs. search needs) (λ c. search needs) (λ c. search needs) (λ c κs. search needs) loop-holds (λ c. search needs) id-at-requires (λ c. search needs) (λ c κs. search needs) returns (λ c. search needs) (λ c. search needs) (λ c. search needs) (λ c κs. search needs) loop-less loop-again returns-2)

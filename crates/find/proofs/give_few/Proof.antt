@@ -25,7 +25,7 @@ give-requires c κs =
     let few : length t ≤ 4096 = omega (arith, rows-length (widthOf tableM) (a .m) (a .t .now), s .pre .1 .0) in
     let ids = idsIn (a .keys) t (a .of) (a .p + 1) in
     let e = ap (λ (l : List ℕ). sum (map (λ u. getD (a .of) u 0) l)) (up-to-below (a .p)) in
-    (s .pre .0, (s .pre .1 .0, (s .pre .1 .1 .0, empty 12288 (length (distinct ids)) (omega (arith, distinct-few ids, few-in (a .keys) t few (a .of) (a .p + 1), e, s .pre .1 .1 .1)) (omega arith))))
+    (s .pre .0, (s .pre .1 .0, (s .pre .1 .1 .0, empty 8192 (length (distinct ids)) (omega (arith, distinct-few ids, few-in (a .keys) t few (a .of) (a .p + 1), e, s .pre .1 .1 .1)) (omega arith))))
 
 pub give-few-spec : {M : Type 1} → statement M
 give-few-spec = tie.close (tie.spec (λ c. search needs) give-requires (λ c. search needs) (λ c. search needs))

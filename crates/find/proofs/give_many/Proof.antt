@@ -22,7 +22,7 @@ give-requires c κs =
     let t = rows (widthOf tableM) (a .m) (a .t .now) in
     let few : length t ≤ 4096 = omega (arith, rows-length (widthOf tableM) (a .m) (a .t .now), s .pre .1 .0) in
     let ids = idsIn (a .keys) t (a .of) (a .p + 1) in
-    (s .pre .0, (s .pre .1 .0, (s .pre .1 .1, empty 135168 (length (distinct ids)) (omega (arith, most-in (a .keys) t few (a .of) (a .p + 1) (omega (arith, s .pre .1 .1)))) (omega arith))))
+    (s .pre .0, (s .pre .1 .0, (s .pre .1 .1, empty 69632 (length (distinct ids)) (omega (arith, most-in (a .keys) t few (a .of) (a .p + 1) (omega (arith, s .pre .1 .1)))) (omega arith))))
 
 pub give-many-spec : {M : Type 1} → statement M
 give-many-spec = tie.close (tie.spec (λ c. search needs) give-requires (λ c. search needs) (λ c. search needs))
