@@ -147,7 +147,7 @@ int64_t mazhkuri_erase(uint8_t *store, size_t store_length, const uint8_t *id, s
  * each once, at the first place where it would have come; bytes after them stay. Returns how many;
  * or -6, -10, -11, -13, or -(18 + 256 * how many) where the output is shorter than 16 times that. The
  * output may be empty. The time grows with how many ids were ever inserted under the field. It needs
- * some 0.6 MiB of stack at the most. */
+ * some 350 KiB of stack. */
 int64_t mazhkuri_find(const uint8_t *store, size_t store_length, const uint8_t *token,
                       size_t token_length, uint8_t *output, size_t output_length);
 

@@ -1,29 +1,25 @@
 -- A walk down a bucket's chain meets every id that is kept in it, and an id put at the head keeps the chains whole.
-use Prim.Native.Nat.{ℕ, zero, suc, _+_, _*_, _-_, _/_, _%_, _≤_, _<_}
+use Prim.Native.Nat.{ℕ, zero, suc, _+_, _*_, _-_, _%_, _≤_, _<_}
 use mathlib.Core.Path.{_≡_, refl, sym, ap, ap₂, subst, _∙_}
-use mathlib.Core.Bool.{Bool, true, false, cond, _||_, true≢false}
+use mathlib.Core.Bool.{Bool, true, false, cond, _||_, or-true, or-false}
 use mathlib.Core.List.{List, [], _∷_, _++_, append-nil}
-use native.Mathlib.Nat.{not-suc-le-zero}
 use native.Mathlib.Numerals.{add-one}
 use native.Mathlib.Omega.{arith}
-use lib.Dec.{eqb, ltb}
-use lib.ListN.{length, getD, set, take, drop, replicate, length-set, length-take, length-drop, length-append}
-use lib.Seq.{getD-set-same, getD-set-other}
-use borrow.Author.Tests.{eq-eqb, ne-eqb, eqb-true, eqb-false, lt-ltb, le-ltb, ltb-true, ltb-false}
-use Rattle.octets.specs.Part.{back, written}
-use Rattle.octets.proofs.Parts.{length-written, written-none, written-more, take-back, part-back}
-use Rattle.table.specs.Lists.{same, anyOf, flat, distinct, All}
+use lib.Dec.{eqb}
+use lib.ListN.{length, getD, length-drop, length-append}
+use borrow.Author.Tests.{eqb-true, eqb-false}
+use Rattle.octets.specs.Part.{written}
+use Rattle.octets.proofs.Parts.{written-none, written-more}
+use Rattle.table.specs.Lists.{same, anyOf, flat, All}
 use Rattle.table.specs.Table.{Table, body}
-use Rattle.table.proofs.Counting.{any-append, same-true, ne-same}
+use Rattle.table.proofs.Counting.{any-append, ne-same}
 use Rattle.table.proofs.Rows.{all-at}
-use Rattle.table.proofs.Walk.{drop-take}
 use Rattle.table.proofs.Below.{flat-append}
-use Rattle.table.proofs.Distinct.{distinct-end, any-distinct}
 use Rattle.scheme.specs.Store.{tableM, widthOf}
 use Rattle.suite.specs.Program.{program}
 use Rattle.hmac.specs.declared.Keyed.{Keyed}
 use Rattle.format.specs.Rows.{textIn}
-use Rattle.chains.specs.Chains.{idBy, Kept, kept, rowAt, linkAt, keptIds, met, bucketOf, linked, firstIds, added, noted, lastIn, Readable, Chained}
+use Rattle.chains.specs.Chains.{idBy, Kept, kept, rowAt, keptIds, met, bucketOf, linked, firstIds, added, noted, lastIn}
 
 -- ---- the last id of a bucket
 
@@ -81,11 +77,7 @@ module _ (me : Keyed) (t : Table) (index : List ℕ) where
 
     met-next : (n : ℕ) → metTo (suc n) ≡ (metTo n || same (idOf n) x)
     unfolding keptIds
-    met-next n = any-append (λ y. same y x) (keptIds me t index n) (idOf n ∷ []) ∙ go (same (idOf n) x)
-      where
-        go : (b : Bool) → (metTo n || (b || false)) ≡ (metTo n || b)
-        go true = refl
-        go false = refl
+    met-next n = any-append (λ y. same y x) (keptIds me t index n) (idOf n ∷ []) ∙ ap (λ (b : Bool). metTo n || b) (or-false (same (idOf n) x))
 
     -- after the last id of its bucket there is none like it
     met-last : (n : ℕ) → metTo (lastIn (bucketOf x) idOf n) ≡ metTo n
@@ -98,10 +90,6 @@ module _ (me : Keyed) (t : Table) (index : List ℕ) where
         go false e h =
             let ne : same (idOf n) x ≡ false = ne-same (idOf n) x (λ q. eqb-false (bucketOf (idOf n)) (bucketOf x) e (ap bucketOf q)) in
             h ∙ sym (met-next n ∙ rw ne (or-false (metTo n)))
-          where
-            or-false : (b : Bool) → (b || false) ≡ b
-            or-false true = refl
-            or-false false = refl
 
     -- at j the walk has come past none like it
     pub record Walk (n j : ℕ) : Type 0 where
@@ -115,11 +103,7 @@ module _ (me : Keyed) (t : Table) (index : List ℕ) where
 
     module _ (n j i : ℕ) (w : Walk n j) (e : j ≡ suc i) where
       pub walk-hit : same (idOf i) x ≡ true → true ≡ metTo n
-      walk-hit h = sym (sym (w .same) ∙ ap metTo e ∙ met-next i ∙ rw h (last (metTo i)))
-        where
-          last : (b : Bool) → (b || true) ≡ true
-          last true = refl
-          last false = refl
+      walk-hit h = sym (sym (w .same) ∙ ap metTo e ∙ met-next i ∙ rw h (or-true (metTo i)))
 
       pub walk-next : same (idOf i) x ≡ false → (j′ : ℕ) → j′ ≡ lastIn (bucketOf (idOf i)) idOf i → Walk n j′
       walk-next h j′ f =
@@ -131,10 +115,6 @@ module _ (me : Keyed) (t : Table) (index : List ℕ) where
             own = v .own;
             same = v .same ∙ sym (met-next i ∙ rw h (or-false (metTo i))) ∙ ap metTo (sym e) ∙ w .same;
           }
-        where
-          or-false : (b : Bool) → (b || false) ≡ b
-          or-false true = refl
-          or-false false = refl
 
       pub walk-down : (j′ : ℕ) → j′ ≡ lastIn (bucketOf (idOf i)) idOf i → j′ < j
       walk-down j′ f = omega (arith, last-le (bucketOf (idOf i)) idOf i, e, f)

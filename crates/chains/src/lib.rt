@@ -1,7 +1,7 @@
 // The different ids met so far in a find (document 02, "Each document once in a find"), in a hash table
 // with separate chaining: in the index a head for each bucket, then for each id one number: that of its
-// row, and a link to the id before it in its bucket. The first 4,096 ids stand as bytes beside it; a later one,
-// which comes only where tags collide, is read out of its row again.
+// row, and a link to the id before it in its bucket. The first 4,096 ids stand as bytes beside it; a later
+// one, which comes only where tags collide, is read out of its row again.
 ghost use mathlib.Core.Path.{_≡_};
 ghost use Prim.Native.Nat.{_+_, _*_, _≤_, _<_};
 ghost use lib.ListN.{length, getD};
@@ -34,7 +34,8 @@ fn wide(x: u32) -> usize
     x as usize
 }
 
-// The bucket of an id: all its bytes count, and ids in a row go to buckets in a row.
+// The bucket of an id: all its bytes count, and numbers in a row go to buckets in a row. 4,093 is the
+// greatest prime below the number of buckets.
 fn bucket(x: &[u8]) -> usize
     requires { ⌜ length (now x) ≡ 16 ⌝ }
     ensures { λ r. ⌜ (r ≡ bucketOf (now (x .entry))) × (r < 4096) ⌝ }
@@ -63,7 +64,8 @@ fn id_at(t: &[u8], m: usize, me: Keyed, index: &[u32], ids: &[u8], i: usize) -> 
     row::text_at(t, m, r % MOST_ROWS, &key)
 }
 
-// Whether an id is among the n that are kept: its bucket's chain is walked, down from the last.
+// Whether an id is among the n that are kept: its bucket's chain is walked, down from the last. Only the
+// contract needs n.
 fn seen(t: &[u8], m: usize, me: Keyed, index: &[u32], ids: &[u8], n: usize, x: &[u8; ID]) -> bool
     requires { ⌜ (length (now t) ≡ widthOf tableM * m) × Chained me (rows (widthOf tableM) m (now t)) (kept (now index) (now ids) n) ⌝ }
     ensures { λ r. ⌜ r ≡ met me (rows (widthOf tableM) m (now (t .entry))) (kept (now (index .entry)) (now (ids .entry)) n) (now (x .entry)) ⌝ }

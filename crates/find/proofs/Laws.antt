@@ -43,7 +43,7 @@ use Rattle.find.specs.Counts.{filled, countsOf}
 use Rattle.find.specs.Given.{givenAnswer, givenOutput, Empty}
 use Rattle.chains.specs.Chains.{Kept, kept, keptIds, Chained}
 use Rattle.chains.proofs.Chains.{RowsM}
-use Rattle.chains.proofs.Kept.{chained-none, kept-length, Gathers}
+use Rattle.chains.proofs.Kept.{chained-none, kept-length}
 use Rattle.ids.specs.Ids.{idAt, idsTo, idsIn, notedIn}
 use Rattle.ids.proofs.Noted.{gathers-in, wide-in}
 

@@ -2,19 +2,18 @@
 use Prim.Native.Nat.{ℕ, zero, suc, _+_, _*_, _/_, _%_, _≤_, _<_}
 use mathlib.Core.Path.{_≡_, refl, sym, ap, ap₂, subst, _∙_}
 use mathlib.Core.Bool.{Bool, true, false, cond, _||_}
-use mathlib.Core.Option.{none, some}
-use mathlib.Core.List.{List, [], _∷_, _++_, map}
+use mathlib.Core.List.{List, [], _∷_, map}
 use native.Mathlib.Numerals.{add-one}
 use native.Mathlib.Omega.{arith}
 use lib.Dec.{ltb}
 use lib.ListN.{length, getD, length-append, length-map}
 use borrow.Author.Tests.{lt-ltb, le-ltb, ltb-true, ltb-false}
 use Rattle.table.specs.Lists.{same, anyOf, sum, distinct, All}
-use Rattle.table.specs.Table.{Table, body, lookup, holds, placeOf}
-use Rattle.table.proofs.Counting.{same-refl, all-append, any-append}
+use Rattle.table.specs.Table.{Table, body, placeOf}
+use Rattle.table.proofs.Counting.{same-refl, all-append}
 use Rattle.table.proofs.Walk.{place-found, place-none, place-holds}
 use Rattle.table.proofs.Below.{below, grows, any-below, sum-next}
-use Rattle.table.proofs.Distinct.{Within, distinct-within}
+use Rattle.table.proofs.Distinct.{distinct-within}
 use Rattle.scheme.specs.Store.{idIn, entryTag}
 use Rattle.scheme.specs.Find.{idOf}
 use Rattle.suite.specs.Program.{program}
@@ -26,8 +25,7 @@ use Rattle.chains.specs.Chains.{Kept, idBy, noted}
 use Rattle.chains.proofs.Chains.{RowsM, id-wide}
 use Rattle.chains.proofs.Kept.{Gathers, gathers-none, gathers-one, gathers-then}
 use Rattle.ids.specs.declared.EntryKeys.{EntryKeys}
-use Rattle.ids.specs.declared.Share.{Share}
-use Rattle.ids.specs.Ids.{entryTags, tagOf, idAt, idsTo, idsIn, notedAt, notedTo, notedIn, ShareOf}
+use Rattle.ids.specs.Ids.{entryTags, tagOf, idAt, idsTo, idsIn, notedAt, notedTo, notedIn}
 
 pub share-tags : (k : Keyed) (key : List ℕ) (keys : EntryKeys) (u : ℕ) → Prepared k key → key ≡ numberedBy (keys .mt) u → entryTags k ≡ entryTag program (numberedBy (keys .mt) u)
 share-tags k key keys u p e = (λ j a. entry-tag-is k key (record { 0 = a }) p j) ∙ ap (entryTag program) e

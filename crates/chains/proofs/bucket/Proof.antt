@@ -1,6 +1,6 @@
 -- Two halves, each a number, and what is left of their sum.
 use Prim.Native.Nat.{ℕ, _+_, _*_, _%_}
-use mathlib.Core.Path.{_≡_, ap₂}
+use mathlib.Core.Path.{ap₂}
 use native.Mathlib.Omega.{arith}
 use Rattle.chains.specs.Chains.{bucketOf}
 use borrow.Author.Needs.{needs}

@@ -1,9 +1,9 @@
 -- The bytes beside the index are the id; a row's text is its id.
 use Prim.Native.Nat.{ℕ, _+_, _*_, _-_, _/_, _%_}
-use mathlib.Core.Path.{_≡_, sym, ap, _∙_}
+use mathlib.Core.Path.{_≡_, ap, _∙_}
 use mathlib.Core.List.{List, []}
 use native.Mathlib.Omega.{arith}
-use lib.ListN.{length, getD, take, drop}
+use lib.ListN.{getD, take, drop}
 use Rattle.table.specs.Table.{rows, body}
 use Rattle.table.proofs.Rows.{rows-length}
 use Rattle.scheme.specs.Store.{tableM, widthOf}

@@ -1,8 +1,8 @@
 -- Two stores, one after the other.
-use Prim.Native.Nat.{ℕ, _+_, _*_, _≤_}
-use mathlib.Core.Path.{_≡_, ap, _∙_}
+use Prim.Native.Nat.{ℕ, _+_, _*_}
+use mathlib.Core.Path.{ap, _∙_}
 use native.Mathlib.Omega.{arith}
-use lib.ListN.{length, getD, set, length-set}
+use lib.ListN.{set, length-set}
 use Rattle.chains.specs.Chains.{linked}
 use borrow.Author.Needs.{needs}
 use Rattle.chains.proofs.link.Statement.{statement}

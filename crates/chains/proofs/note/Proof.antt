@@ -1,13 +1,11 @@
 -- Met before, all stays; else it is put at the head of its bucket.
-use Prim.Native.Nat.{ℕ, _+_, _≤_, _<_}
-use mathlib.Core.Path.{_≡_, refl, sym, ap, ap₂, subst, _∙_}
-use mathlib.Core.List.{List}
+use Prim.Native.Nat.{_+_, _≤_, _<_}
+use mathlib.Core.Path.{sym, ap, _∙_}
 use native.Mathlib.Omega.{arith}
 use lib.ListN.{length, getD}
 use Rattle.table.specs.Table.{rows}
-use Rattle.table.proofs.Rows.{rows-wide}
 use Rattle.scheme.specs.Store.{tableM, widthOf}
-use Rattle.chains.specs.Chains.{Kept, kept, idBy, linked, bucketOf, added, noted, Readable, Chained}
+use Rattle.chains.specs.Chains.{Kept, kept, linked}
 use Rattle.chains.proofs.Chains.{last-le, idOf, noted-met, noted-new}
 use borrow.Author.Needs.{needs}
 use Rattle.chains.proofs.note.Statement.{statement}

@@ -1,12 +1,12 @@
 -- The walk goes down the bucket's chain.
-use Prim.Native.Nat.{ℕ, suc, _+_, _*_, _-_, _%_, _≤_, _<_}
-use mathlib.Core.Path.{_≡_, sym, ap, _∙_}
+use Prim.Native.Nat.{ℕ, _-_, _%_}
+use mathlib.Core.Path.{sym, ap, _∙_}
 use mathlib.Core.List.{List}
 use native.Mathlib.Omega.{arith}
 use Rattle.table.specs.Lists.{same}
 use Rattle.table.specs.Table.{rows}
 use Rattle.scheme.specs.Store.{tableM, widthOf}
-use Rattle.chains.specs.Chains.{lastIn, Readable, Chained}
+use Rattle.chains.specs.Chains.{lastIn}
 use Rattle.chains.proofs.Chains.{idOf, Walk, walk-start, walk-hit, walk-next, walk-down, walk-end}
 use borrow.Author.Needs.{needs}
 use Rattle.chains.proofs.seen.Statement.{statement}

@@ -1,12 +1,11 @@
 -- The first i ids are written.
-use Prim.Native.Nat.{ℕ, _+_, _*_, _-_, _≤_}
+use Prim.Native.Nat.{ℕ, _-_, _≤_}
 use mathlib.Core.Path.{_≡_, refl, subst, _∙_}
 use native.Mathlib.Omega.{arith}
 use lib.ListN.{length}
 use Rattle.table.specs.Table.{rows}
 use Rattle.table.proofs.Rows.{rows-wide}
 use Rattle.scheme.specs.Store.{tableM, widthOf}
-use Rattle.chains.specs.Chains.{Readable, Chained}
 use Rattle.chains.proofs.Chains.{Wrote, wrote-none, wrote-next}
 use borrow.Author.Needs.{needs}
 use Rattle.chains.proofs.write.Statement.{statement}

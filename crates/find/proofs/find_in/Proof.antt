@@ -1,9 +1,9 @@
 -- All shares are read; then the ids are gathered in the smaller or the larger index.
-use Prim.Native.Nat.{ℕ, _+_, _*_, _-_, _≤_}
-use mathlib.Core.Path.{_≡_, sym, ap, _∙_}
+use Prim.Native.Nat.{ℕ, _+_, _-_, _≤_}
+use mathlib.Core.Path.{_≡_, ap, _∙_}
 use mathlib.Core.List.{List, map}
 use native.Mathlib.Omega.{arith}
-use lib.ListN.{length, getD, take, drop}
+use lib.ListN.{getD, take, drop}
 use Rattle.table.specs.Lists.{sum, upTo, distinct}
 use Rattle.table.specs.Table.{Table, rows}
 use Rattle.scheme.specs.Store.{widthOf}

@@ -1,6 +1,6 @@
 -- The different ids are gathered; their number decides on 18, and then they are written.
-use Prim.Native.Nat.{ℕ, _+_, _*_, _≤_, _<_}
-use mathlib.Core.Path.{_≡_, sym, ap, _∙_}
+use Prim.Native.Nat.{ℕ, _+_, _≤_}
+use mathlib.Core.Path.{ap, _∙_}
 use mathlib.Core.List.{List}
 use native.Mathlib.Omega.{arith}
 use lib.ListN.{length, replicate, length-replicate}
@@ -9,7 +9,7 @@ use Rattle.table.specs.Lists.{flat, distinct}
 use Rattle.table.specs.Table.{Table, rows}
 use Rattle.table.proofs.Rows.{rows-length, rows-wide}
 use Rattle.scheme.specs.Store.{tableM, widthOf}
-use Rattle.chains.specs.Chains.{Kept, kept, keptIds, Chained}
+use Rattle.chains.specs.Chains.{kept}
 use Rattle.chains.proofs.Chains.{RowsM}
 use Rattle.ids.specs.Ids.{idsIn}
 use Rattle.find.proofs.Laws.{ready, room, gathered-chained, gathered-ids, gathered-number, gathered-wide, no-room, all-written}

@@ -1,11 +1,11 @@
 -- No more ids than are counted.
-use Prim.Native.Nat.{ℕ, _+_, _*_, _≤_}
-use mathlib.Core.Path.{_≡_, sym, ap}
+use Prim.Native.Nat.{ℕ, _+_, _≤_}
+use mathlib.Core.Path.{ap}
 use mathlib.Core.List.{List, map}
 use native.Mathlib.Omega.{arith}
 use lib.ListN.{length, getD}
 use Rattle.table.specs.Lists.{sum, distinct}
-use Rattle.table.specs.Table.{Table, rows}
+use Rattle.table.specs.Table.{rows}
 use Rattle.table.proofs.Rows.{rows-length}
 use Rattle.table.proofs.Below.{up-to-below}
 use Rattle.table.proofs.Distinct.{distinct-few}

@@ -1,11 +1,9 @@
 -- No more different ids than 16 shares can read in 4,096 rows.
-use Prim.Native.Nat.{ℕ, _+_, _*_, _≤_}
-use mathlib.Core.Path.{_≡_, sym, ap}
-use mathlib.Core.List.{List}
+use Prim.Native.Nat.{_+_, _≤_}
 use native.Mathlib.Omega.{arith}
 use lib.ListN.{length}
 use Rattle.table.specs.Lists.{distinct}
-use Rattle.table.specs.Table.{Table, rows}
+use Rattle.table.specs.Table.{rows}
 use Rattle.table.proofs.Rows.{rows-length}
 use Rattle.scheme.specs.Store.{tableM, widthOf}
 use Rattle.ids.specs.Ids.{idsIn}

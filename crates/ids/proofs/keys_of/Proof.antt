@@ -1,6 +1,5 @@
 -- MT of the share is prepared; the tags are by it.
-use mathlib.Core.Path.{_≡_, refl}
-use Rattle.ids.specs.Ids.{ShareOf}
+use mathlib.Core.Path.{refl}
 use Rattle.ids.proofs.Noted.{share-tags}
 use borrow.Author.Needs.{needs}
 use Rattle.ids.proofs.keys_of.Statement.{statement}

@@ -1,6 +1,6 @@
 -- The row is found at the tag's place, and its text is the id of its number.
-use Prim.Native.Nat.{ℕ, _+_, _*_, _≤_, _<_}
-use mathlib.Core.Path.{_≡_, sym, ap, _∙_}
+use Prim.Native.Nat.{ℕ, _<_}
+use mathlib.Core.Path.{_≡_, ap, _∙_}
 use mathlib.Core.List.{List, []}
 use native.Mathlib.Omega.{arith}
 use lib.ListN.{length, getD}
@@ -8,8 +8,8 @@ use Rattle.table.specs.Table.{Table, rows, placeOf, body}
 use Rattle.table.proofs.Rows.{rows-length}
 use Rattle.scheme.specs.Store.{tableM, widthOf}
 use Rattle.format.specs.Rows.{textIn}
-use Rattle.chains.specs.Chains.{Kept, kept, Chained}
-use Rattle.ids.specs.Ids.{tagOf, ShareOf}
+use Rattle.chains.specs.Chains.{Kept, kept}
+use Rattle.ids.specs.Ids.{tagOf}
 use Rattle.ids.proofs.Noted.{noted-hit, noted-miss, id-by}
 use borrow.Author.Needs.{needs}
 use Rattle.ids.proofs.note_entry.Statement.{statement}
