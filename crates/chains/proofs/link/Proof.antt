@@ -15,16 +15,10 @@ slice-write-index-2 : tie.Need-slice-write-index-2
 slice-write-index-2 c =
     let a = c .before .before .before .args in omega (arith, c .before .before .before .pre, length-set (a .index .now) (4096 + a .n) (65536 * a .r + c .wide .result))
 
-same-length : tie.Need-same-length
-same-length c =
-    let a = c .before .before .before .args in
-    let one = set (a .index .now) (4096 + a .n) (65536 * a .r + c .wide .result) in
-    length-set one (a .b) (a .n + 1) ∙ length-set (a .index .now) (4096 + a .n) (65536 * a .r + c .wide .result)
-
 returns : tie.Need-returns
 unfolding linked
 returns c =
     let a = c .before .before .before .args in ap (λ (h : ℕ). set (set (a .index .now) (4096 + a .n) (65536 * a .r + h)) (a .b) (a .n + 1)) (c .wide .ensures)
 
 pub link-spec : {M : Type 1} → statement M
-link-spec = tie.close (tie.spec (λ c. search needs) (λ c. search needs) (λ c. search needs) (λ c κs. search needs) (λ c. search needs) (λ c. search needs) cast-index (λ c. search needs) (λ c. search needs) (λ c. search needs) (λ c. search needs) (λ c. search needs) slice-write-index-2 same-length returns)
+link-spec = tie.close (tie.spec (λ c. search needs) (λ c. search needs) (λ c. search needs) (λ c κs. search needs) (λ c. search needs) (λ c. search needs) cast-index (λ c. search needs) (λ c. search needs) (λ c. search needs) (λ c. search needs) (λ c. search needs) slice-write-index-2 (λ c. search needs) returns)
