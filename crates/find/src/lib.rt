@@ -4,7 +4,7 @@
 ghost use mathlib.Core.Path.{_≡_};
 ghost use mathlib.Core.List.{map};
 ghost use Prim.Native.Nat.{_+_, _*_, _≤_};
-ghost use lib.ListN.{length, getD};
+ghost use lib.ListN.{length, getD, replicate};
 ghost use Rattle.answer.specs.Answer.{counted};
 ghost use Rattle.table.specs.Lists.{sum, upTo, distinct};
 ghost use Rattle.table.specs.Table.{rows};
@@ -14,7 +14,8 @@ ghost use Rattle.scheme.specs.Find.{shareReading, find as findOf};
 ghost use Rattle.suite.specs.Program.{program};
 ghost use Rattle.store.specs.Check.{checkedOf};
 ghost use Rattle.counter.specs.Outcome.{shareRead};
-ghost use Rattle.ids.specs.Ids.{idsIn};
+ghost use Rattle.chains.specs.Chains.{kept};
+ghost use Rattle.ids.specs.Ids.{idsIn, notedIn};
 ghost use Rattle.find.specs.Counts.{countsOf};
 ghost use Rattle.find.specs.Given.{givenAnswer, givenOutput, Empty};
 use answer::Counted;
@@ -98,6 +99,7 @@ fn give(
     requires { ⌜ (length (now t) ≡ widthOf tableM * m) × ((m ≤ 4096) × ((p ≤ 15) × Empty (now index) (length (distinct (idsIn keys (rows (widthOf tableM) m (now t)) of (p + 1)))))) ⌝ }
     ensures { λ r. ⌜ counted r ≡ givenAnswer (distinct (idsIn keys (rows (widthOf tableM) m (now (t .entry))) of (p + 1))) (now (output .entry)) ⌝ }
     ensures { λ _. ⌜ now (output .exit) ≡ givenOutput (distinct (idsIn keys (rows (widthOf tableM) m (now (t .entry))) of (p + 1))) (now (output .entry)) ⌝ }
+    ensures { λ _. ⌜ now (index .exit) ≡ notedIn keys (rows (widthOf tableM) m (now (t .entry))) of (p + 1) (kept (now (index .entry)) (replicate 65536 0) 0) .index ⌝ }
 {
     let mut ids = [0u8; FIRST_BYTES];
     let n = ids::gather(t, m, keys, of, p, index, &mut ids);

@@ -9,7 +9,7 @@ use Rattle.table.specs.Lists.{flat, distinct}
 use Rattle.table.specs.Table.{Table, rows}
 use Rattle.table.proofs.Rows.{rows-length, rows-wide}
 use Rattle.scheme.specs.Store.{tableM, widthOf}
-use Rattle.chains.specs.Chains.{kept}
+use Rattle.chains.specs.Chains.{Kept, kept}
 use Rattle.chains.proofs.Chains.{RowsM}
 use Rattle.ids.specs.Ids.{idsIn}
 use Rattle.find.proofs.Laws.{ready, room, gathered-chained, gathered-ids, gathered-number, gathered-wide, no-room, all-written}
@@ -52,10 +52,11 @@ returns c =
     let s = c .before .before .before .before .before .before .before .before .before .before in
     let a = s .args in
     let g = c .before .before .before .before .gather in
-    no-room (found s) (a .output .now) (g .result)
+    let r = no-room (found s) (a .output .now) (g .result)
     (gathered-number (a .keys) (tableAt s) (few s) (wide s) (a .of) (a .p + 1) (a .index .now) (replicate 65536 0) (s .pre .1 .1 .1) (length-replicate {A = ℕ} 65536 0)
     (kept (g .last .1 .1 .1 .1 .1 .0) (g .last .1 .1 .1 .1 .1 .1 .0) (g .result)) (g .ensures))
-    (omega (arith, c .if1 .taken))
+    (omega (arith, c .if1 .taken)) in
+    (r .0, (r .1, ap (λ (k : Kept). k .index) (g .ensures)))
 
 write-requires : tie.Need-write-requires
 write-requires c κs =
@@ -78,12 +79,13 @@ returns-2 c =
     let k = kept (g .last .1 .1 .1 .1 .1 .0) (g .last .1 .1 .1 .1 .1 .1 .0) (g .result) in
     let l = length-replicate {A = ℕ} 65536 0 in
     let w = c .before .before .write in
-    all-written (found s) (a .output .now) (g .result)
+    let r = all-written (found s) (a .output .now) (g .result)
     (gathered-number (a .keys) (tableAt s) (few s) (wide s) (a .of) (a .p + 1) (a .index .now) (replicate 65536 0) (s .pre .1 .1 .1) l k (g .ensures))
     (omega (arith, c .before .before .before .before .before .before .if1 .left))
     (gathered-wide (a .keys) (tableAt s) (few s) (wide s) (a .of) (a .p + 1) (a .index .now) (replicate 65536 0) (s .pre .1 .1 .1) l)
     (w .last .1 .1 .1 .1 .1 .1 .0)
-    (w .ensures ∙ ap (λ (x : List (List ℕ)). written (a .output .now) 0 (flat x)) (gathered-ids (a .keys) (tableAt s) (few s) (wide s) (a .of) (a .p + 1) (a .index .now) (replicate 65536 0) (s .pre .1 .1 .1) l k (g .ensures)))
+    (w .ensures ∙ ap (λ (x : List (List ℕ)). written (a .output .now) 0 (flat x)) (gathered-ids (a .keys) (tableAt s) (few s) (wide s) (a .of) (a .p + 1) (a .index .now) (replicate 65536 0) (s .pre .1 .1 .1) l k (g .ensures))) in
+    (r .0, (r .1, ap (λ (k : Kept). k .index) (g .ensures)))
 
 pub give-spec : {M : Type 1} → statement M
 give-spec = tie.close (tie.spec (λ c. search needs) gather-requires (λ c. search needs) returns (λ c. search needs) write-requires (λ c. search needs) (λ c. search needs) returns-2)
