@@ -4,3 +4,4 @@ pub mod Distinct
 pub mod Walk
 pub mod Placing
 pub mod Below
+pub mod Order

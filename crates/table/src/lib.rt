@@ -7,6 +7,7 @@ ghost use lib.Dec.{eqb, ltb};
 ghost use lib.ListN.{length, take, drop, set};
 ghost use Rattle.table.specs.Lists.{bit, same as sameBytes, count};
 ghost use Rattle.table.specs.Table.{rows, isFree, body, used, freeRows, markBad, indexOf, placeOf, zeroRow, freeWhere, PlacedAll};
+ghost use Rattle.table.specs.Order.{precedes as precedesBytes};
 
 // What one pass over the marks tells.
 pub struct Marks {
@@ -62,6 +63,24 @@ pub fn starts(row: &[u8], key: &[u8]) -> bool
     } else {
         octets::same(&row[1..e], key)
     }
+}
+
+// Whether the first of two texts of one length comes before the second, byte by byte. [02:W2.2]
+pub fn precedes(a: &[u8], b: &[u8]) -> bool
+    requires { ⌜ length (now a) ≡ length (now b) ⌝ }
+    ensures { λ r. ⌜ r ≡ precedesBytes (now (a .entry)) (now (b .entry)) ⌝ }
+{
+    let mut i = 0;
+    while i < b.len() {
+        if a[i] < b[i] {
+            return true;
+        }
+        if b[i] < a[i] {
+            return false;
+        }
+        i += 1;
+    }
+    false
 }
 
 // The used row of lowest index with a tag; n where there is none. [01:ST13]
