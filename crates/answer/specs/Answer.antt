@@ -3,7 +3,7 @@
 use Prim.Native.Nat.{ℕ}
 use mathlib.Core.List.{List, [], _∷_}
 use Rattle.answer.specs.declared.Refusal.{Refusal}
-use Rattle.answer.specs.declared.Refusal.the-variants.{KeyLength, FieldLength, ShareRange, NonceLength, IdLength, TokenLength, SizeRange, SliceLength, TextLength, Header, Mark, TokenShares, Damage, CountRange, EntryRows, CounterRows, LogRows, OutputLength, NonceCount}
+use Rattle.answer.specs.declared.Refusal.the-variants.{KeyLength, FieldLength, ShareRange, NonceLength, IdLength, TokenLength, SizeRange, SliceLength, TextLength, Header, Mark, TokenShares, Damage, CountRange, EntryRows, CounterRows, LogRows, OutputLength, NonceCount, Form}
 use Rattle.answer.specs.declared.Completion.{Completion}
 use Rattle.answer.specs.declared.Completion.the-variants.{Done, Refused as Refused₀}
 use Rattle.answer.specs.declared.Counted.{Counted}
@@ -35,6 +35,7 @@ numberOf CounterRows = 16
 numberOf LogRows = 17
 numberOf (OutputLength n) = 18
 numberOf NonceCount = 19
+numberOf Form = 20
 
 -- what a refusal carries: 18 the number of ids found, every other nothing
 abbrev pub carriedBy : Refusal → List ℕ
@@ -57,6 +58,7 @@ carriedBy CounterRows = []
 carriedBy LogRows = []
 carriedBy (OutputLength n) = n ∷ []
 carriedBy NonceCount = []
+carriedBy Form = []
 
 abbrev pub refusal : Refusal → Answer
 refusal r = refused (numberOf r) (carriedBy r)

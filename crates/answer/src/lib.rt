@@ -4,7 +4,7 @@ ghost use mathlib.Core.Path.{_≡_};
 ghost use Rattle.answer.specs.Answer.{numberOf};
 
 // One case for each number of document 01, "Refusals from the input" and "Refusals from the
-// state". [01:RI2 RI3 RI4 RI5 RI6 RI7 RI8 RI9 RI10 RS2 RS3 RS4 RS5 RS6 RS7 RS8 RS9 RS10 RS11]
+// state", and of document 02. [01:RI2 RI3 RI4 RI5 RI6 RI7 RI8 RI9 RI10 RS2 RS3 RS4 RS5 RS6 RS7 RS8 RS9 RS10 RS11]
 pub enum Refusal {
     // 1: the key is not 32 bytes long.
     KeyLength,
@@ -44,6 +44,8 @@ pub enum Refusal {
     OutputLength(u64),
     // 19: a compaction has fewer nonces than S has used rows.
     NonceCount,
+    // 20: a table is not in form. [02:W2.11]
+    Form,
 }
 
 // The answer of a call that gives no value.
@@ -82,5 +84,6 @@ pub fn number(r: Refusal) -> u64
         Refusal::LogRows => 17,
         Refusal::OutputLength(_) => 18,
         Refusal::NonceCount => 19,
+        Refusal::Form => 20,
     }
 }

@@ -2,6 +2,8 @@ pub mod Counting
 pub mod Rows
 pub mod Distinct
 pub mod Walk
-pub mod Placing
 pub mod Below
 pub mod Order
+pub mod Arranging
+pub mod Cuts
+pub mod Search

@@ -1,5 +1,4 @@
--- Laws of one table: what placing a row and freeing rows do to the used rows, to lookups and to widths, and cutting a table
--- out of bytes again.
+-- Laws of one table: what freeing rows does to the used rows, to lookups and to widths, and cutting a table out of bytes again.
 use Prim.Native.Nat.{ℕ, zero, suc, _+_, _*_, _≤_, _<_}
 use mathlib.Core.Path.{_≡_, refl, sym, ap, ap₂, _∙_}
 use mathlib.Core.Bool.{Bool, true, false, cond, not, _&&_, _||_, true≢false}
@@ -10,9 +9,8 @@ use native.Mathlib.Nat.{not-suc-le-zero, le-of-suc-le-suc}
 use native.Mathlib.Omega.{arith}
 use lib.ListN.{length, getD, drop, set, replicate, length-append, length-set}
 use lib.Seq.{take-at, drop-at, getD-set-other}
-use Rattle.table.specs.Lists.{bit, select, count, first, isSome, flat, All, Same}
-use Rattle.table.specs.Table.{Row, Table, rows, isFree, body, used, freeRows, hasTag, lookup, holds, indexOf, placeOf, zeroRow, freeAt, freeWhere, Placed, PlacedAll}
-use Rattle.table.specs.Table.PlacedAll.{none-placed, one-placed}
+use Rattle.table.specs.Lists.{bit, select, first, isSome, flat, All}
+use Rattle.table.specs.Table.{Row, Table, rows, isFree, body, used, freeRows, hasTag, lookup, holds, indexOf, placeOf, zeroRow, freeAt, freeWhere}
 use Rattle.table.proofs.Counting.{both}
 
 -- a row of all zeros is free
@@ -29,25 +27,7 @@ free-used (r ∷ rs) = go (isFree r) (free-used rs)
     go true e = omega arith
     go false e = omega arith
 
--- ---- placing
-
--- every test counts one row more
-placed-count : (q : List ℕ → Bool) (t : Table) (i : ℕ) (row : Row) → i < length t → isFree (getD t i []) ≡ true → isFree row ≡ false
-    → count q (used (set t i row)) ≡ bit (q (body row)) + count q (used t)
-placed-count q [] i row h f n = absurd (not-suc-le-zero h)
-placed-count q (r ∷ rs) zero row h f n = rw (n, f) refl
-placed-count q (r ∷ rs) (suc i) row h f n = go (isFree r) (placed-count q rs i row (le-of-suc-le-suc h) f n)
-  where
-    go : (b : Bool) → count q (used (set rs i row)) ≡ bit (q (body row)) + count q (used rs)
-        → count q (cond b (used (set rs i row)) (body r ∷ used (set rs i row))) ≡ bit (q (body row)) + count q (cond b (used rs) (body r ∷ used rs))
-    go true e = e
-    go false e = omega arith
-
-pub placed-same : (t : Table) (row : Row) (t′ : Table) → Placed t row t′ → isFree row ≡ false → Same (used t′) (body row ∷ used t)
-placed-same t row t′ p n = record { counts = λ q. rw (p .put) (placed-count q t (p .at) row (p .inside) (p .free) n) }
-
-pub placed-length : (t : Table) (row : Row) (t′ : Table) → Placed t row t′ → length t′ ≡ length t
-placed-length t row t′ p = ap length (p .put) ∙ length-set t (p .at) row
+-- ---- one row
 
 pub all-set : (P : Row → Type 0) (t : Table) (i : ℕ) (row : Row) → P row → All P t → All P (set t i row)
 all-set P [] i row h a = tt
@@ -58,44 +38,6 @@ pub all-at : (P : Row → Type 0) (t : Table) (i : ℕ) → i < length t → All
 all-at P [] i h a = absurd (not-suc-le-zero h)
 all-at P (r ∷ rs) zero h a = a .0
 all-at P (r ∷ rs) (suc i) h a = all-at P rs i (le-of-suc-le-suc h) (a .1)
-
-pub placed-all : (P : Row → Type 0) (t : Table) (row : Row) (t′ : Table) → Placed t row t′ → P row → All P t → All P t′
-placed-all P t row t′ p h a = rw (p .put) (all-set P t (p .at) row h a)
-
--- a placed row without the property that is looked for leaves the first row with it; with it, where none was, it is the first
-set-first : (q : List ℕ → Bool) (t : Table) (i : ℕ) (row : Row) → isFree (getD t i []) ≡ true → isFree row ≡ false
-    → q (body row) ≡ false → first q (used (set t i row)) ≡ first q (used t)
-set-first q [] i row f n e = refl
-set-first q (r ∷ rs) zero row f n e = rw (n, f, e) refl
-set-first q (r ∷ rs) (suc i) row f n e = go (isFree r) (set-first q rs i row f n e)
-  where
-    go : (b : Bool) → first q (used (set rs i row)) ≡ first q (used rs) → first q (cond b (used (set rs i row)) (body r ∷ used (set rs i row))) ≡ first q (cond b (used rs) (body r ∷ used rs))
-    go true k = k
-    go false k = ap (cond (q (body r)) (some (body r))) k
-
-set-only : (q : List ℕ → Bool) (t : Table) (i : ℕ) (row : Row) → i < length t → isFree (getD t i []) ≡ true → isFree row ≡ false
-    → q (body row) ≡ true → first q (used t) ≡ none → first q (used (set t i row)) ≡ some (body row)
-set-only q [] i row h f n e o = absurd (not-suc-le-zero h)
-set-only q (r ∷ rs) zero row h f n e o = rw (n, e) refl
-set-only q (r ∷ rs) (suc i) row h f n e o = go (isFree r) (q (body r)) o (set-only q rs i row (le-of-suc-le-suc h) f n e)
-  where
-    go : (b c : Bool) → first q (cond b (used rs) (body r ∷ used rs)) ≡ none
-        → (first q (used rs) ≡ none → first q (used (set rs i row)) ≡ some (body row))
-        → first q (cond b (used (set rs i row)) (body r ∷ used (set rs i row))) ≡ some (body row)
-    go true c o k = k o
-    go false c o k = at (q (body r)) o
-      where
-        at : (d : Bool) → cond d (some (body r)) (first q (used rs)) ≡ none → cond d (some (body r)) (first q (used (set rs i row))) ≡ some (body row)
-        at true o = absurd (let z : _≡_ {A = ℕ} 0 1 = cc in omega arith)
-        at false o = k o
-
-pub placed-other : (tag : List ℕ) (t : Table) (row : Row) (t′ : Table) → Placed t row t′ → isFree row ≡ false → hasTag tag (body row) ≡ false → lookup tag t′ ≡ lookup tag t
-unfolding lookup
-placed-other tag t row t′ p n e = rw (p .put) (set-first (hasTag tag) t (p .at) row (p .free) n e)
-
-pub placed-found : (tag : List ℕ) (t : Table) (row : Row) (t′ : Table) → Placed t row t′ → isFree row ≡ false → hasTag tag (body row) ≡ true → lookup tag t ≡ none → lookup tag t′ ≡ some (body row)
-unfolding lookup
-placed-found tag t row t′ p n e o = rw (p .put) (set-only (hasTag tag) t (p .at) row (p .inside) (p .free) n e o)
 
 -- ---- freeing
 
@@ -289,28 +231,11 @@ pub all-replicate : (P : Row → Type 0) (n : ℕ) (r : Row) → P r → All P (
 all-replicate P zero r h = tt
 all-replicate P (suc n) r h = (h, all-replicate P n r h)
 
--- ---- several rows placed
-
-pub record PlacedOne (t : Table) (row : Row) (rest : List Row) (t′ : Table) : Type 0 where
-  pub between : Table
-  pub one : Placed t row between
-  pub more : PlacedAll between rest t′
-
-pub placed-none : (t t′ : Table) → PlacedAll t [] t′ → t ≡ t′
-placed-none t t′ none-placed = refl
-
-pub placed-next : (t : Table) (row : Row) (rest : List Row) (t′ : Table) → PlacedAll t (row ∷ rest) t′ → PlacedOne t row rest t′
-placed-next t row rest t′ (one-placed {t₁ = b} p ps) = record { between = b; one = p; more = ps }
-
 -- ---- pieces of bytes
 
 pub rows-length : (w n : ℕ) (l : List ℕ) → length (rows w n l) ≡ n
 rows-length w zero l = refl
 rows-length w (suc n) l = ap suc (rows-length w n (drop w l))
-
--- each of n rows is free or used
-pub rows-free : (w n : ℕ) (l : List ℕ) → n ≡ freeRows (rows w n l) + length (used (rows w n l))
-rows-free w n l = sym (rows-length w n l) ∙ free-used (rows w n l)
 
 pub rows-wide : (w n : ℕ) (l : List ℕ) → w * n ≤ length l → All (λ r. length r ≡ w) (rows w n l)
 rows-wide w zero l h = tt

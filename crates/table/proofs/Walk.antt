@@ -15,7 +15,7 @@ use borrow.Author.Tests.{lt-ltb, le-ltb, ltb-true, ltb-false}
 use Rattle.octets.specs.Part.{back}
 use Rattle.octets.proofs.Parts.{length-part}
 use Rattle.table.specs.Lists.{bit, count, first, isSome, flat}
-use Rattle.table.specs.Table.{Row, Table, rows, markOf, markBad, isFree, body, used, freeRows, hasTag, lookup, holds, indexOf, placeOf, zeroRow, freeWhere}
+use Rattle.table.specs.Table.{Row, Table, rows, markOf, markBad, isFree, body, used, hasTag, lookup, holds, indexOf, placeOf}
 use Rattle.table.proofs.Counting.{any-count, any-none}
 use Rattle.table.proofs.Rows.{rows-length, place-held}
 
@@ -124,15 +124,6 @@ module _ (q : Row → Bool) (w n i z : ℕ) (t : List ℕ) (e : i + indexOf q (d
 
 -- ---- what an index tells
 
--- where a row is free, one is found
-pub free-inside : (t : Table) → 1 ≤ freeRows t → indexOf isFree t < length t
-free-inside [] h = absurd (not-suc-le-zero h)
-free-inside (r ∷ rs) h = go (isFree r) h (free-inside rs)
-  where
-    go : (b : Bool) → 1 ≤ bit b + freeRows rs → (1 ≤ freeRows rs → indexOf isFree rs < length rs) → cond b zero (suc (indexOf isFree rs)) < suc (length rs)
-    go true h k = omega arith
-    go false h k = let l = k (omega arith) in omega arith
-
 -- the row at a tag's place is what a lookup finds [01:ST13]
 pub place-found : (tag : List ℕ) (t : Table) → placeOf tag t < length t → lookup tag t ≡ some (body (getD t (placeOf tag t) []))
 unfolding placeOf lookup
@@ -193,91 +184,3 @@ rows-back w (suc n) (suc i) t ys h l f =
     let k : length (take w t) ≡ w = length-take-le w t (omega arith) in
     rw (e, a, back-later w (w * i) (w * i + w) t ys, take-at (take w t) (back (drop w t) (w * i) (w * i + w) ys) w k, drop-at (take w t) (back (drop w t) (w * i) (w * i + w) ys) w k)
     (ap (λ (r : Table). take w t ∷ r) (rows-back w n i (drop w t) ys (le-of-suc-le-suc h) l (omega (arith, length-drop w t))))
-
--- ---- freeing rows one after the other
-
--- the first i rows gone through
-abbrev freedTo : ℕ → (List ℕ → Bool) → ℕ → Table → Table
-freedTo w q zero t = t
-freedTo w q (suc i) [] = []
-freedTo w q (suc i) (r ∷ rs) = cond (not (isFree r) && q (body r)) (zeroRow w) r ∷ freedTo w q i rs
-
--- the table t₀ as it is after its first i rows, and how many of them were freed
-pub record Freeing (w : ℕ) (q : List ℕ → Bool) (t₀ : Table) (i : ℕ) (t : Table) (k : ℕ) : Type 0 where
-  pub now : t ≡ freedTo w q i t₀
-  pub freed : k + count q (used (drop i t₀)) ≡ count q (used t₀)
-  pub few : k ≤ i
-
-module _ (w : ℕ) (q : List ℕ → Bool) where
-  freed-at : (i : ℕ) (t : Table) → getD (freedTo w q i t) i [] ≡ getD t i []
-  freed-at zero t = refl
-  freed-at (suc i) [] = refl
-  freed-at (suc i) (r ∷ rs) = freed-at i rs
-
-  freed-hit : (i : ℕ) (t : Table) → i < length t → (not (isFree (getD t i [])) && q (body (getD t i []))) ≡ true → set (freedTo w q i t) i (zeroRow w) ≡ freedTo w q (suc i) t
-  freed-hit i [] h e = absurd (not-suc-le-zero h)
-  freed-hit zero (r ∷ rs) h e = rw e
-  freed-hit (suc i) (r ∷ rs) h e = ap (λ (l : Table). cond (not (isFree r) && q (body r)) (zeroRow w) r ∷ l) (freed-hit i rs (le-of-suc-le-suc h) e)
-
-  freed-miss : (i : ℕ) (t : Table) → (not (isFree (getD t i [])) && q (body (getD t i []))) ≡ false → freedTo w q i t ≡ freedTo w q (suc i) t
-  freed-miss zero [] e = refl
-  freed-miss zero (r ∷ rs) e = rw e
-  freed-miss (suc i) [] e = refl
-  freed-miss (suc i) (r ∷ rs) e = ap (λ (l : Table). cond (not (isFree r) && q (body r)) (zeroRow w) r ∷ l) (freed-miss i rs e)
-
-  freed-all : (i : ℕ) (t : Table) → length t ≤ i → freedTo w q i t ≡ freeWhere w q t
-  freed-all zero [] h = refl
-  freed-all zero (r ∷ rs) h = absurd (not-suc-le-zero h)
-  freed-all (suc i) [] h = refl
-  freed-all (suc i) (r ∷ rs) h = ap (λ (l : Table). cond (not (isFree r) && q (body r)) (zeroRow w) r ∷ l) (freed-all i rs (le-of-suc-le-suc h))
-
-  used-next : (i : ℕ) (t : Table) → i < length t → count q (used (drop i t)) ≡ bit (not (isFree (getD t i [])) && q (body (getD t i []))) + count q (used (drop (i + 1) t))
-  used-next i t h = rw (add-one i, drop-cons t i [] h) (go (isFree (getD t i [])))
-    where
-      go : (b : Bool) → count q (cond b (used (drop (suc i) t)) (body (getD t i []) ∷ used (drop (suc i) t))) ≡ bit (not b && q (body (getD t i []))) + count q (used (drop (suc i) t))
-      go true = omega arith
-      go false = refl
-
-  pub freeing-none : (t₀ : Table) → Freeing w q t₀ 0 t₀ 0
-  freeing-none t₀ = record { now = refl; freed = omega arith; few = omega arith }
-
-  module _ (t₀ t : Table) (i k : ℕ) (f : Freeing w q t₀ i t k) where
-    -- the next row is still as it was
-    pub freeing-at : getD t i [] ≡ getD t₀ i []
-    freeing-at = ap (λ (l : Table). getD l i []) (f .now) ∙ freed-at i t₀
-
-    module _ (h : i < length t₀) (b : Bool) (e : b ≡ (not (isFree (getD t i [])) && q (body (getD t i [])))) where
-      test : b ≡ (not (isFree (getD t₀ i [])) && q (body (getD t₀ i [])))
-      test = e ∙ ap (λ (r : Row). not (isFree r) && q (body r)) freeing-at
-
-      pub freeing-hit : (t′ : Table) (k′ : ℕ) → b ≡ true → t′ ≡ set t i (zeroRow w) → k′ ≡ k + 1 → Freeing w q t₀ (i + 1) t′ k′
-      freeing-hit t′ k′ y s m =
-          let hit = sym test ∙ y in
-          let n = used-next i t₀ h in
-          let one = ap bit hit in
-          let c = f .freed in
-          let l = f .few in
-          record {
-            now = s ∙ ap (λ (l : Table). set l i (zeroRow w)) (f .now) ∙ freed-hit i t₀ h hit ∙ ap (λ (j : ℕ). freedTo w q j t₀) (sym (add-one i));
-            freed = omega arith;
-            few = omega arith;
-          }
-
-      pub freeing-miss : (t′ : Table) (k′ : ℕ) → b ≡ false → t′ ≡ t → k′ ≡ k → Freeing w q t₀ (i + 1) t′ k′
-      freeing-miss t′ k′ y s m =
-          let miss = sym test ∙ y in
-          let n = used-next i t₀ h in
-          let none = ap bit miss in
-          let c = f .freed in
-          let l = f .few in
-          record {
-            now = s ∙ f .now ∙ freed-miss i t₀ miss ∙ ap (λ (j : ℕ). freedTo w q j t₀) (sym (add-one i));
-            freed = omega arith;
-            few = omega arith;
-          }
-
-    pub freeing-all : length t₀ ≤ i → (k ≡ count q (used t₀)) × (t ≡ freeWhere w q t₀)
-    freeing-all h =
-        let c = f .freed in
-        let z : count q (used (drop i t₀)) ≡ 0 = ap (λ (l : Table). count q (used l)) (drop-of-length-le t₀ h) in
-        (omega arith, f .now ∙ freed-all i t₀ h)

@@ -1,12 +1,11 @@
 -- One table of the store, as the list of its rows, each with its mark (document 01, "Store"). The width w is a parameter.
-use Prim.Native.Nat.{ℕ, zero, suc, _<_}
-use mathlib.Core.Path.{_≡_}
-use mathlib.Core.Bool.{Bool, true, false, cond, not, _&&_}
+use Prim.Native.Nat.{ℕ, zero, suc}
+use mathlib.Core.Bool.{Bool, cond, not, _&&_}
 use mathlib.Core.Option.{Option}
-use mathlib.Core.List.{List, [], _∷_, map}
+use mathlib.Core.List.{List, [], _∷_}
 use lib.Dec.{eqb, ltb}
-use lib.ListN.{length, getD, take, drop, set, replicate}
-use Rattle.table.specs.Lists.{same, select, count, first, anyOf, isSome, flat}
+use lib.ListN.{getD, take, drop, set, replicate}
+use Rattle.table.specs.Lists.{same, count, first, anyOf, isSome}
 
 abbrev pub Row : Type 0
 Row = List ℕ
@@ -73,15 +72,3 @@ freeAt w (i ∷ is) t = freeAt w is (set t i (zeroRow w))
 abbrev pub freeWhere : ℕ → (List ℕ → Bool) → Table → Table
 freeWhere w q [] = []
 freeWhere w q (r ∷ rs) = cond (not (isFree r) && q (body r)) (zeroRow w) r ∷ freeWhere w q rs
-
--- the one open choice: a free row takes the new one, every other row keeps its bytes [01:ST15]
-pub record Placed (t : Table) (row : Row) (after : Table) : Type 0 where
-  pub at : ℕ
-  pub inside : at < length t
-  pub free : isFree (getD t at []) ≡ true
-  pub put : after ≡ set t at row
-
--- several rows, placed one after the other
-pub data PlacedAll : Table → List Row → Table → Type 0 where
-  none-placed : {t : Table} → PlacedAll t [] t
-  one-placed : {t : Table} {row : Row} {t₁ : Table} {rest : List Row} {t₂ : Table} → Placed t row t₁ → PlacedAll t₁ rest t₂ → PlacedAll t (row ∷ rest) t₂

@@ -4,9 +4,9 @@ ghost use mathlib.Core.Path.{_≡_};
 ghost use mathlib.Core.Bool.{not, _&&_};
 ghost use Prim.Native.Nat.{_+_, _*_, _<_, _≤_};
 ghost use lib.Dec.{eqb, ltb};
-ghost use lib.ListN.{length, take, drop, set};
-ghost use Rattle.table.specs.Lists.{bit, same as sameBytes, count};
-ghost use Rattle.table.specs.Table.{rows, isFree, body, used, freeRows, markBad, indexOf, placeOf, zeroRow, freeWhere, PlacedAll};
+ghost use lib.ListN.{length, take, set};
+ghost use Rattle.table.specs.Lists.{bit, same as sameBytes};
+ghost use Rattle.table.specs.Table.{rows, isFree, body, freeRows, markBad, placeOf};
 ghost use Rattle.table.specs.Order.{precedes as precedesBytes};
 
 // What one pass over the marks tells.
@@ -100,22 +100,6 @@ pub fn place(t: &[u8], w: usize, n: usize, tag: &[u8; 32]) -> usize
     n
 }
 
-// The free row of lowest index from a row on; n where there is none.
-pub fn free_from(t: &[u8], w: usize, n: usize, from: usize) -> usize
-    requires { ⌜ (1 ≤ w) × ((from ≤ n) × (length (now t) ≡ w * n)) ⌝ }
-    ensures { λ r. ⌜ r ≡ from + indexOf isFree (drop from (rows w n (now (t .entry)))) ⌝ }
-{
-    let mut i = from;
-    while i < n {
-        let at = w * i;
-        if t[at] == 0 {
-            return i;
-        }
-        i += 1;
-    }
-    n
-}
-
 // Writes a row; every other row keeps its bytes. [01:ST15]
 pub fn put_row(t: &mut [u8], w: usize, n: usize, i: usize, row: &[u8])
     requires { ⌜ (i < n) × ((length (now row) ≡ w) × (length (now t) ≡ w * n)) ⌝ }
@@ -124,52 +108,4 @@ pub fn put_row(t: &mut [u8], w: usize, n: usize, i: usize, row: &[u8])
     let at = w * i;
     let e = at + w;
     octets::copy(&mut t[at..e], row);
-}
-
-// Writes k rows, each in a free row; every other row keeps its bytes. Free rows are looked for from
-// the last one taken on, so the table is walked once. [01:ST15]
-pub fn put_rows(t: &mut [u8], w: usize, n: usize, from: &[u8], k: usize)
-    requires { ⌜ (1 ≤ w) × ((length (now t) ≡ w * n) × ((length (now from) ≡ w * k) × (k ≤ freeRows (rows w n (now t))))) ⌝ }
-    ensures { λ _. ⌜ PlacedAll (rows w n (now (t .entry))) (rows w k (now (from .entry))) (rows w n (now (t .exit))) ⌝ }
-{
-    let mut next = 0;
-    let mut i = 0;
-    while i < k {
-        let a = w * i;
-        let e = a + w;
-        let at = free_from(t, w, n, next);
-        put_row(t, w, n, at, &from[a..e]);
-        next = at + 1;
-        i += 1;
-    }
-}
-
-// Frees a row: zeroes all of it. [01:ST14]
-pub fn clear_row(t: &mut [u8], w: usize, n: usize, i: usize)
-    requires { ⌜ (i < n) × (length (now t) ≡ w * n) ⌝ }
-    ensures { λ _. ⌜ rows w n (now (t .exit)) ≡ set (rows w n (now (t .entry))) i (zeroRow w) ⌝ }
-{
-    let at = w * i;
-    let e = at + w;
-    octets::clear(&mut t[at..e]);
-}
-
-// Frees the used rows whose body starts with a key, and tells how many.
-pub fn clear_where(t: &mut [u8], w: usize, n: usize, key: &[u8]) -> usize
-    requires { ⌜ (length (now key) < w) × (length (now t) ≡ w * n) ⌝ }
-    ensures { λ r. ⌜ r ≡ count (λ b. sameBytes (take (length (now (key .entry))) b) (now (key .entry))) (used (rows w n (now (t .entry)))) ⌝ }
-    ensures { λ _. ⌜ rows w n (now (t .exit)) ≡ freeWhere w (λ b. sameBytes (take (length (now (key .entry))) b) (now (key .entry))) (rows w n (now (t .entry))) ⌝ }
-{
-    let mut cleared = 0;
-    let mut i = 0;
-    while i < n {
-        let at = w * i;
-        let e = at + w;
-        if starts(&t[at..e], key) {
-            clear_row(t, w, n, i);
-            cleared += 1;
-        }
-        i += 1;
-    }
-    cleared
 }
