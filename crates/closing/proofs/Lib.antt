@@ -1,0 +1,4 @@
+pub mod Flags
+pub mod Gathering
+pub mod Flagging
+pub mod Runs

@@ -1,0 +1,4 @@
+pub mod Moves
+pub mod Places
+pub mod Weaving
+pub mod Forms
