@@ -1,22 +1,24 @@
 -- The claim: call after call, the store and the ledger tell the same and stay together.
 use Prim.Native.Nat.{ℕ, suc, _+_, _≤_}
-use mathlib.Core.Path.{_≡_, refl}
-use mathlib.Core.List.{List, _∷_, map, List·Memᴰ, List·Memᴰ·head, Memᴰ·append-left, Memᴰ·append-right}
+use mathlib.Core.Path.{_≡_, refl, subst}
+use mathlib.Core.List.{List, [], _∷_, map, List·Memᴰ, List·Memᴰ·head, Memᴰ·append-left, Memᴰ·append-right}
+use native.Mathlib.Nat.{add-zero}
 use native.Mathlib.Omega.{arith}
 use lib.ListN.{length}
 use Rattle.table.specs.Lists.{All, flat}
 use Rattle.scheme.specs.Suite.{Suite}
 use Rattle.scheme.specs.Labels.{Field}
 use Rattle.scheme.specs.Call
-use Rattle.scheme.specs.Call.{Call, Told}
-use Rattle.scheme.specs.Ledger.{Ledger, empty, ledgerTells, ledgerStep}
-use Rattle.scheme.specs.Run.{Run, Step, ended, step}
+use Rattle.scheme.specs.Call.{Call}
+use Rattle.scheme.specs.Ledger.{Ledger, empty, ledgerTells, ledgerStep, ledgerAfter}
+use Rattle.scheme.specs.Store.{fresh}
+use Rattle.scheme.specs.Run.{perform, toldBy, storeTells, storeAfter}
 use Rattle.scheme.specs.Premise.{KeyFits, fieldsOf}
 use Rattle.scheme.specs.Claim
 use Rattle.scheme.specs.Claim.{boundsOf}
 use Rattle.scheme.proofs.Setting.{Setting}
 use Rattle.scheme.proofs.Simulation.{Sim, begin}
-use Rattle.scheme.proofs.Queries.{After, erase-step, find-step, count-step}
+use Rattle.scheme.proofs.Queries.{After, order-step, erase-step, find-step, count-step}
 use Rattle.scheme.proofs.Inserting.{insert-step}
 use Rattle.scheme.proofs.Compactions.{compact-step}
 
@@ -29,25 +31,45 @@ module _ (x : Setting) where
 
   -- one call
   one : (i : ℕ) (before : List ℕ) (l : Ledger) → suc i ≤ length calls → Sim x i before l → (call : Call) → KeyFits K call → ((f : Field) → List·Memᴰ f (fieldsOf call) → List·Memᴰ f (flat (map fieldsOf calls)))
-      → (told : Told) (after : List ℕ) → Step suite call before told after → After x i call l told after
-  one i before l hi s (Call.insert key f p u nonce ids nonces) k n told after st = insert-step x i before l hi s key f p u nonce ids nonces k (n f (List·Memᴰ·head refl)) told after (st .0) (st .1)
-  one i before l hi s (Call.erase id) k n told after st = erase-step x i before l (omega arith) s id told after st
-  one i before l hi s (Call.find key f output) k n told after st = find-step x i before l (omega arith) s key f k (n f (List·Memᴰ·head refl)) output told after st
-  one i before l hi s (Call.count key f) k n told after st = count-step x i before l (omega arith) s key f k (n f (List·Memᴰ·head refl)) told after st
-  one i before l hi s (Call.compact key nonces) k n told after st = compact-step x i before l hi s key nonces k told after (st .0) (st .1)
+      → After x i call l (toldBy (perform suite call before)) (perform suite call before .store)
+  one i before l hi s (Call.insert key f p u nonce ids nonces) k n = insert-step x i before l hi s key f p u nonce ids nonces k (n f (List·Memᴰ·head refl))
+  one i before l hi s (Call.erase id) k n = erase-step x i before l (omega arith) s id _ _ (record { answer = refl; output = refl; store = refl })
+  one i before l hi s (Call.find key f output) k n = find-step x i before l (omega arith) s key f k (n f (List·Memᴰ·head refl)) output _ _ (record { answer = refl; output = refl; store = refl })
+  one i before l hi s (Call.count key f) k n = count-step x i before l (omega arith) s key f k (n f (List·Memᴰ·head refl)) _ _ (record { answer = refl; output = refl; store = refl })
+  one i before l hi s (Call.compact key nonces) k n = compact-step x i before l hi s key nonces k
+  one i before l hi s Call.order k n = order-step x i before l (omega arith) s
 
-  -- call after call
-  follows : (i : ℕ) (l : Ledger) {rest : List Call} {before : List ℕ} {told : List Told} {after : List ℕ} → Run suite rest before told after
-      → i + length rest ≡ length calls → InList rest → All (KeyFits K) rest → Sim x i before l → told ≡ ledgerTells (boundsOf z) l rest
-  follows i l ended e n k s = refl
-  follows i l (step {call = call} {calls = rest} {before = before} {told = told} {tolds = tolds} {between = between} st run) e n k s =
-      let a = one i before l (omega arith) s call (k .0) (λ f m. n f (Memᴰ·append-left (flat (map fieldsOf rest)) m)) told between st in
-      let r = follows (suc i) (ledgerStep (boundsOf z) l call .next) run (omega arith) (λ f m. n f (Memᴰ·append-right (fieldsOf call) m)) (k .1) (a .sim) in
-      λ j. a .told-is j ∷ r j
+  -- call after call: the same is told, and store and ledger stay together
+  pub record Followed (i : ℕ) (before : List ℕ) (l : Ledger) (rest : List Call) : Type 0 where
+    pub told : storeTells suite rest before ≡ ledgerTells (boundsOf z) l rest
+    pub sim : Sim x (i + length rest) (storeAfter suite rest before) (ledgerAfter (boundsOf z) l rest)
+
+  abbrev Follows : List Call → Type 0
+  Follows rest = (i : ℕ) (before : List ℕ) (l : Ledger) → i + length rest ≡ length calls → InList rest → All (KeyFits K) rest → Sim x i before l → Followed i before l rest
+
+  -- one call, then the rest
+  joins : (i : ℕ) (before : List ℕ) (l : Ledger) (call : Call) (rest : List Call) → After x i call l (toldBy (perform suite call before)) (perform suite call before .store)
+      → Followed (suc i) (perform suite call before .store) (ledgerStep (boundsOf z) l call .next) rest → Followed i before l (call ∷ rest)
+  joins i before l call rest a r =
+      let e : suc i + length rest ≡ i + suc (length rest) = omega arith in
+      record {
+        told = λ j. a .told-is j ∷ r .told j;
+        sim = subst (λ (n : ℕ). Sim x n (storeAfter suite rest (perform suite call before .store)) (ledgerAfter (boundsOf z) (ledgerStep (boundsOf z) l call .next) rest)) e (r .sim);
+      }
+
+  follows-more : (call : Call) (rest : List Call) → Follows rest → Follows (call ∷ rest)
+  follows-more call rest more i before l e n k s =
+      let a = one i before l (omega arith) s call (k .0) (λ f m. n f (Memᴰ·append-left (flat (map fieldsOf rest)) m)) in
+      joins i before l call rest a
+      (more (suc i) (perform suite call before .store) (ledgerStep (boundsOf z) l call .next) (omega arith) (λ f m. n f (Memᴰ·append-right (fieldsOf call) m)) (k .1) (a .sim))
+
+  pub follows : (rest : List Call) → Follows rest
+  follows [] = λ i before l e n k s. record { told = refl; sim = rw (add-zero i) s }
+  follows (call ∷ rest) = follows-more call rest (follows rest)
 
 -- for every suite
 pub claim : (suite : Suite) → Claim.Claim suite
 unfolding Claim.Claim
-claim suite K z calls told after hK hz keys premise run =
+claim suite K z calls hK hz keys premise =
     let x : Setting = record { suite = suite; K = K; z = z; calls = calls; key-length = hK; sizes-good = hz; premise = premise } in
-    follows x 0 empty run (omega arith) (λ f m. m) keys (begin x)
+    follows x calls 0 (fresh z) empty (omega arith) (λ f m. m) keys (begin x) .told

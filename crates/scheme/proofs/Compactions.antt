@@ -1,6 +1,6 @@
 -- Compaction tells what the ledger tells, and the store after it is the ledger's after it.
 use Prim.Native.Nat.{ℕ, suc, _+_, _*_, _/_, _≤_}
-use mathlib.Core.Path.{_≡_, refl, sym, ap, _∙_}
+use mathlib.Core.Path.{_≡_, refl, sym, ap, subst, _∙_}
 use mathlib.Core.Logic.{_⊎_}
 use mathlib.Core.Option.{Option, none, some}
 use mathlib.Core.List.{List, [], _∷_, _++_}
@@ -14,21 +14,22 @@ use Rattle.table.specs.Lists.{same, anyOf, distinct}
 use Rattle.table.specs.Table.{used}
 use Rattle.scheme.specs.Keys.{KS, compactionToken, compactionTokenLength}
 use Rattle.scheme.specs.Suite.{number8}
-use Rattle.scheme.specs.Store.{Store, tableC, tableS, putIn, cut, stateTests, clIn}
-use Rattle.scheme.specs.Refusals.{keyTests, compactionInputTests, tokenTests, lengthNot}
+use Rattle.scheme.specs.Store.{Store, tableC, tableS, putIn, cut, joined, stateTests}
+use Rattle.scheme.specs.Refusals.{Result, keyTests, compactionInputTests, tokenTests, lengthNot}
 use Rattle.answer.specs.Verdict.{Test, _⇒_, verdict}
-use Rattle.scheme.specs.Compaction.{logOf, logged, compactedStore, compactVerdict, Compacted, Compact, Treats}
+use Rattle.scheme.specs.Compaction
+use Rattle.scheme.specs.Compaction.{logged, compactedStore, compactVerdict, Treated, treatAll, treated}
 use Rattle.scheme.specs.Call
-use Rattle.scheme.specs.Call.{Call, Told}
+use Rattle.scheme.specs.Call.{Call}
 use Rattle.scheme.specs.Ledger.{Ledger, ledgerCompactVerdict, afterCompaction, ledgerStep}
-use Rattle.scheme.specs.Run.{CompactCall}
+use Rattle.scheme.specs.Run.{madeOr, compactCall, toldBy}
 use Rattle.scheme.specs.Claim.{boundsOf}
 use Rattle.scheme.proofs.Setting.{Setting, clOf}
 use Rattle.scheme.proofs.Shape.{shaped-put}
 use Rattle.scheme.proofs.Compacting.{Compacts, compacts}
-use Rattle.scheme.proofs.Simulation.{madeIn, logIn, Sim, later, counters-later}
+use Rattle.scheme.proofs.Simulation.{madeIn, logIn, Sim, log-used, later, counters-later}
 use Rattle.scheme.proofs.Verdicts.{orElse, both-none, verdict-append, passed, key-is, length-refused}
-use Rattle.scheme.proofs.Queries.{After, told-eq, cut-is, sizes-are, states-pass}
+use Rattle.scheme.proofs.Queries.{After, cut-is, sizes-are, states-pass}
 
 module _ (x : Setting) (i : ℕ) (before : List ℕ) (l : Ledger) (hi : suc i ≤ length (x .calls)) (s : Sim x i before l) (nonces : List ℕ) where
   open Setting x using (suite, K, z, calls)
@@ -42,10 +43,6 @@ module _ (x : Setting) (i : ℕ) (before : List ℕ) (l : Ledger) (hi : suc i �
   abbrev fewTests : List Test
   fewTests = (ltb (length nonces / 12) (l .W) ⇒ 19) ∷ []
 
-  log-used : length L ≡ length (used (s .st .table tableS))
-  unfolding logOf
-  log-used = lib.ListN.length-map (used (s .st .table tableS)) (clIn suite (KS suite K))
-
   KS-length : length (KS suite K) ≡ 32
   unfolding KS
   KS-length = suite .F-length K (number8 3)
@@ -53,7 +50,7 @@ module _ (x : Setting) (i : ℕ) (before : List ℕ) (l : Ledger) (hi : suc i �
   rest-verdict : verdict (tokenTests compactionTokenLength (KS suite K) ++ (stateTests before ++ ((ltb (length nonces / 12) (length (used (cut before .table tableS))) ⇒ 19) ∷ []))) ≡ verdict fewTests
   unfolding tokenTests
   rest-verdict =
-      let w : length (used (cut before .table tableS)) ≡ l .W = ap (λ (t : Store). length (used (t .table tableS))) (cut-is x i before l hi₀ s) ∙ sym log-used ∙ sym (s .W-is) in
+      let w : length (used (cut before .table tableS)) ≡ l .W = ap (λ (t : Store). length (used (t .table tableS))) (cut-is x i before l hi₀ s) ∙ sym (log-used x i before l s) ∙ sym (s .W-is) in
       rw (length-refused compactionTokenLength (KS suite K) KS-length) (states-pass x i before l hi₀ s ((ltb (length nonces / 12) (length (used (cut before .table tableS))) ⇒ 19) ∷ []) ∙ rw w refl)
 
   compact-verdict : compactVerdict suite before nonces (KS suite K) ≡ orElse (verdict (compactionInputTests nonces)) (verdict fewTests)
@@ -64,7 +61,21 @@ module _ (x : Setting) (i : ℕ) (before : List ℕ) (l : Ledger) (hi : suc i �
 
   -- ---- an accepted compaction
 
-  module _ (enough : verdict fewTests ≡ none) (answer : Answer) (after : List ℕ) (d : Compacted suite before nonces (KS suite K) answer after) where
+  abbrev after : Treated
+  after = treatAll suite (z .c) (KS suite K) (distinct L) (s .st .table tableC) (s .st .table tableS) nonces 0 0
+
+  treated-is : treated suite before nonces (KS suite K) ≡ after
+  unfolding treated logged
+  treated-is = rw (sizes-are x i before l hi₀ s, cut-is x i before l hi₀ s) refl
+
+  abbrev compactedSt : Store
+  compactedSt = putIn tableS (after .tS) (putIn tableC (after .tC) (s .st))
+
+  compacted-is : compactedStore before (treated suite before nonces (KS suite K) .tC) (treated suite before nonces (KS suite K) .tS) ≡ compactedSt
+  unfolding compactedStore
+  compacted-is = rw (treated-is, cut-is x i before l hi₀ s) refl
+
+  module _ (enough : verdict fewTests ≡ none) where
     nonces-enough : 12 * length L ≤ length nonces
     nonces-enough =
         let a = passed (ltb (length nonces / 12) (l .W)) _ _ enough in
@@ -72,14 +83,10 @@ module _ (x : Setting) (i : ℕ) (before : List ℕ) (l : Ledger) (hi : suc i �
         let w = s .W-is in
         omega arith
 
-    loop : Treats suite (z .c) (KS suite K) (distinct L) (s .st .table tableC) (s .st .table tableS) nonces 0 0 answer (d .tC′) (d .tS′)
-    unfolding logged
-    loop = rw (sizes-are x i before l hi₀ s, cut-is x i before l hi₀ s) at (d .treats)
+    result : Compacts x (KS suite K) i hi₀ (madeIn l) (l .A) 0 0 (length (distinct L)) (length L) (after .answer) (after .tC) (after .tS)
+    result = compacts x (KS suite K) i hi₀ (madeIn l) (distinct L) (l .A) (s .st .table tableC) (s .st .table tableS) nonces 0 0 refl (s .counters) (s .shaped .tables tableC) (s .shaped .tables tableS) nonces-enough
 
-    result : Compacts x (KS suite K) i hi₀ (madeIn l) (l .A) 0 0 (length (distinct L)) (length L) answer (d .tC′) (d .tS′)
-    result = compacts x (KS suite K) i hi₀ (madeIn l) (l .A) loop refl (s .counters) (s .shaped .tables tableC) (s .shaped .tables tableS) nonces-enough
-
-    answer-is : answer ≡ done (length (l .T) ∷ l .W ∷ [])
+    answer-is : after .answer ≡ done (length (l .T) ∷ l .W ∷ [])
     answer-is =
         let a : 0 + length (distinct L) ≡ length (l .T) = zero-add (length (distinct L)) ∙ sym (s .T-length) in
         let b : 0 + length L ≡ l .W = zero-add (length L) ∙ sym (s .W-is) in
@@ -88,13 +95,13 @@ module _ (x : Setting) (i : ℕ) (before : List ℕ) (l : Ledger) (hi : suc i �
     A-is : l .A + length (distinct L) ≡ l .A + length (l .T)
     A-is = ap (λ (n : ℕ). l .A + n) (sym (s .T-length))
 
-    compact-sim : Sim x (suc i) after (afterCompaction (boundsOf z) l)
-    unfolding afterCompaction compactedStore
+    compact-sim : Sim x (suc i) (joined compactedSt) (afterCompaction (boundsOf z) l)
+    unfolding afterCompaction
     compact-sim = record {
-      st = putIn tableS (d .tS′) (putIn tableC (d .tC′) (s .st));
-      bytes = d .written ∙ rw (cut-is x i before l hi₀ s) refl;
-      shaped = shaped-put z _ tableS (d .tS′) (result .S-ok) (shaped-put z (s .st) tableC (d .tC′) (result .C-ok) (s .shaped));
-      counters = counters-later x (d .tC′) (logIn x (d .tS′)) (l .A + length (l .T)) i (madeIn l) hi₀ (rw A-is at (result .counted));
+      st = compactedSt;
+      bytes = refl;
+      shaped = shaped-put z _ tableS (after .tS) (result .S-ok) (shaped-put z (s .st) tableC (after .tC) (result .C-ok) (s .shaped));
+      counters = counters-later x (after .tC) (logIn x (after .tS)) (l .A + length (l .T)) i (madeIn l) hi₀ (rw A-is at (result .counted));
       entries = s .entries;
       small = λ pr ok. let w = s .small pr ok in omega arith;
       W-is = sym (ap length (result .gone));
@@ -121,41 +128,48 @@ module _ (x : Setting) (i : ℕ) (before : List ℕ) (l : Ledger) (hi : suc i �
   unfolding keyTests
   key-made e = key-is K key keyed (passed (lengthNot 32 key) _ _ e .0)
 
-  refused-step : (told : Told) (r : Answer) (after : List ℕ) → ledgerCompactVerdict (boundsOf z) l key nonces ≡ some r → told .answer ≡ r → told .output ≡ [] → after ≡ before
-      → After x i (Call.compact key nonces) l told after
+  abbrev call : Call
+  call = Call.compact key nonces
+
+  abbrev Reached : Result → Type 0
+  Reached r = After x i call l (toldBy r) (r .store)
+
+  refused-step : (r : Answer) → ledgerCompactVerdict (boundsOf z) l key nonces ≡ some r → Reached (record { answer = r; store = before; output = [] })
   unfolding ledgerStep
-  refused-step told r after v a o b = record {
-    told-is = told-eq x told _ (a ∙ sym (rw v refl)) o;
-    sim = rw (b, v) (later x i before l (omega arith) s);
+  refused-step r v = record { told-is = rw v refl; sim = rw v (later x i before l (omega arith) s) }
+
+  abbrev accepted : Result
+  accepted = record { answer = after x i before l hi s nonces .answer; store = joined (compactedSt x i before l hi s nonces); output = [] }
+
+  accepted-step : verdict few ≡ none → ledgerCompactVerdict (boundsOf z) l key nonces ≡ none → Reached accepted
+  unfolding ledgerStep
+  accepted-step e v = record {
+    told-is = rw (v, answer-is x i before l hi s nonces e) refl;
+    sim = rw v (compact-sim x i before l hi s nonces e);
   }
 
-  accepted-step : (told : Told) (after : List ℕ) → ledgerCompactVerdict (boundsOf z) l key nonces ≡ none → told .answer ≡ done (length (l .T) ∷ l .W ∷ []) → told .output ≡ []
-      → Sim x (suc i) after (afterCompaction (boundsOf z) l) → After x i (Call.compact key nonces) l told after
-  unfolding ledgerStep
-  accepted-step told after v a o n = record { told-is = told-eq x told _ (a ∙ sym (rw v refl)) o; sim = rw v n }
+  compact-accepted : compactVerdict suite before nonces (KS suite K) ≡ none → Compaction.compact suite before nonces (KS suite K) ≡ accepted
+  unfolding Compaction.compact
+  compact-accepted e =
+      rw e (λ j. record { answer = treated-is x i before l hi s nonces j .answer; store = joined (compacted-is x i before l hi s nonces j); output = [] })
 
-  pub compact-step : (told : Told) (after : List ℕ) → CompactCall suite before key nonces (told .answer) after → told .output ≡ [] → After x i (Call.compact key nonces) l told after
-  compact-step told after c o = go (verdict (keyTests key)) refl
+  compact-refused : (r : Answer) → compactVerdict suite before nonces (KS suite K) ≡ some r → Compaction.compact suite before nonces (KS suite K) ≡ record { answer = r; store = before; output = [] }
+  unfolding Compaction.compact
+  compact-refused r e = rw e refl
+
+  made-step : ledgerCompactVerdict (boundsOf z) l key nonces ≡ orElse (verdict (compactionInputTests nonces)) (verdict few) → Reached (Compaction.compact suite before nonces (KS suite K))
+  made-step v = by (orElse (verdict (compactionInputTests nonces)) (verdict few)) refl
     where
-      made : Compact suite before nonces (KS suite K) (told .answer) after → ledgerCompactVerdict (boundsOf z) l key nonces ≡ orElse (verdict (compactionInputTests nonces)) (verdict few)
-          → After x i (Call.compact key nonces) l told after
-      made n v = by (orElse (verdict (compactionInputTests nonces)) (verdict few)) refl
-        where
-          by : (q : Option Answer) → orElse (verdict (compactionInputTests nonces)) (verdict few) ≡ q → After x i (Call.compact key nonces) l told after
-          by none e =
-              let cv = compact-verdict x i before l hi s nonces ∙ e in
-              let b = both-none (verdict (compactionInputTests nonces)) (verdict few) e in
-              accepted-step told after (v ∙ e) (answer-is x i before l hi s nonces (b .1) (told .answer) after (n .wrote cv)) o (compact-sim x i before l hi s nonces (b .1) (told .answer) after (n .wrote cv))
-          by (some r) e =
-              let cv = compact-verdict x i before l hi s nonces ∙ e in
-              let k = n .kept r cv in
-              refused-step told r after (v ∙ e) (k .0) o (k .1)
+      by : (q : Option Answer) → orElse (verdict (compactionInputTests nonces)) (verdict few) ≡ q → Reached (Compaction.compact suite before nonces (KS suite K))
+      by none e =
+          subst Reached (sym (compact-accepted (compact-verdict x i before l hi s nonces ∙ e)))
+          (accepted-step (both-none (verdict (compactionInputTests nonces)) (verdict few) e .1) (v ∙ e))
+      by (some r) e = subst Reached (sym (compact-refused r (compact-verdict x i before l hi s nonces ∙ e))) (refused-step r (v ∙ e))
 
-      go : (q : Option Answer) → verdict (keyTests key) ≡ q → After x i (Call.compact key nonces) l told after
-      go none e =
-          let k : Compact suite before nonces (compactionToken suite K) (told .answer) after = rw (key-made e) at (c .made e) in
-          let m : Compact suite before nonces (KS suite K) (told .answer) after = unfold compactionToken in k in
-          made m (ledger-verdict ∙ rw e refl)
-      go (some r) e =
-          let w = c .unmade r e in
-          refused-step told r after (ledger-verdict ∙ rw e refl) (w .0) o (w .1)
+  pub compact-step : Reached (compactCall suite before key nonces)
+  unfolding compactCall compactionToken
+  compact-step = go (verdict (keyTests key)) refl
+    where
+      go : (q : Option Answer) → verdict (keyTests key) ≡ q → Reached (madeOr q (Compaction.compact suite before nonces (KS suite key)) before [])
+      go none e = subst (λ (k : List ℕ). Reached (Compaction.compact suite before nonces (KS suite k))) (sym (key-made e)) (made-step (ledger-verdict ∙ rw e refl))
+      go (some r) e = refused-step r (ledger-verdict ∙ rw e refl)

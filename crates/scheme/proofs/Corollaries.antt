@@ -1,32 +1,39 @@
 -- The corollaries: the claim turns each into a fact about the ledger alone.
 use Prim.Native.Nat.{ℕ, zero, suc, _+_, _*_, _≤_}
-use mathlib.Core.Path.{_≡_, refl, sym, ap, _∙_}
+use mathlib.Core.Path.{_≡_, refl, sym, ap, subst, _∙_, fun-ext}
 use mathlib.Core.Bool.{Bool, true, false, cond, not, _||_, true≢false}
-use mathlib.Core.Logic.{_⊎_, inl, inr, ⊎-elim}
+use mathlib.Core.Logic.{_⊎_, ⊎-elim}
 use mathlib.Core.Option.{Option, none, some}
-use mathlib.Core.List.{List, [], _∷_, _++_, map, List·Memᴰ, List·Memᴰ·head, List·Memᴰ·tail, List·Memᴰ·cases-cons, List·Memᴰ·append-cases, List·Memᴰ·not-nil, Memᴰ·append-left, Memᴰ·append-right}
+use mathlib.Core.List.{List, [], _∷_, _++_, map, List·Memᴰ, List·Memᴰ·append-cases, List·Memᴰ·not-nil, Memᴰ·append-left, Memᴰ·append-right}
+use native.Mathlib.Nat.{zero-add}
 use native.Mathlib.Omega.{arith}
 use lib.Dec.{eqb, ltb}
-use lib.ListN.{length}
+use lib.ListN.{length, drop}
 use borrow.Author.Tests.{eqb-true, not-false, ltb-false}
 use Rattle.answer.specs.Answer.{Answer, done, refused}
-use Rattle.table.specs.Lists.{same, select, flat, upTo, All, distinct}
+use Rattle.table.specs.Lists.{same, select, anyOf, flat, upTo, All, Same, distinct}
+use Rattle.table.specs.Order.{usedRows, inForm}
 use Rattle.table.proofs.Counting.{ne-same, neither, select-append}
 use Rattle.table.proofs.Distinct.{distinct-without}
+use Rattle.table.proofs.Rows.{rows-length}
+use Rattle.table.proofs.Order.{InForm, form-true, form-fixed}
 use Rattle.scheme.specs.Suite.{Suite}
 use Rattle.scheme.specs.Labels.{Field, fieldLengthsBad}
-use Rattle.scheme.specs.Store.{Sizes}
+use Rattle.scheme.specs.Store.{Sizes, Which, plan, tableM, tableV, tableC, tableS, widthOf, rowsOf, startOf, sizesOf, Store, cut, joined, headerBad, marksBad, formBad, stateTests, fresh}
 use Rattle.scheme.specs.Refusals.{idCount, idsIn, lengthNot, insertTokenTests, insertInputTests, eraseInputTests, fieldTokenTests}
 use Rattle.answer.specs.Verdict.{Test, verdict, answerOr}
 use Rattle.scheme.specs.Call
 use Rattle.scheme.specs.Call.{Call, Told}
 use Rattle.scheme.specs.Ledger.{Pair, Entry, Ledger, Bounds, empty, entryOf, removed, ledgerInsertVerdict, appended, afterInsert, afterErase, afterCompaction, ledgerLists, ledgerIds, ledgerSum, ledgerFindVerdict, ledgerCompactVerdict, nextOr, ledgerStep, ledgerTells, ledgerAfter}
 use Rattle.scheme.specs.Claim.{Claim, boundsOf}
-use Rattle.scheme.specs.Corollaries.{Ran, toldAt, accepted, Finds, Keeps, NoIdLost, Query, finding, counting, callOf, CompactionHidden, EraseExact, BringsNot, ErasedGone, FindsOnce, EachIdOnce, Made, ClientsAlike}
-use Rattle.scheme.proofs.Setting.{by-pair}
+use Rattle.scheme.specs.Corollaries.{Ran, toldAt, accepted, Finds, Keeps, NoIdLost, Query, finding, counting, callOf, CompactionHidden, EraseExact, BringsNot, ErasedGone, EachIdOnce, Made, ClientsAlike, RowsFixTable, RowsFixStore}
+use Rattle.scheme.specs.Run.{storeAfter}
+use Rattle.scheme.proofs.Setting.{Setting, by-pair}
+use Rattle.scheme.proofs.Shape.{cut-joined}
+use Rattle.scheme.proofs.Simulation.{Sim, begin}
 use Rattle.scheme.proofs.LedgerLaws.{entry-own, entry-other, entry-removed}
 use Rattle.scheme.proofs.Verdicts.{both-none, verdict-append, passed, map-upTo}
-use Rattle.scheme.proofs.Claim.{claim}
+use Rattle.scheme.proofs.Claim.{claim, follows}
 use Rattle.scheme.proofs.Once.{unseen-distinct, mem-select, select-mem, not-selected, distinct-has, distinct-mem, distinct-no-repeats}
 
 -- ---- the ledger along a list
@@ -46,7 +53,7 @@ told-later z l (c ∷ cs) call rest n =
 
 -- what a run told is what the ledger tells
 ran : (suite : Suite) (K : List ℕ) (z : Sizes) (calls : List Call) (told : List Told) → Ran suite K z calls told → told ≡ ledgerTells (boundsOf z) empty calls
-ran suite K z calls told r = unfold Claim in claim suite K z calls told (r .after) (r .key-length) (r .sizes) (r .keys) (r .premise) (r .run)
+ran suite K z calls told r = unfold Claim in (r .run ∙ claim suite K z calls (r .key-length) (r .sizes) (r .keys) (r .premise))
 
 -- (d)
 pub clients-alike : (suite : Suite) → ClientsAlike suite
@@ -227,6 +234,7 @@ has-step z l pr id (Call.compact key nonces) k m = go (ledgerCompactVerdict z l 
     go : (o : Option Answer) → Has (nextOr z l o (afterCompaction z l)) pr id
     go none = unfold afterCompaction in m
     go (some r) = m
+has-step z l pr id Call.order k m = m
 
 has-calls : (z : Bounds) (l : Ledger) (pr : Pair) (id : List ℕ) (calls : List Call) → All (Keeps id) calls → Has l pr id → Has (ledgerAfter z l calls) pr id
 has-calls z l pr id [] k m = m
@@ -338,6 +346,7 @@ lacks-step z l id (Call.compact key nonces) k h = go (ledgerCompactVerdict z l k
     go : (o : Option Answer) → Lacks (nextOr z l o (afterCompaction z l)) id
     go none = unfold afterCompaction in h
     go (some r) = h
+lacks-step z l id Call.order k h = h
 
 lacks-calls : (z : Bounds) (l : Ledger) (id : List ℕ) (calls : List Call) → All (BringsNot id) calls → Lacks l id → Lacks (ledgerAfter z l calls) id
 lacks-calls z l id [] k h = h
@@ -392,3 +401,55 @@ each-id-once suite K z first third key f output told r a =
       has = λ id m. distinct-has id (ledgerLists w l f) m;
       no-other = λ id m. distinct-mem id (ledgerLists w l f) m;
     }
+
+-- ---- (f)
+
+-- a store that the state's tests let pass has its tables in form
+forms : (b : List ℕ) → verdict (stateTests b) ≡ none → (k : Which) → InForm (widthOf k) (cut b .table k)
+unfolding stateTests formBad
+forms b e =
+    let h = passed (headerBad b) _ _ e in
+    let m = passed (marksBad (cut b)) _ _ (h .1) in
+    let f = passed (anyOf (λ k. not (inForm (widthOf k) (cut b .table k))) plan) _ _ (m .1) in
+    let g = neither (not (inForm 61 (cut b .table tableM))) _ (f .0) in
+    let i = neither (not (inForm 49 (cut b .table tableV))) _ (g .1) in
+    let j = neither (not (inForm 61 (cut b .table tableC))) _ (i .1) in
+    let n = neither (not (inForm 45 (cut b .table tableS))) _ (j .1) in
+    by (g .0) (i .0) (j .0) (n .0)
+  where
+    one : (k : Which) → not (inForm (widthOf k) (cut b .table k)) ≡ false → InForm (widthOf k) (cut b .table k)
+    one k e = form-true (widthOf k) (cut b .table k) (not-false (inForm (widthOf k) (cut b .table k)) e)
+
+    by : not (inForm 61 (cut b .table tableM)) ≡ false → not (inForm 49 (cut b .table tableV)) ≡ false → not (inForm 61 (cut b .table tableC)) ≡ false → not (inForm 45 (cut b .table tableS)) ≡ false
+        → (k : Which) → InForm (widthOf k) (cut b .table k)
+    by g i j n tableM = one tableM g
+    by g i j n tableV = one tableV i
+    by g i j n tableC = one tableC j
+    by g i j n tableS = one tableS n
+
+pub rows-fix-table : RowsFixTable
+unfolding RowsFixTable
+rows-fix-table b b′ k e e′ n s = form-fixed (widthOf k) (cut b .table k) (cut b′ .table k) (forms b e k) (forms b′ e′ k) (count b ∙ n ∙ sym (count b′)) s
+  where
+    count : (b : List ℕ) → length (cut b .table k) ≡ rowsOf (sizesOf b) k
+    count b = unfold cut in rows-length (widthOf k) (rowsOf (sizesOf b) k) (drop (startOf (sizesOf b) k) b)
+
+-- the store after a list of calls, as a store in form
+stands : (suite : Suite) (K : List ℕ) (z : Sizes) (calls : List Call) (told : List Told) (r : Ran suite K z calls told)
+    → Sim (record { suite = suite; K = K; z = z; calls = calls; key-length = r .key-length; sizes-good = r .sizes; premise = r .premise }) (length calls) (storeAfter suite calls (fresh z)) (ledgerAfter (boundsOf z) empty calls)
+stands suite K z calls told r =
+    let x : Setting = record { suite = suite; K = K; z = z; calls = calls; key-length = r .key-length; sizes-good = r .sizes; premise = r .premise } in
+    rw (zero-add (length calls)) at (follows x calls 0 (fresh z) empty (omega arith) (λ f m. m) (r .keys) (begin x) .sim)
+
+pub rows-fix-store : (suite : Suite) → RowsFixStore suite
+unfolding RowsFixStore
+rows-fix-store suite K K′ z calls calls′ told told′ r r′ s =
+    let a = stands suite K z calls told r in
+    let b = stands suite K′ z calls′ told′ r′ in
+    let e : cut (storeAfter suite calls (fresh z)) ≡ a .st = ap cut (a .bytes) ∙ cut-joined z (a .st) (a .shaped) in
+    let f : cut (storeAfter suite calls′ (fresh z)) ≡ b .st = ap cut (b .bytes) ∙ cut-joined z (b .st) (b .shaped) in
+    let h : a .st .header ≡ b .st .header = a .shaped .head ∙ sym (b .shaped .head) in
+    let t : (k : Which) → a .st .table k ≡ b .st .table k =
+    λ k. form-fixed (widthOf k) (a .st .table k) (b .st .table k) (a .shaped .tables k .form) (b .shaped .tables k .form) (a .shaped .tables k .number ∙ sym (b .shaped .tables k .number))
+    (subst (λ (st : Store). Same (usedRows (a .st .table k)) (usedRows (st .table k))) f (subst (λ (st : Store). Same (usedRows (st .table k)) (usedRows (cut (storeAfter suite calls′ (fresh z)) .table k))) e (s k))) in
+    a .bytes ∙ ap joined (λ j. record { header = h j; table = fun-ext t j }) ∙ sym (b .bytes)

@@ -11,15 +11,15 @@ use lib.Dec.{eqb}
 use lib.ListN.{length, take}
 use borrow.Author.Tests.{eqb-true, eqb-false, le-ltb}
 use Rattle.table.specs.Lists.{bit, same, count, isSome, All, Same}
-use Rattle.table.specs.Table.{Row, Table, used, body, isFree, hasTag, lookup, holds, Placed}
+use Rattle.table.specs.Table.{Row, Table, used, body, hasTag, lookup, holds}
 use Rattle.table.proofs.Counting.{same-refl, same-eq, ne-same, same-length}
-use Rattle.table.proofs.Rows.{placed-same, placed-other, placed-found}
-use Rattle.scheme.specs.Store.{counterTag, anchorTag, countedRow, counterRow}
+use Rattle.table.proofs.Arranging.{Added, added-same, added-other, added-found}
+use Rattle.scheme.specs.Store.{tableC, widthOf, counterTag, anchorTag, countedRow, counterRow}
 use Rattle.scheme.specs.Reading
 use Rattle.scheme.specs.Reading.{Numbers, Reading, walk, numbersAt, anchorsHeld, anchorNumbers, startOf, countersHeld, counterNumbers, isDamage, reading, limit}
 use Rattle.scheme.specs.Ledger.{Pair}
 use Rattle.scheme.specs.Premise.{Kind, counter, anchor}
-use Rattle.scheme.proofs.Setting.{Setting, OK, clOf, ctag, ctags, cl-differ, tag-length, counted-used, counted-tag, numbers-found, counter≢anchor, by-pair}
+use Rattle.scheme.proofs.Setting.{Setting, OK, clOf, ctag, ctags, cl-differ, tag-length, counted-tag, numbers-found, counter≢anchor, by-pair}
 
 -- ---- the walk
 
@@ -179,20 +179,20 @@ module _ (x : Setting) where
   pub tag-own : (row : Row) (own : List ℕ) → take 32 (body row) ≡ own → hasTag own (body row) ≡ true
   tag-own row own e = same-eq (take 32 (body row)) own e
 
-  -- a placed row of C with the tag of a pair, a kind and a number
-  module _ (t : Table) (pr : Pair) (h : Kind) (n : ℕ) (row : Row) (t′ : Table) (ok : OK x pr) (placed : Placed t row t′) (busy : isFree row ≡ false)
+  -- a row added to C with the tag of a pair, a kind and a number
+  module _ (t : Table) (pr : Pair) (h : Kind) (n : ℕ) (row : Row) (t′ : Table) (ok : OK x pr) (added : Added (widthOf tableC) t row t′)
       (tag : take 32 (body row) ≡ ctag x pr h n) (low : 0 < n) (high : n ≤ length calls + 1) where
-    pub placed-pair : (q : Pair) → OK x q → (q ≡ pr → ⊥) → Agree t t′ q
-    placed-pair q oq ne k a l u =
-        placed-other (ctag x q k a) t row t′ placed busy (tag-other row (ctag x pr h n) (ctag x q k a) tag (λ e. ne (sym (ctags x pr q h k n a ok oq low high l u e .pair))))
+    pub added-pair : (q : Pair) → OK x q → (q ≡ pr → ⊥) → Agree t t′ q
+    added-pair q oq ne k a l u =
+        added-other (widthOf tableC) t row t′ added (ctag x q k a) (tag-other row (ctag x pr h n) (ctag x q k a) tag (λ e. ne (sym (ctags x pr q h k n a ok oq low high l u e .pair))))
 
-    pub placed-number : (k : Kind) (a : ℕ) → 0 < a → a ≤ length calls + 1 → (k ≡ h → a ≡ n → ⊥) → lookup (ctag x pr k a) t′ ≡ lookup (ctag x pr k a) t
-    placed-number k a l u ne =
-        placed-other (ctag x pr k a) t row t′ placed busy
+    pub added-number : (k : Kind) (a : ℕ) → 0 < a → a ≤ length calls + 1 → (k ≡ h → a ≡ n → ⊥) → lookup (ctag x pr k a) t′ ≡ lookup (ctag x pr k a) t
+    added-number k a l u ne =
+        added-other (widthOf tableC) t row t′ added (ctag x pr k a)
         (tag-other row (ctag x pr h n) (ctag x pr k a) tag (λ e. let w = ctags x pr pr h k n a ok ok low high l u e in ne (sym (w .kind)) (sym (w .number))))
 
-    pub placed-own : lookup (ctag x pr h n) t ≡ none → lookup (ctag x pr h n) t′ ≡ some (body row)
-    placed-own e = placed-found (ctag x pr h n) t row t′ placed busy (tag-own row (ctag x pr h n) tag) e
+    pub added-own : lookup (ctag x pr h n) t ≡ none → lookup (ctag x pr h n) t′ ≡ some (body row)
+    added-own e = added-found (widthOf tableC) t row t′ added (ctag x pr h n) (tag-own row (ctag x pr h n) tag) e
 
   run-cons : (L L′ : List (List ℕ)) (pr q : Pair) → OK x pr → OK x q → Same L′ (clOf x pr ∷ L) → (q ≡ pr → ⊥) → runOf L′ q ≡ runOf L q
   run-cons L L′ pr q ok oq s ne =
@@ -211,7 +211,7 @@ module _ (x : Setting) where
 
   module _ (t : Table) (L : List (List ℕ)) (A i : ℕ) (made : Pair → ℕ) (C : Counters t L A i made) (hi : suc i ≤ length calls)
       (pr : Pair) (ok : OK x pr) (nonce : List ℕ) (n : ℕ) (hn : length nonce ≡ 12) (more : made pr < n) (small : n ≤ limit)
-      (t′ : Table) (placed : Placed t (counterRow suite (clOf x pr) (C .pairs pr ok .start + runOf L pr + 1) nonce n) t′)
+      (t′ : Table) (added : Added (widthOf tableC) t (counterRow suite (clOf x pr) (C .pairs pr ok .start + runOf L pr + 1) nonce n) t′)
       (L′ : List (List ℕ)) (logged : Same L′ (clOf x pr ∷ L))
       (made′ : Pair → ℕ) (made-own : made′ pr ≡ n) (made-other : (q : Pair) → (q ≡ pr → ⊥) → made′ q ≡ made q) where
     abbrev P : PairCounter t L A i pr (made pr)
@@ -223,12 +223,9 @@ module _ (x : Setting) where
     abbrev row : Row
     row = countedRow suite (clOf x pr) (ctag x pr counter (C .pairs pr ok .start + runOf L pr + 1)) nonce 0 n
 
-    placed₀ : Placed t row t′
+    added₀ : Added (widthOf tableC) t row t′
     unfolding counterRow
-    placed₀ = placed
-
-    busy : isFree row ≡ false
-    busy = counted-used suite (clOf x pr) (ctag x pr counter pos) nonce 0 n
+    added₀ = added
 
     row-tag : take 32 (body row) ≡ ctag x pr counter pos
     row-tag = counted-tag suite (clOf x pr) (ctag x pr counter pos) nonce 0 n (tag-length suite (clOf x pr) counter pos)
@@ -246,8 +243,8 @@ module _ (x : Setting) where
         let c = P .position-calls in
         let pm = P .position-made in
         let at : lookup (ctag x pr counter pos) t ≡ none = P .counters-none pos (omega arith) pos-high in
-        let found : lookup (ctag x pr counter pos) t′ ≡ some (body row) = placed-own t pr counter pos row t′ ok placed₀ busy row-tag pos-low pos-high at in
-        let other = placed-number t pr counter pos row t′ ok placed₀ busy row-tag pos-low pos-high in
+        let found : lookup (ctag x pr counter pos) t′ ≡ some (body row) = added-own t pr counter pos row t′ ok added₀ row-tag pos-low pos-high at in
+        let other = added-number t pr counter pos row t′ ok added₀ row-tag pos-low pos-high in
         let e : P .start + runOf L′ pr ≡ pos = omega arith in
         record {
           B = P .B;
@@ -288,7 +285,7 @@ module _ (x : Setting) where
       log-OK = (ok, C .log-OK);
       log-same = record { counts = λ p. logged .counts p ∙ ap (λ (m : ℕ). bit (p (clOf x pr)) + m) (C .log-same .counts p) };
       total =
-          let a = same-length (used t′) (body row ∷ used t) (placed-same t row t′ placed₀ busy) in
+          let a = same-length (used t′) (body row ∷ used t) (added-same (widthOf tableC) t row t′ added₀) in
           let b = same-length L′ (clOf x pr ∷ L) logged in
           let c = C .total in
           omega arith;
@@ -297,5 +294,5 @@ module _ (x : Setting) where
         other : (q : Pair) → (q ≡ pr → ⊥) → OK x q → PairCounter t′ L′ A (suc i) q (made′ q)
         other q ne oq =
             rw (made-other q ne)
-            (unchanged t t′ L L′ A A i (suc i) q (made q) (placed-pair t pr counter pos row t′ ok placed₀ busy row-tag pos-low pos-high q oq ne)
+            (unchanged t t′ L L′ A A i (suc i) q (made q) (added-pair t pr counter pos row t′ ok added₀ row-tag pos-low pos-high q oq ne)
             (run-cons L L′ pr q ok oq logged ne) (omega arith) (omega arith) (omega arith) (C .pairs q oq))

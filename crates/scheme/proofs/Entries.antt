@@ -12,9 +12,10 @@ use lib.ListN.{length, take, drop, length-drop}
 use lib.Seq.{take-at, drop-at, length-take-le}
 use borrow.Author.Tests.{eqb-true, eq-eqb}
 use Rattle.table.specs.Lists.{bit, same, select, count, first, anyOf, All, Same}
-use Rattle.table.specs.Table.{Table, used, body, isFree, hasTag, lookup, freeWhere, Placed, PlacedAll}
+use Rattle.table.specs.Table.{Table, used, body, hasTag, lookup}
+use Rattle.table.specs.Order.{closed}
 use Rattle.table.proofs.Counting.{both, same-true, same-refl, same-eq, ne-same, count-map, count-agree, count-select, count-stricter, select-map, select-append, select-agree, first-agree, first-map, onSome, onlyIf, first-select, first-same, first-passes, all-select, all-map, all-both, all-counted, count-any, none-any, Same-refl, Same-trans, Same-cons, Same-select}
-use Rattle.table.proofs.Rows.{placed-same, free-where-used, placed-none, placed-next}
+use Rattle.table.proofs.Arranging.{Added, AddedAll, added-same, added-none, added-next, closed-same}
 use Rattle.scheme.specs.Suite.{number8}
 use Rattle.scheme.specs.Keys.{MT, ME}
 use Rattle.scheme.specs.Store.{tableM, tableV, widthOf, entryTag, entryRow, reverseRow, idIn, reverseId, reverseTag}
@@ -173,20 +174,12 @@ module _ (x : Setting) where
 
   module _ (tM tV : Table) (all : List (List ℕ)) (ids : Pair → List (List ℕ)) (made : Pair → ℕ) (X : Entries tM tV all ids made)
       (pr : Pair) (ok : OK x pr) (id nonce : List ℕ) (fits : suc (made pr) ≤ 64 * length calls) (hi : length id ≡ 16) (hn : length nonce ≡ 12)
-      (tM′ tV′ : Table) (inM : Placed tM (entryRow suite (mtOf pr) (meOf pr) (suc (made pr)) nonce id) tM′) (inV : Placed tV (reverseRow suite (mtOf pr) (suc (made pr)) id) tV′)
+      (tM′ tV′ : Table) (inM : Added (widthOf tableM) tM (entryRow suite (mtOf pr) (meOf pr) (suc (made pr)) nonce id) tM′) (inV : Added (widthOf tableV) tV (reverseRow suite (mtOf pr) (suc (made pr)) id) tV′)
       (all′ : List (List ℕ)) (listing′ : Same all′ (id ∷ all))
       (ids′ : Pair → List (List ℕ)) (ids-own : ids′ pr ≡ ids pr ++ (id ∷ [])) (ids-other : (q : Pair) → (q ≡ pr → ⊥) → ids′ q ≡ ids q)
       (made′ : Pair → ℕ) (made-own : made′ pr ≡ suc (made pr)) (made-other : (q : Pair) → (q ≡ pr → ⊥) → made′ q ≡ made q) where
     abbrev g : Item
     g = record { pair = pr; address = suc (made pr); id = id; nonce = nonce }
-
-    busyM : isFree (entryRow suite (mtOf pr) (meOf pr) (suc (made pr)) nonce id) ≡ false
-    unfolding entryRow
-    busyM = refl
-
-    busyV : isFree (reverseRow suite (mtOf pr) (suc (made pr)) id) ≡ false
-    unfolding reverseRow
-    busyV = refl
 
     apart : (q : Pair) (a : ℕ) → (q ≡ pr → ⊥) → at q a g ≡ false
     apart q a ne = at-false q a g (λ e f. ne e)
@@ -228,8 +221,8 @@ module _ (x : Setting) where
     entries-insert = record {
       G = g ∷ X .G;
       good = (record { ok = ok; low = omega arith; high = fits; id-length = hi; nonce-length = hn }, X .good);
-      rowsM = Same-trans (used tM′) (itemM g ∷ used tM) (itemM g ∷ map itemM (X .G)) (placed-same tM _ tM′ inM busyM) (Same-cons (itemM g) (used tM) (map itemM (X .G)) (X .rowsM));
-      rowsV = Same-trans (used tV′) (itemV g ∷ used tV) (itemV g ∷ map itemV (X .G)) (placed-same tV _ tV′ inV busyV) (Same-cons (itemV g) (used tV) (map itemV (X .G)) (X .rowsV));
+      rowsM = Same-trans (used tM′) (itemM g ∷ used tM) (itemM g ∷ map itemM (X .G)) (added-same (widthOf tableM) tM _ tM′ inM) (Same-cons (itemM g) (used tM) (map itemM (X .G)) (X .rowsM));
+      rowsV = Same-trans (used tV′) (itemV g ∷ used tV) (itemV g ∷ map itemV (X .G)) (added-same (widthOf tableV) tV _ tV′ inV) (Same-cons (itemV g) (used tV) (map itemV (X .G)) (X .rowsV));
       once = once′;
       below = λ q a oq l. below′ q oq a l;
       listing = Same-trans all′ (id ∷ all) (id ∷ map (λ (g : Item). g .id) (X .G)) listing′ (Same-cons id all (map (λ (g : Item). g .id) (X .G)) (X .listing));
@@ -270,24 +263,24 @@ module _ (x : Setting) where
 
     pub entries-insert-all : (l : List (List ℕ)) (nonces : List ℕ) (g : ℕ) (tM tV tM′ tV′ : Table) (all all′ : List (List ℕ)) (ids ids′ : Pair → List (List ℕ)) (made made′ : Pair → ℕ)
         → Entries tM tV all ids made → made pr ≡ g → All (λ i. length i ≡ 16) l → 12 * length l ≤ length nonces → g + length l ≤ 64 * length calls
-        → PlacedAll tM (entryRows suite (mtOf pr) (meOf pr) g l nonces) tM′ → PlacedAll tV (reverseRows suite (mtOf pr) g l) tV′
+        → AddedAll (widthOf tableM) tM (entryRows suite (mtOf pr) (meOf pr) g l nonces) tM′ → AddedAll (widthOf tableV) tV (reverseRows suite (mtOf pr) g l) tV′
         → Same all′ (l ++ all)
         → ids′ pr ≡ ids pr ++ l → ((q : Pair) → (q ≡ pr → ⊥) → ids′ q ≡ ids q)
         → made′ pr ≡ g + length l → ((q : Pair) → (q ≡ pr → ⊥) → made′ q ≡ made q)
         → Entries tM′ tV′ all′ ids′ made′
     entries-insert-all [] nonces g tM tV tM′ tV′ all all′ ids ids′ made made′ X eg w hn fits pM pV s io ioth mo moth =
-        entries-as tM tV tM′ tV′ all all′ ids ids′ made made′ (placed-none tM tM′ pM) (placed-none tV tV′ pV) s
+        entries-as tM tV tM′ tV′ all all′ ids ids′ made made′ (sym (added-none (widthOf tableM) tM tM′ pM)) (sym (added-none (widthOf tableV) tV tV′ pV)) s
         (by-pair pr (λ q. ids′ q ≡ ids q) (io ∙ append-nil (ids pr)) ioth)
         (by-pair pr (λ q. made′ q ≡ made q) (mo ∙ add-zero g ∙ sym eg) moth) X
     entries-insert-all (id ∷ l) nonces g tM tV tM′ tV′ all all′ ids ids′ made made′ X eg w hn fits pM pV s io ioth mo moth =
-        let nM = placed-next tM _ _ tM′ pM in
-        let nV = placed-next tV _ _ tV′ pV in
+        let nM = added-next (widthOf tableM) tM _ _ tM′ pM in
+        let nV = added-next (widthOf tableV) tV _ _ tV′ pV in
         let yes₁ : samePair pr pr ≡ true = samePair-refl pr in
         let ln : length (take 12 nonces) ≡ 12 = length-take-le 12 nonces (omega arith) in
         let ld = length-drop 12 nonces in
         let no₁ : (q : Pair) → (q ≡ pr → ⊥) → samePair q pr ≡ false = λ q ne. samePair-ne q pr ne in
-        let oneM : Placed tM (entryRow suite (mtOf pr) (meOf pr) (suc (made pr)) (take 12 nonces) id) (nM .between) = rw eg (nM .one) in
-        let oneV : Placed tV (reverseRow suite (mtOf pr) (suc (made pr)) id) (nV .between) = rw eg (nV .one) in
+        let oneM : Added (widthOf tableM) tM (entryRow suite (mtOf pr) (meOf pr) (suc (made pr)) (take 12 nonces) id) (nM .between) = rw eg (nM .one) in
+        let oneV : Added (widthOf tableV) tV (reverseRow suite (mtOf pr) (suc (made pr)) id) (nV .between) = rw eg (nV .one) in
         let X₁ : Entries (nM .between) (nV .between) (id ∷ all) (ids₁ ids id) (made₁ made) =
         entries-insert tM tV all ids made X pr ok id (take 12 nonces) (omega arith) (w .0) ln (nM .between) (nV .between) oneM oneV
         (id ∷ all) (Same-refl (id ∷ all))
@@ -405,20 +398,20 @@ module _ (x : Setting) where
         ∙ count-agree Good (λ g. same (reverseId (itemV g)) id) (λ g. same (g .id) id) reverse-agrees (X .G) (X .good)
         ∙ sym (X .listing .counts (λ y. same y id) ∙ count-map (λ (g : Item). g .id) (λ y. same y id) (X .G))
 
-    pub entries-erase : Entries (freeWhere (widthOf tableM) (erasedIn tV id) tM) (freeWhere (widthOf tableV) (λ b. same (reverseId b) id) tV) (select (λ y. not (same y id)) all) (λ q. select (λ y. not (same y id)) (ids q)) made
+    pub entries-erase : Entries (closed (widthOf tableM) (erasedIn tV id) tM) (closed (widthOf tableV) (λ b. same (reverseId b) id) tV) (select (λ y. not (same y id)) all) (λ q. select (λ y. not (same y id)) (ids q)) made
     entries-erase = record {
       G = G′;
       good = all-select Good keep (X .G) (X .good);
       rowsM = record {
         counts = λ p.
-            ap (count p) (free-where-used (widthOf tableM) (erasedIn tV id) tM)
+            closed-same (widthOf tableM) (erasedIn tV id) tM .counts p
             ∙ Same-select (λ b. not (erasedIn tV id b)) (used tM) (map itemM (X .G)) (X .rowsM) .counts p
             ∙ ap (count p) (select-map itemM (λ b. not (erasedIn tV id b)) (X .G)
             ∙ ap (map itemM) (select-agree (λ g. erasedIn tV id (itemM g) ≡ same (g .id) id) (λ g. not (erasedIn tV id (itemM g))) keep (λ g e. ap not e) (X .G) erased-all));
       };
       rowsV = record {
         counts = λ p.
-            ap (count p) (free-where-used (widthOf tableV) (λ b. same (reverseId b) id) tV)
+            closed-same (widthOf tableV) (λ b. same (reverseId b) id) tV .counts p
             ∙ Same-select (λ b. not (same (reverseId b) id)) (used tV) (map itemV (X .G)) (X .rowsV) .counts p
             ∙ ap (count p) (select-map itemV (λ b. not (same (reverseId b) id)) (X .G)
             ∙ ap (map itemV) (select-agree Good (λ g. not (same (reverseId (itemV g)) id)) keep (λ g h. ap not (reverse-agrees g h)) (X .G) (X .good)));

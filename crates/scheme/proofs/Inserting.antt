@@ -1,6 +1,6 @@
 -- Insert tells what the ledger tells, and the store after it is the ledger's after it.
 use Prim.Native.Nat.{ℕ, suc, _+_, _*_, _%_, _≤_}
-use mathlib.Core.Path.{_≡_, refl, sym, ap, _∙_}
+use mathlib.Core.Path.{_≡_, refl, sym, ap, subst, _∙_}
 use mathlib.Core.Bool.{Bool, true, false, not, _||_, or-self}
 use mathlib.Core.Logic.{_⊎_}
 use mathlib.Core.Option.{Option, none, some}
@@ -12,34 +12,37 @@ use lib.Seq.{length-take-le}
 use borrow.Author.Tests.{eqb-true, not-false, ltb-false}
 use Rattle.answer.specs.Answer.{Answer, done}
 use Rattle.table.specs.Lists.{bit, same, anyOf, flat, All, Same}
-use Rattle.table.specs.Table.{used, body, isFree, freeRows, Placed, PlacedAll}
+use Rattle.table.specs.Table.{Row, Table, used, body, isFree, freeRows}
+use Rattle.table.specs.Order.{withRows}
 use Rattle.table.proofs.Counting.{neither, same-refl, same-length, ne-same, Same-map}
-use Rattle.table.proofs.Rows.{placed-same, rows-length, rows-wide}
+use Rattle.table.proofs.Rows.{rows-length, rows-wide}
+use Rattle.table.proofs.Arranging.{Added, AddedAll, added-same}
 use Rattle.table.proofs.Distinct.{any-same, distinct-same, distinct-more}
 use Rattle.scheme.specs.Suite.{Suite, number8}
 use Rattle.scheme.specs.Labels.{Field, fieldLengthsBad}
 use Rattle.scheme.specs.Keys.{KS, insertToken, insertTokenLength}
-use Rattle.scheme.specs.Store.{Store, Sizes, tableM, tableV, tableC, tableS, putIn, stateTests, cut, entryTag, entryRow, reverseRow, counterRow, logRow, clIn}
+use Rattle.scheme.specs.Store.{Store, Sizes, tableM, tableV, tableC, tableS, widthOf, joined, putIn, stateTests, cut, entryTag, entryRow, reverseRow, counterRow, logRow, clIn}
 use Rattle.scheme.specs.Reading
 use Rattle.scheme.specs.Reading.{Reading, damaged, countOf, positionOf, limit}
-use Rattle.scheme.specs.Refusals.{idCount, idsIn, insertTokenTests, insertInputTests, tokenTests, lengthNot}
+use Rattle.scheme.specs.Refusals.{Result, idCount, idsIn, insertTokenTests, insertInputTests, tokenTests, lengthNot}
 use Rattle.answer.specs.Verdict.{Test, _⇒_, verdict}
-use Rattle.scheme.specs.Insert.{entryRows, reverseRows, newEntries, newReverses, newCounter, newLog, insertedStore, insertReading, newCount, insertStateTests, insertVerdict, Inserted, Insert}
+use Rattle.scheme.specs.Insert
+use Rattle.scheme.specs.Insert.{entryRows, reverseRows, newEntries, newReverses, newCounter, newLog, insertedStore, insertReading, newCount, insertStateTests, insertVerdict}
 use Rattle.scheme.specs.Compaction.{logOf}
 use Rattle.scheme.specs.Call
-use Rattle.scheme.specs.Call.{Call, Told}
+use Rattle.scheme.specs.Call.{Call}
 use Rattle.scheme.specs.Ledger.{Pair, samePair, Entry, Ledger, listed, H, withPair, ledgerInsertVerdict, appended, afterInsert, ledgerStep}
 use Rattle.scheme.specs.Premise.{counter}
-use Rattle.scheme.specs.Run.{InsertCall}
+use Rattle.scheme.specs.Run.{madeOr, insertCall, toldBy}
 use Rattle.scheme.specs.Claim.{boundsOf}
-use Rattle.scheme.proofs.Setting.{Setting, OK, clOf, ctag, tag-length, counted-length, counted-mark, cl-differ, by-pair}
-use Rattle.scheme.proofs.Shape.{Shaped, RowOK, shaped-put, placed-ok, placed-all-ok, free-is}
+use Rattle.scheme.proofs.Setting.{Setting, OK, clOf, ctag, tag-length, counted-used, counted-length, counted-mark, cl-differ, by-pair}
+use Rattle.scheme.proofs.Shape.{Shaped, RowOK, shaped-put, added-ok, added-all-ok, free-is}
 use Rattle.scheme.proofs.Counters.{runOf, PairCounter, Counters, counters-insert}
-use Rattle.scheme.proofs.Entries.{Item, Entries, mtOf, meOf, itemM, itemV, entries-insert-all}
+use Rattle.scheme.proofs.Entries.{Entries, mtOf, meOf, entries-insert-all}
 use Rattle.scheme.proofs.LedgerLaws.{entry-own, entry-other, listed-more, with-length, with-own, with-other}
-use Rattle.scheme.proofs.Simulation.{madeIn, listIn, logIn, Sim, later}
+use Rattle.scheme.proofs.Simulation.{madeIn, listIn, logIn, Sim, used-M, used-V, log-used, later}
 use Rattle.scheme.proofs.Verdicts.{orElse, both-none, verdict-append, passed, key-is, length-passed, length-refused, shift}
-use Rattle.scheme.proofs.Queries.{After, told-eq, cut-is, sizes-are, states-pass, read-is}
+use Rattle.scheme.proofs.Queries.{After, cut-is, sizes-are, states-pass, read-is}
 use Rattle.scheme.proofs.Tokens
 
 -- where nothing refuses the token
@@ -110,6 +113,31 @@ reverse-rows-ok : (suite : Suite) (mt : List ℕ) (g : ℕ) (l : List (List ℕ)
 reverse-rows-ok suite mt g [] a = tt
 reverse-rows-ok suite mt g (id ∷ l) a = (reverse-row-ok suite mt (suc g) id (a .0), reverse-rows-ok suite mt (suc g) l (a .1))
 
+-- they are used rows, one for each id
+entry-busy : (suite : Suite) (mt me : List ℕ) (a : ℕ) (nonce id : List ℕ) → isFree (entryRow suite mt me a nonce id) ≡ false
+unfolding entryRow
+entry-busy suite mt me a nonce id = refl
+
+entries-busy : (suite : Suite) (mt me : List ℕ) (g : ℕ) (l : List (List ℕ)) (nonces : List ℕ) → All (λ r. isFree r ≡ false) (entryRows suite mt me g l nonces)
+entries-busy suite mt me g [] nonces = tt
+entries-busy suite mt me g (id ∷ l) nonces = (entry-busy suite mt me (suc g) (take 12 nonces) id, entries-busy suite mt me (suc g) l (drop 12 nonces))
+
+entries-number : (suite : Suite) (mt me : List ℕ) (g : ℕ) (l : List (List ℕ)) (nonces : List ℕ) → length (entryRows suite mt me g l nonces) ≡ length l
+entries-number suite mt me g [] nonces = refl
+entries-number suite mt me g (id ∷ l) nonces = ap suc (entries-number suite mt me (suc g) l (drop 12 nonces))
+
+reverse-busy : (suite : Suite) (mt : List ℕ) (a : ℕ) (id : List ℕ) → isFree (reverseRow suite mt a id) ≡ false
+unfolding reverseRow
+reverse-busy suite mt a id = refl
+
+reverses-busy : (suite : Suite) (mt : List ℕ) (g : ℕ) (l : List (List ℕ)) → All (λ r. isFree r ≡ false) (reverseRows suite mt g l)
+reverses-busy suite mt g [] = tt
+reverses-busy suite mt g (id ∷ l) = (reverse-busy suite mt (suc g) id, reverses-busy suite mt (suc g) l)
+
+reverses-number : (suite : Suite) (mt : List ℕ) (g : ℕ) (l : List (List ℕ)) → length (reverseRows suite mt g l) ≡ length l
+reverses-number suite mt g [] = refl
+reverses-number suite mt g (id ∷ l) = ap suc (reverses-number suite mt (suc g) l)
+
 -- the ledger's conditions 12 to 17
 abbrev ledgerTests : Sizes → Ledger → Field → ℕ → ℕ → List ℕ → List Test
 ledgerTests z l f p u ids =
@@ -140,34 +168,12 @@ module _ (x : Setting) (i : ℕ) (before : List ℕ) (l : Ledger) (hi : suc i �
   abbrev L : List (List ℕ)
   L = logIn x (s .st .table tableS)
 
-  used-M : length (used (s .st .table tableM)) ≡ H l
-  unfolding H
-  used-M =
-      let a = same-length (used (s .st .table tableM)) (map (itemM x) (s .entries .G)) (s .entries .rowsM) in
-      let b = same-length (listed (l .entries)) (map (λ (g : Item). g .id) (s .entries .G)) (s .entries .listing) in
-      let c = lib.ListN.length-map (s .entries .G) (itemM x) in
-      let d = lib.ListN.length-map (s .entries .G) (λ (g : Item). g .id) in
-      omega arith
-
-  used-V : length (used (s .st .table tableV)) ≡ H l
-  unfolding H
-  used-V =
-      let a = same-length (used (s .st .table tableV)) (map (itemV x) (s .entries .G)) (s .entries .rowsV) in
-      let b = same-length (listed (l .entries)) (map (λ (g : Item). g .id) (s .entries .G)) (s .entries .listing) in
-      let c = lib.ListN.length-map (s .entries .G) (itemV x) in
-      let d = lib.ListN.length-map (s .entries .G) (λ (g : Item). g .id) in
-      omega arith
-
-  log-used : length L ≡ length (used (s .st .table tableS))
-  unfolding logOf
-  log-used = lib.ListN.length-map (used (s .st .table tableS)) (clIn suite (KS suite K))
-
   room-entries : (ltb (freeRows (cut before .table tableM)) j || ltb (freeRows (cut before .table tableV)) j) ≡ ltb (z .m) (H l + j)
   room-entries =
       let a = free-is tableM (z .m) (s .st .table tableM) (s .shaped .tables tableM) in
       let b = free-is tableV (z .m) (s .st .table tableV) (s .shaped .tables tableV) in
-      let c = used-M in
-      let d = used-V in
+      let c = used-M x i before l s in
+      let d = used-V x i before l s in
       rw (cut-is x i before l hi₀ s, shift (freeRows (s .st .table tableM)) (H l) (z .m) j (omega arith), shift (freeRows (s .st .table tableV)) (H l) (z .m) j (omega arith))
       (or-self (ltb (z .m) (H l + j)))
 
@@ -181,7 +187,7 @@ module _ (x : Setting) (i : ℕ) (before : List ℕ) (l : Ledger) (hi : suc i �
   room-log : ltb (freeRows (cut before .table tableS)) 1 ≡ ltb (z .s) (l .W + 1)
   room-log =
       let a = free-is tableS (z .s) (s .st .table tableS) (s .shaped .tables tableS) in
-      let b = log-used in
+      let b = log-used x i before l s in
       let w = s .W-is in
       rw (cut-is x i before l hi₀ s) (shift (freeRows (s .st .table tableS)) (l .W) (z .s) 1 (omega arith))
 
@@ -224,7 +230,38 @@ module _ (x : Setting) (i : ℕ) (before : List ℕ) (l : Ledger) (hi : suc i �
 
   -- ---- an accepted insert
 
-  module _ (p-is : p ≡ z .p) (good : InputGood ids nonces) (fits : madeIn l pr + j ≤ limit) (after : List ℕ) (ins : Inserted suite before ids nonces token after) where
+  -- where nothing refuses: the token's p is the store's, the new count fits, and each table has room
+  pub record Room : Type 0 where
+    pub p-is : p ≡ z .p
+    pub fits : madeIn l pr + j ≤ limit
+    pub inM : j ≤ freeRows (s .st .table tableM)
+    pub inV : j ≤ freeRows (s .st .table tableV)
+    pub inC : 1 ≤ freeRows (s .st .table tableC)
+    pub inLog : 1 ≤ freeRows (s .st .table tableS)
+
+  pub room : verdict (ledgerTests z l f p u ids) ≡ none → Room
+  room e =
+      let a = passed (not (eqb p (z .p))) _ _ e in
+      let b = passed (ltb 4294967295 (madeIn l pr + j)) _ _ (a .1) in
+      let c = passed (ltb (z .m) (H l + j)) _ _ (b .1) in
+      let d = passed (ltb (z .c) (l .A + l .W + 1)) _ _ (c .1) in
+      let f = passed (ltb (z .s) (l .W + 1)) _ _ (d .1) in
+      let m = ltb-false (z .m) (H l + j) (c .0) in
+      let n = ltb-false (z .c) (l .A + l .W + 1) (d .0) in
+      let o = ltb-false (z .s) (l .W + 1) (f .0) in
+      record {
+        p-is = eqb-true p (z .p) (not-false (eqb p (z .p)) (a .0));
+        fits = ltb-false 4294967295 (madeIn l pr + j) (b .0);
+        inM = omega (arith, m, used-M x i before l s, free-is tableM (z .m) (s .st .table tableM) (s .shaped .tables tableM));
+        inV = omega (arith, m, used-V x i before l s, free-is tableV (z .m) (s .st .table tableV) (s .shaped .tables tableV));
+        inC = omega (arith, n, s .counters .total, s .W-is, free-is tableC (z .c) (s .st .table tableC) (s .shaped .tables tableC));
+        inLog = omega (arith, o, log-used x i before l s, s .W-is, free-is tableS (z .s) (s .st .table tableS) (s .shaped .tables tableS));
+      }
+
+  module _ (good : InputGood ids nonces) (has-room : Room) where
+    abbrev p-is : p ≡ z .p
+    p-is = has-room .p-is
+
     abbrev l′ : Ledger
     l′ = afterInsert (boundsOf z) l f u ids
 
@@ -258,34 +295,6 @@ module _ (x : Setting) (i : ℕ) (before : List ℕ) (l : Ledger) (hi : suc i �
     position-read : positionOf (insertReading suite before token) ≡ P p-is .start + runOf x L pr
     position-read = ap positionOf (read p-is)
 
-    pM : PlacedAll (s .st .table tableM) (entryRows suite (mtOf x pr) (meOf x pr) (madeIn l pr) (idsIn ids) nonces) (ins .tM′)
-    unfolding newEntries
-    pM = rw (cut-is x i before l hi₀ s, Tokens.token-MT suite K f p u nonce, Tokens.token-ME suite K f p u nonce, count-read) at (ins .entries)
-
-    pV : PlacedAll (s .st .table tableV) (reverseRows suite (mtOf x pr) (madeIn l pr) (idsIn ids)) (ins .tV′)
-    unfolding newReverses
-    pV = rw (cut-is x i before l hi₀ s, Tokens.token-MT suite K f p u nonce, count-read) at (ins .reverses)
-
-    pC : Placed (s .st .table tableC) (counterRow suite (clOf x pr) (P p-is .start + runOf x L pr + 1) (drop (12 * j) nonces) (madeIn l pr + j)) (ins .tC′)
-    unfolding newCounter
-    pC = rw (cut-is x i before l hi₀ s, Tokens.token-CL suite K f p u nonce, position-read, new-is p-is) at (ins .counter)
-
-    pS : Placed (s .st .table tableS) (logRow (Tokens.log suite K f p u nonce)) (ins .tS′)
-    unfolding newLog
-    pS = rw (cut-is x i before l hi₀ s, Tokens.token-log suite K f p u nonce) at (ins .log)
-
-    busyS : isFree (logRow (Tokens.log suite K f p u nonce)) ≡ false
-    unfolding logRow
-    busyS = refl
-
-    bodyS : clIn suite (KS suite K) (body (logRow (Tokens.log suite K f p u nonce))) ≡ clOf x pr
-    unfolding logRow
-    bodyS = Tokens.log-CL suite K f p u nonce nonce-length
-
-    logged : Same (logIn x (ins .tS′)) (clOf x pr ∷ L)
-    unfolding logOf
-    logged = rw bodyS at (Same-map (clIn suite (KS suite K)) (used (ins .tS′)) (body (logRow (Tokens.log suite K f p u nonce)) ∷ used (s .st .table tableS)) (placed-same (s .st .table tableS) (logRow (Tokens.log suite K f p u nonce)) (ins .tS′) pS busyS))
-
     last-nonce : length (drop (12 * j) nonces) ≡ 12
     last-nonce = let d = length-drop (12 * j) nonces in let n = good .nonces-length in omega arith
 
@@ -298,23 +307,83 @@ module _ (x : Setting) (i : ℕ) (before : List ℕ) (l : Ledger) (hi : suc i �
     nonces-enough : 12 * length (idsIn ids) ≤ length nonces
     nonces-enough = let a = ids-length in let n = good .nonces-length in omega arith
 
-    counters-after : Counters x (ins .tC′) (logIn x (ins .tS′)) (l .A) (suc i) (madeIn l′)
+    -- the new rows, and the tables with them
+    abbrev newM : List Row
+    newM = entryRows suite (mtOf x pr) (meOf x pr) (madeIn l pr) (idsIn ids) nonces
+
+    abbrev newV : List Row
+    newV = reverseRows suite (mtOf x pr) (madeIn l pr) (idsIn ids)
+
+    abbrev newC : Row
+    newC = counterRow suite (clOf x pr) (P p-is .start + runOf x L pr + 1) (drop (12 * j) nonces) (madeIn l pr + j)
+
+    abbrev newS : Row
+    newS = logRow (Tokens.log suite K f p u nonce)
+
+    abbrev tM′ : Table
+    tM′ = withRows (widthOf tableM) newM (s .st .table tableM)
+
+    abbrev tV′ : Table
+    tV′ = withRows (widthOf tableV) newV (s .st .table tableV)
+
+    abbrev tC′ : Table
+    tC′ = withRows (widthOf tableC) (newC ∷ []) (s .st .table tableC)
+
+    abbrev tS′ : Table
+    tS′ = withRows (widthOf tableS) (newS ∷ []) (s .st .table tableS)
+
+    aM : AddedAll (widthOf tableM) (s .st .table tableM) newM tM′
+    aM = record {
+      is = refl;
+      room = omega (arith, entries-number suite (mtOf x pr) (meOf x pr) (madeIn l pr) (idsIn ids) nonces, ids-length, has-room .inM);
+      busy = (entries-busy suite (mtOf x pr) (meOf x pr) (madeIn l pr) (idsIn ids) nonces);
+      form = s .shaped .tables tableM .form;
+    }
+
+    aV : AddedAll (widthOf tableV) (s .st .table tableV) newV tV′
+    aV = record {
+      is = refl;
+      room = omega (arith, reverses-number suite (mtOf x pr) (madeIn l pr) (idsIn ids), ids-length, has-room .inV);
+      busy = (reverses-busy suite (mtOf x pr) (madeIn l pr) (idsIn ids));
+      form = s .shaped .tables tableV .form;
+    }
+
+    aC : Added (widthOf tableC) (s .st .table tableC) newC tC′
+    aC = record {
+      is = refl;
+      room = has-room .inC;
+      busy = unfold counterRow in counted-used suite (clOf x pr) (ctag x pr counter (P p-is .start + runOf x L pr + 1)) (drop (12 * j) nonces) 0 (madeIn l pr + j);
+      order = s .shaped .tables tableC .form .order;
+    }
+
+    aS : Added (widthOf tableS) (s .st .table tableS) newS tS′
+    aS = record { is = refl; room = has-room .inLog; busy = unfold logRow in refl; order = s .shaped .tables tableS .form .order }
+
+    bodyS : clIn suite (KS suite K) (body (logRow (Tokens.log suite K f p u nonce))) ≡ clOf x pr
+    unfolding logRow
+    bodyS = Tokens.log-CL suite K f p u nonce nonce-length
+
+    logged : Same (logIn x tS′) (clOf x pr ∷ L)
+    unfolding logOf
+    logged = rw bodyS at (Same-map (clIn suite (KS suite K)) (used tS′) (body newS ∷ used (s .st .table tableS)) (added-same (widthOf tableS) (s .st .table tableS) newS tS′ aS))
+
+    counters-after : Counters x tC′ (logIn x tS′) (l .A) (suc i) (madeIn l′)
     counters-after =
         let g = good .least in
-        counters-insert x (s .st .table tableC) L (l .A) i (madeIn l) (s .counters) hi pr (ok p-is) (drop (12 * j) nonces) (madeIn l pr + j) last-nonce (omega arith) fits
-        (ins .tC′) pC (logIn x (ins .tS′)) logged (madeIn l′) made-own made-other
+        counters-insert x (s .st .table tableC) L (l .A) i (madeIn l) (s .counters) hi pr (ok p-is) (drop (12 * j) nonces) (madeIn l pr + j) last-nonce (omega arith) (has-room .fits)
+        tC′ aC (logIn x tS′) logged (madeIn l′) made-own made-other
 
-    entries-after : Entries x (ins .tM′) (ins .tV′) (listed (l′ .entries)) (listIn l′) (madeIn l′)
+    entries-after : Entries x tM′ tV′ (listed (l′ .entries)) (listIn l′) (madeIn l′)
     entries-after =
         let a = ids-length in
         let m = s .small pr (ok p-is) in
         let g = good .most in
         let own : madeIn l′ pr ≡ madeIn l pr + length (idsIn ids) = made-own ∙ ap (λ (n : ℕ). madeIn l pr + n) (sym a) in
-        entries-insert-all x pr (ok p-is) (idsIn ids) nonces (madeIn l pr) (s .st .table tableM) (s .st .table tableV) (ins .tM′) (ins .tV′) (listed (l .entries)) (listed (l′ .entries)) (listIn l) (listIn l′) (madeIn l) (madeIn l′)
-        (s .entries) refl ids-wide nonces-enough (omega arith) pM pV listing ids-own ids-other own made-other
+        entries-insert-all x pr (ok p-is) (idsIn ids) nonces (madeIn l pr) (s .st .table tableM) (s .st .table tableV) tM′ tV′ (listed (l .entries)) (listed (l′ .entries)) (listIn l) (listIn l′) (madeIn l) (madeIn l′)
+        (s .entries) refl ids-wide nonces-enough (omega arith) aM aV listing ids-own ids-other own made-other
 
-    st′ : Store
-    st′ = putIn tableS (ins .tS′) (putIn tableC (ins .tC′) (putIn tableV (ins .tV′) (putIn tableM (ins .tM′) (s .st))))
+    abbrev st′ : Store
+    st′ = putIn tableS tS′ (putIn tableC tC′ (putIn tableV tV′ (putIn tableM tM′ (s .st))))
 
     log-row-ok : RowOK tableS (logRow (Tokens.log suite K f p u nonce))
     unfolding logRow
@@ -328,36 +397,41 @@ module _ (x : Setting) (i : ℕ) (before : List ℕ) (l : Ledger) (hi : suc i �
     }
 
     shaped′ : Shaped z st′
-    unfolding st′
     shaped′ =
-        shaped-put z _ tableS (ins .tS′) (placed-ok tableS (z .s) (s .st .table tableS) _ (ins .tS′) pS log-row-ok (s .shaped .tables tableS))
-        (shaped-put z _ tableC (ins .tC′) (placed-ok tableC (z .c) (s .st .table tableC) _ (ins .tC′) pC counter-row-ok (s .shaped .tables tableC))
-        (shaped-put z _ tableV (ins .tV′) (placed-all-ok tableV (z .m) (s .st .table tableV) _ (ins .tV′) pV (reverse-rows-ok suite (mtOf x pr) (madeIn l pr) (idsIn ids) ids-wide) (s .shaped .tables tableV))
-        (shaped-put z (s .st) tableM (ins .tM′) (placed-all-ok tableM (z .m) (s .st .table tableM) _ (ins .tM′) pM (entry-rows-ok suite (mtOf x pr) (meOf x pr) (madeIn l pr) (idsIn ids) nonces ids-wide nonces-enough) (s .shaped .tables tableM))
+        shaped-put z _ tableS tS′ (added-ok tableS (z .s) (s .st .table tableS) newS tS′ aS log-row-ok (s .shaped .tables tableS .all) (s .shaped .tables tableS .number))
+        (shaped-put z _ tableC tC′ (added-ok tableC (z .c) (s .st .table tableC) newC tC′ aC counter-row-ok (s .shaped .tables tableC .all) (s .shaped .tables tableC .number))
+        (shaped-put z _ tableV tV′ (added-all-ok tableV (z .m) (s .st .table tableV) newV tV′ aV (reverse-rows-ok suite (mtOf x pr) (madeIn l pr) (idsIn ids) ids-wide) (s .shaped .tables tableV))
+        (shaped-put z (s .st) tableM tM′ (added-all-ok tableM (z .m) (s .st .table tableM) newM tM′ aM (entry-rows-ok suite (mtOf x pr) (meOf x pr) (madeIn l pr) (idsIn ids) nonces ids-wide nonces-enough) (s .shaped .tables tableM))
         (s .shaped))))
 
-    members : (q : Pair) → OK x q → anyOf (samePair q) (withPair pr (l .T)) ≡ anyOf (λ y. same y (clOf x q)) (logIn x (ins .tS′))
-    members = by-pair pr (λ q. OK x q → anyOf (samePair q) (withPair pr (l .T)) ≡ anyOf (λ y. same y (clOf x q)) (logIn x (ins .tS′)))
-        (λ oq. with-own pr (l .T) ∙ sym (any-same (λ y. same y (clOf x pr)) (logIn x (ins .tS′)) (clOf x pr ∷ L) logged ∙ rw (same-refl (clOf x pr)) refl))
+    members : (q : Pair) → OK x q → anyOf (samePair q) (withPair pr (l .T)) ≡ anyOf (λ y. same y (clOf x q)) (logIn x tS′)
+    members = by-pair pr (λ q. OK x q → anyOf (samePair q) (withPair pr (l .T)) ≡ anyOf (λ y. same y (clOf x q)) (logIn x tS′))
+        (λ oq. with-own pr (l .T) ∙ sym (any-same (λ y. same y (clOf x pr)) (logIn x tS′) (clOf x pr ∷ L) logged ∙ rw (same-refl (clOf x pr)) refl))
         (λ q ne oq.
         let d : same (clOf x pr) (clOf x q) ≡ false = ne-same (clOf x pr) (clOf x q) (λ e. ne (sym (cl-differ x pr q (ok p-is) oq e))) in
-        with-other pr (l .T) q ne ∙ s .T-member q oq ∙ sym (any-same (λ y. same y (clOf x q)) (logIn x (ins .tS′)) (clOf x pr ∷ L) logged ∙ rw d refl))
+        with-other pr (l .T) q ne ∙ s .T-member q oq ∙ sym (any-same (λ y. same y (clOf x q)) (logIn x tS′) (clOf x pr ∷ L) logged ∙ rw d refl))
 
-    insert-sim : Sim x (suc i) after l′
-    unfolding afterInsert st′ insertedStore
+    -- the store that the definition gives
+    inserted-is : insertedStore before (newEntries suite before ids nonces token) (newReverses suite before ids nonces token) (newCounter suite before ids nonces token) (newLog suite before ids nonces token) ≡ st′
+    unfolding insertedStore newEntries newReverses newCounter newLog
+    inserted-is =
+        rw (cut-is x i before l hi₀ s, Tokens.token-MT suite K f p u nonce, Tokens.token-ME suite K f p u nonce, Tokens.token-CL suite K f p u nonce, Tokens.token-log suite K f p u nonce, count-read, position-read, new-is p-is) refl
+
+    insert-sim : Sim x (suc i) (joined st′) l′
+    unfolding afterInsert
     insert-sim = record {
       st = st′;
-      bytes = ins .written ∙ rw (cut-is x i before l hi₀ s) refl;
+      bytes = refl;
       shaped = shaped′;
       counters = counters-after;
       entries = entries-after;
       small = by-pair pr (λ q. OK x q → madeIn l′ q ≤ 64 * suc i)
           (λ oq. let m = s .small pr oq in let g = good .most in let e = made-own in omega arith)
           (λ q ne oq. let m = s .small q oq in let e = made-other q ne in omega arith);
-      W-is = let a = same-length (logIn x (ins .tS′)) (clOf x pr ∷ L) logged in let w = s .W-is in omega arith;
+      W-is = let a = same-length (logIn x tS′) (clOf x pr ∷ L) logged in let w = s .W-is in omega arith;
       T-length =
           let a = with-length pr (l .T) in
-          let b = distinct-same (logIn x (ins .tS′)) (clOf x pr ∷ L) logged in
+          let b = distinct-same (logIn x tS′) (clOf x pr ∷ L) logged in
           let c = distinct-more (clOf x pr) L in
           let d : bit (anyOf (samePair pr) (l .T)) ≡ bit (anyOf (λ y. same y (clOf x pr)) L) = ap bit (s .T-member pr (ok p-is)) in
           let t = s .T-length in
@@ -379,54 +453,61 @@ module _ (x : Setting) (i : ℕ) (before : List ℕ) (l : Ledger) (hi : suc i �
       verdict-append (insertTokenTests key f p u nonce) (insertInputTests ids nonces ++ ledgerTests z l f p u ids)
       ∙ ap (orElse (verdict (insertTokenTests key f p u nonce))) (verdict-append (insertInputTests ids nonces) (ledgerTests z l f p u ids))
 
-  refused-step : (told : Told) (r : Answer) (after : List ℕ) → ledgerInsertVerdict (boundsOf z) l key f p u nonce ids nonces ≡ some r → told .answer ≡ r → told .output ≡ [] → after ≡ before
-      → After x i (Call.insert key f p u nonce ids nonces) l told after
+  abbrev call : Call
+  call = Call.insert key f p u nonce ids nonces
+
+  abbrev Reached : Result → Type 0
+  Reached r = After x i call l (toldBy r) (r .store)
+
+  refused-step : (r : Answer) → ledgerInsertVerdict (boundsOf z) l key f p u nonce ids nonces ≡ some r → Reached (record { answer = r; store = before; output = [] })
   unfolding ledgerStep
-  refused-step told r after v a o b = record {
-    told-is = told-eq x told _ (a ∙ sym (rw v refl)) o;
-    sim = rw (b, v) (later x i before l (omega arith) s);
-  }
+  refused-step r v = record { told-is = rw v refl; sim = rw v (later x i before l (omega arith) s) }
 
-  accepted-step : (told : Told) (after : List ℕ) → ledgerInsertVerdict (boundsOf z) l key f p u nonce ids nonces ≡ none
-      → told .answer ≡ done ((madeIn l (record { field = f; u = u }) + idCount ids) ∷ []) → told .output ≡ [] → Sim x (suc i) after (afterInsert (boundsOf z) l f u ids)
-      → After x i (Call.insert key f p u nonce ids nonces) l told after
+  accepted-step : (n : ℕ) (after : List ℕ) → ledgerInsertVerdict (boundsOf z) l key f p u nonce ids nonces ≡ none
+      → n ≡ madeIn l (record { field = f; u = u }) + idCount ids → Sim x (suc i) after (afterInsert (boundsOf z) l f u ids)
+      → Reached (record { answer = done (n ∷ []); store = after; output = [] })
   unfolding ledgerStep appended
-  accepted-step told after v a o n = record {
-    told-is = told-eq x told _ (a ∙ sym (rw v refl)) o;
-    sim = rw v n;
+  accepted-step n after v e m = record { told-is = rw (v, e) refl; sim = rw v m }
+
+  abbrev accepted : List ℕ → Result
+  accepted token = record {
+    answer = done (newCount suite before ids token ∷ []);
+    store = joined (insertedStore before (newEntries suite before ids nonces token) (newReverses suite before ids nonces token) (newCounter suite before ids nonces token) (newLog suite before ids nonces token));
+    output = [];
   }
 
-  tests-good : verdict (ledgerTests z l f p u ids) ≡ none → (p ≡ z .p) × (madeIn l (record { field = f; u = u }) + idCount ids ≤ limit)
-  tests-good e =
-      let a = passed (not (eqb p (z .p))) _ _ e in
-      let b = passed (ltb 4294967295 (madeIn l (record { field = f; u = u }) + idCount ids)) _ _ (a .1) in
-      (eqb-true p (z .p) (not-false (eqb p (z .p)) (a .0)), ltb-false 4294967295 (madeIn l (record { field = f; u = u }) + idCount ids) (b .0))
+  insert-accepted : (token : List ℕ) → insertVerdict suite before ids nonces token ≡ none → Insert.insert suite before ids nonces token ≡ accepted token
+  unfolding Insert.insert
+  insert-accepted token e = rw e refl
 
-  pub insert-step : (told : Told) (after : List ℕ) → InsertCall suite before key f p u nonce ids nonces (told .answer) after → told .output ≡ [] → After x i (Call.insert key f p u nonce ids nonces) l told after
-  insert-step told after c o = go (verdict (insertTokenTests key f p u nonce)) refl
+  insert-refused : (token : List ℕ) (r : Answer) → insertVerdict suite before ids nonces token ≡ some r → Insert.insert suite before ids nonces token ≡ record { answer = r; store = before; output = [] }
+  unfolding Insert.insert
+  insert-refused token r e = rw e refl
+
+  made-step : TokenMade K key f p u nonce → ledgerInsertVerdict (boundsOf z) l key f p u nonce ids nonces ≡ orElse (verdict (insertInputTests ids nonces)) (verdict (ledgerTests z l f p u ids))
+      → Reached (Insert.insert suite before ids nonces (insertToken suite K f p u nonce))
+  made-step m v = by (orElse (verdict (insertInputTests ids nonces)) (verdict (ledgerTests z l f p u ids))) refl
     where
-      made : TokenMade K key f p u nonce → Insert suite before ids nonces (insertToken suite K f p u nonce) (told .answer) after
-          → ledgerInsertVerdict (boundsOf z) l key f p u nonce ids nonces ≡ orElse (verdict (insertInputTests ids nonces)) (verdict (ledgerTests z l f p u ids))
-          → After x i (Call.insert key f p u nonce ids nonces) l told after
-      made m n v = by (orElse (verdict (insertInputTests ids nonces)) (verdict (ledgerTests z l f p u ids))) refl
-        where
-          by : (q : Option Answer) → orElse (verdict (insertInputTests ids nonces)) (verdict (ledgerTests z l f p u ids)) ≡ q → After x i (Call.insert key f p u nonce ids nonces) l told after
-          by none e =
-              let iv = insert-verdict x i before l hi s f p u nonce ids nonces (m .valid) (m .shared) (m .nonce-length) named ∙ e in
-              let b = both-none (verdict (insertInputTests ids nonces)) (verdict (ledgerTests z l f p u ids)) e in
-              let g = input-good ids nonces (b .0) in
-              let t = tests-good (b .1) in
-              let a : told .answer ≡ done ((madeIn l (record { field = f; u = u }) + idCount ids) ∷ []) =
-              n .answered ∙ rw iv (ap (λ (k : ℕ). done (k ∷ [])) (new-is x i before l hi s f p u nonce ids nonces (m .valid) (m .shared) (m .nonce-length) named (t .0))) in
-              accepted-step told after (v ∙ e) a o (insert-sim x i before l hi s f p u nonce ids nonces (m .valid) (m .shared) (m .nonce-length) named (t .0) g (t .1) after (n .wrote iv))
-          by (some r) e =
-              let iv = insert-verdict x i before l hi s f p u nonce ids nonces (m .valid) (m .shared) (m .nonce-length) named ∙ e in
-              refused-step told r after (v ∙ e) (n .answered ∙ rw iv refl) o (n .kept r iv)
+      by : (q : Option Answer) → orElse (verdict (insertInputTests ids nonces)) (verdict (ledgerTests z l f p u ids)) ≡ q → Reached (Insert.insert suite before ids nonces (insertToken suite K f p u nonce))
+      by none e =
+          let iv = insert-verdict x i before l hi s f p u nonce ids nonces (m .valid) (m .shared) (m .nonce-length) named ∙ e in
+          let b = both-none (verdict (insertInputTests ids nonces)) (verdict (ledgerTests z l f p u ids)) e in
+          let g = input-good ids nonces (b .0) in
+          let t = room x i before l hi s f p u nonce ids nonces (m .valid) (m .shared) (m .nonce-length) named (b .1) in
+          subst Reached (sym (insert-accepted (insertToken suite K f p u nonce) iv))
+          (accepted-step _ _ (v ∙ e) (new-is x i before l hi s f p u nonce ids nonces (m .valid) (m .shared) (m .nonce-length) named (t .p-is))
+          (subst (λ (st : Store). Sim x (suc i) (joined st) (afterInsert (boundsOf z) l f u ids)) (sym (inserted-is x i before l hi s f p u nonce ids nonces (m .valid) (m .shared) (m .nonce-length) named g t))
+          (insert-sim x i before l hi s f p u nonce ids nonces (m .valid) (m .shared) (m .nonce-length) named g t)))
+      by (some r) e =
+          let iv = insert-verdict x i before l hi s f p u nonce ids nonces (m .valid) (m .shared) (m .nonce-length) named ∙ e in
+          subst Reached (sym (insert-refused (insertToken suite K f p u nonce) r iv)) (refused-step r (v ∙ e))
 
-      go : (q : Option Answer) → verdict (insertTokenTests key f p u nonce) ≡ q → After x i (Call.insert key f p u nonce ids nonces) l told after
+  pub insert-step : Reached (insertCall suite before key f p u nonce ids nonces)
+  unfolding insertCall
+  insert-step = go (verdict (insertTokenTests key f p u nonce)) refl
+    where
+      go : (q : Option Answer) → verdict (insertTokenTests key f p u nonce) ≡ q → Reached (madeOr q (Insert.insert suite before ids nonces (insertToken suite key f p u nonce)) before [])
       go none e =
           let m = token-made K key f p u nonce keyed e in
-          made m (rw (m .key-is) at (c .made e)) (ledger-verdict ∙ rw e refl)
-      go (some r) e =
-          let w = c .unmade r e in
-          refused-step told r after (ledger-verdict ∙ rw e refl) (w .0) o (w .1)
+          subst (λ (k : List ℕ). Reached (Insert.insert suite before ids nonces (insertToken suite k f p u nonce))) (sym (m .key-is)) (made-step m (ledger-verdict ∙ rw e refl))
+      go (some r) e = refused-step r (ledger-verdict ∙ rw e refl)

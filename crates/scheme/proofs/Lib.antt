@@ -17,6 +17,5 @@ pub mod Inserting
 pub mod Compactions
 pub mod Claim
 pub mod Examples
-pub mod Outcomes
 pub mod Corollaries
 pub mod Premises

@@ -5,7 +5,7 @@ use mathlib.Core.Bool.{Bool, true, false, cond, not, _&&_, _||_, true≢false}
 use mathlib.Core.Logic.{_⊎_, inl, inr, ⊎-elim}
 use mathlib.Core.List.{List, [], _∷_, List·Memᴰ, List·Memᴰ·head, List·Memᴰ·tail, List·Memᴰ·cases-cons, List·Memᴰ·not-nil}
 use Rattle.table.specs.Lists.{same, select, anyOf, distinct}
-use Rattle.table.proofs.Counting.{same-true, same-refl, ne-same}
+use Rattle.table.proofs.Counting.{same-true, same-refl}
 use Rattle.scheme.specs.Ledger.{unseen}
 use Rattle.scheme.specs.Corollaries.{NoRepeats}
 

@@ -5,14 +5,13 @@ use mathlib.Core.Bool.{Bool, true, false, cond, true≢false}
 use mathlib.Core.List.{List, [], _∷_, _++_, append-assoc, append-nil}
 use native.Mathlib.Omega.{arith}
 use native.Mathlib.Nat.{add-zero}
-use lib.Dec.{eqb}
 use lib.ListN.{length, take, drop, length-append, length-drop, take-append-drop, drop-of-length-le}
 use lib.Seq.{take-at, drop-at, drop-drop, length-take-le}
 use borrow.Author.Tests.{eqb-true, eq-eqb}
 use Rattle.octets.specs.Part.{back}
 use Rattle.octets.proofs.Parts.{back-next}
 use Rattle.table.specs.Lists.{flat}
-use Rattle.table.specs.Table.{Row, Table, rows, PlacedAll}
+use Rattle.table.specs.Table.{Table, rows}
 use Rattle.table.proofs.Rows.{flat-length, rows-flat, rows-length, rows-wide}
 use Rattle.table.proofs.Walk.{flat-rows, rows-take}
 use Rattle.scheme.specs.Store.{Sizes, Which, plan, widthOf, rowsOf, rankOf, sameTable, headerLength, startFrom, endFrom, startOf, lengthFor, sizesOf, Store, cut, joinedFrom, joined, instead, putIn}
@@ -220,12 +219,6 @@ module _ (at : Which → Span) (b : List ℕ) (st : Store) (l : Laid at b st) wh
   -- the rows from a table's start on
   pub laid-from : (k : Which) → rows (widthOf k) (n k) (drop (s k) b) ≡ st .table k
   laid-from k = sym (rows-take (widthOf k) (n k) (e k - s k) (drop (s k) b) (omega (arith, l .end k))) ∙ laid-rows k
-
-  -- what was placed in the lent part is placed in the table
-  pub laid-placed : (k : Which) (new : List Row) (ys : List ℕ)
-      → PlacedAll (rows (widthOf k) (n k) (take (e k - s k) (drop (s k) b))) new (rows (widthOf k) (n k) ys)
-      → PlacedAll (st .table k) new (rows (widthOf k) (n k) ys)
-  laid-placed k new ys p = subst (λ (t : Table). PlacedAll t new (rows (widthOf k) (n k) ys)) (laid-rows k) p
 
   -- the part came back as ys
   back-bytes : (k : Which) (ys : List ℕ) → length ys ≡ widthOf k * n k → back b (s k) (e k) ys ≡ joined (putIn k (rows (widthOf k) (n k) ys) st)

@@ -1,5 +1,5 @@
 -- Erase, find and count tell what the ledger tells.
-use Prim.Native.Nat.{ℕ, suc, _*_, _≤_}
+use Prim.Native.Nat.{ℕ, suc, _+_, _*_, _≤_}
 use mathlib.Core.Path.{_≡_, refl, sym, ap, _∙_, fun-ext}
 use mathlib.Core.Bool.{false, not}
 use mathlib.Core.Logic.{_⊎_}
@@ -11,11 +11,13 @@ use lib.ListN.{length, take, drop, length-append}
 use lib.Seq.{take-at, drop-at, drop-drop}
 use Rattle.answer.specs.Answer.{Answer, done}
 use Rattle.table.specs.Lists.{same, select, count, anyOf, flat, sum, upTo, distinct}
-use Rattle.table.specs.Table.{used, freeWhere}
+use Rattle.table.specs.Table.{Table, used}
+use Rattle.table.specs.Order.{reordered, closed}
+use Rattle.table.proofs.Order.{reordered-form}
 use Rattle.table.proofs.Counting.{count-le, Same-refl}
 use Rattle.scheme.specs.Labels.{Field, fieldLengthsBad}
 use Rattle.scheme.specs.Keys.{MT, ME, CL, MTof, MEof, CLof, findToken, findTokenLength, countToken, countTokenLength, findMT, findME, findCL}
-use Rattle.scheme.specs.Store.{Store, tableM, tableV, tableC, tableS, widthOf, cut, joined, putIn, sizesOf, headerBad, marksBad, stateTests, reverseId, reverseTag}
+use Rattle.scheme.specs.Store.{Which, Store, tableM, tableV, tableC, tableS, widthOf, cut, joined, putIn, sizesOf, headerBad, marksBad, formBad, markTests, stateTests, reverseId, reverseTag}
 use Rattle.scheme.specs.Reading
 use Rattle.scheme.specs.Reading.{Reading, reading, damaged, countOf}
 use Rattle.scheme.specs.Refusals.{Result, eraseInputTests, fieldTokenTests, tokenTests, lengthNot}
@@ -28,17 +30,25 @@ use Rattle.scheme.specs.Count
 use Rattle.scheme.specs.Count.{countVerdict, sumOfCounts}
 use Rattle.scheme.specs.Call
 use Rattle.scheme.specs.Call.{Call, Told}
-use Rattle.scheme.specs.Ledger.{Pair, Entry, Ledger, listed, removed, afterErase, ledgerLists, ledgerIds, ledgerSum, ledgerFindVerdict, ledgerStep}
-use Rattle.scheme.specs.Run.{findCall, countCall, Gives}
+use Rattle.scheme.specs.Ledger.{Pair, Entry, Ledger, H, listed, removed, afterErase, ledgerLists, ledgerIds, ledgerSum, ledgerFindVerdict, ledgerStep}
+use Rattle.scheme.specs.Run.{findCall, countCall, toldBy}
+use Rattle.scheme.specs.Order
+use Rattle.scheme.specs.Order.{usedInAll, orderVerdict, orderedStore}
 use Rattle.scheme.specs.Claim.{boundsOf}
 use Rattle.scheme.proofs.Once.{unseen-distinct}
 use Rattle.scheme.proofs.Setting.{Setting, OK, clOf}
-use Rattle.scheme.proofs.Shape.{free-where-ok, shaped-put, used-le, sizes-is, cut-joined, header-good, marks-is}
+use Rattle.scheme.proofs.Shape.{closed-ok, shaped-put, used-le, sizes-is, cut-joined, header-good, marks-is, form-is}
 use Rattle.scheme.proofs.Counters.{runOf, reading-is}
 use Rattle.scheme.proofs.Entries.{entries-as, ids-to, entries-erase, erase-count, erasedIn}
 use Rattle.scheme.proofs.LedgerLaws.{entry-removed, listed-removed}
-use Rattle.scheme.proofs.Simulation.{madeIn, listIn, logIn, Sim, later, counters-later, counters-as}
+use Rattle.scheme.proofs.Simulation.{madeIn, listIn, logIn, Sim, used-M, used-V, log-used, later, counters-later, counters-as}
 use Rattle.scheme.proofs.Verdicts.{orElse, verdict-append, or-none, passed, key-is, length-refused, map-upTo, none-upTo}
+
+-- a call gives its result
+pub record Gives (result : Result) (told : Told) (after : List ℕ) : Type 0 where
+  pub answer : told .answer ≡ result .answer
+  pub output : told .output ≡ result .output
+  pub store : after ≡ result .store
 
 module _ (x : Setting) where
   open Setting x using (suite, K, z, calls)
@@ -64,10 +74,13 @@ module _ (x : Setting) where
     marks-are : marksBad (cut before) ≡ false
     marks-are = ap (λ (b : List ℕ). marksBad (cut b)) (s .bytes) ∙ marks-is z (s .st) (s .shaped)
 
+    form-are : formBad (cut before) ≡ false
+    form-are = ap (λ (b : List ℕ). formBad (cut b)) (s .bytes) ∙ form-is z (s .st) (s .shaped)
+
     -- none of the tests that every call begins with refuses
     pub states-pass : (ts : List Test) → verdict (stateTests before ++ ts) ≡ verdict ts
     unfolding stateTests
-    states-pass ts = rw (header-is, marks-are) refl
+    states-pass ts = rw (header-is, marks-are, form-are) refl
 
     pub read-is : (pr : Pair) (ok : OK x pr)
         → reading suite (sizesOf before .c) (clOf x pr) (cut before .table tableC) ≡ Reading.counter (s .counters .pairs pr ok .B) (s .counters .pairs pr ok .start) (runOf x (logIn x (s .st .table tableS)) pr) (madeIn l pr)
@@ -77,6 +90,30 @@ module _ (x : Setting) where
         let c = count-le (same (clOf x pr)) (logIn x (s .st .table tableS)) in
         rw (sizes-are, cut-is)
         (reading-is x (s .st .table tableC) (logIn x (s .st .table tableS)) (l .A) i pr (madeIn l pr) (s .counters .pairs pr ok) (z .c) hi (omega arith) (omega arith))
+
+    -- ---- order: a store in form stays as it is
+
+    order-verdict : orderVerdict before ≡ none
+    unfolding orderVerdict markTests
+    order-verdict = rw (header-is, marks-are) refl
+
+    ordered-is : joined (orderedStore before) ≡ before
+    unfolding orderedStore
+    ordered-is =
+        ap (λ (st : Store). joined (record { header = st .header; table = λ k. reordered (widthOf k) (st .table k) })) cut-is
+        ∙ ap (λ (f : Which → Table). joined (record { header = s .st .header; table = f })) (fun-ext (λ k. reordered-form (widthOf k) (s .st .table k) (s .shaped .tables k .form)))
+        ∙ sym (s .bytes)
+
+    used-is : usedInAll (cut before) ≡ 2 * H l + l .A + 2 * l .W
+    unfolding usedInAll
+    used-is = rw cut-is (omega (arith, used-M x i before l s, used-V x i before l s, log-used x i before l s, s .counters .total, s .W-is))
+
+    pub order-step : After i Call.order l (toldBy (Order.order before)) (Order.order before .store)
+    unfolding ledgerStep Order.order
+    order-step = record {
+      told-is = rw (order-verdict, used-is) refl;
+      sim = rw (order-verdict, ordered-is) (later x i before l hi s);
+    }
 
     -- ---- erase
 
@@ -97,8 +134,8 @@ module _ (x : Setting) where
 
     abbrev erasedSt : List ℕ → Store
     erasedSt id =
-        putIn tableV (freeWhere (widthOf tableV) (λ b. same (reverseId b) id) (s .st .table tableV))
-        (putIn tableM (freeWhere (widthOf tableM) (erasedIn x (s .st .table tableV) id) (s .st .table tableM)) (s .st))
+        putIn tableV (closed (widthOf tableV) (λ b. same (reverseId b) id) (s .st .table tableV))
+        (putIn tableM (closed (widthOf tableM) (erasedIn x (s .st .table tableV) id) (s .st .table tableM)) (s .st))
 
     erased-store : (id : List ℕ) → erasedStore before id ≡ erasedSt id
     unfolding erasedStore
@@ -115,13 +152,13 @@ module _ (x : Setting) where
           st = erasedSt id;
           bytes = refl;
           shaped =
-              shaped-put z _ tableV _ (free-where-ok tableV (z .m) (λ b. same (reverseId b) id) (s .st .table tableV) (s .shaped .tables tableV))
-              (shaped-put z (s .st) tableM _ (free-where-ok tableM (z .m) (erasedIn x (s .st .table tableV) id) (s .st .table tableM) (s .shaped .tables tableM)) (s .shaped));
+              shaped-put z _ tableV _ (closed-ok tableV (z .m) (λ b. same (reverseId b) id) (s .st .table tableV) (s .shaped .tables tableV))
+              (shaped-put z (s .st) tableM _ (closed-ok tableM (z .m) (erasedIn x (s .st .table tableV) id) (s .st .table tableM) (s .shaped .tables tableM)) (s .shaped));
           counters = counters-as x (s .st .table tableC) (logIn x (s .st .table tableS)) (l .A) (suc i) (madeIn l) (madeIn (afterErase (boundsOf z) l id)) em
               (counters-later x (s .st .table tableC) (logIn x (s .st .table tableS)) (l .A) i (madeIn l) hi (s .counters));
           entries =
-              entries-as x (freeWhere (widthOf tableM) (erasedIn x (s .st .table tableV) id) (s .st .table tableM)) (freeWhere (widthOf tableV) (λ b. same (reverseId b) id) (s .st .table tableV))
-              (freeWhere (widthOf tableM) (erasedIn x (s .st .table tableV) id) (s .st .table tableM)) (freeWhere (widthOf tableV) (λ b. same (reverseId b) id) (s .st .table tableV))
+              entries-as x (closed (widthOf tableM) (erasedIn x (s .st .table tableV) id) (s .st .table tableM)) (closed (widthOf tableV) (λ b. same (reverseId b) id) (s .st .table tableV))
+              (closed (widthOf tableM) (erasedIn x (s .st .table tableV) id) (s .st .table tableM)) (closed (widthOf tableV) (λ b. same (reverseId b) id) (s .st .table tableV))
               (select (λ y. not (same y id)) (listed (l .entries))) (listed (map (removed id) (l .entries)))
               (λ q. select (λ y. not (same y id)) (listIn l q)) (listIn (afterErase (boundsOf z) l id)) (madeIn l) (madeIn (afterErase (boundsOf z) l id))
               refl refl (rw el (Same-refl (select (λ y. not (same y id)) (listed (l .entries))))) ei em

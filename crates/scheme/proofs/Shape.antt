@@ -1,18 +1,22 @@
--- A store whose rows have their widths and marks: cutting its bytes gives its tables back, and it is never refused by 10 or 11.
+-- A store whose rows have their widths and marks and whose tables are in form: cutting its bytes gives its tables back, and it is never
+-- refused by 10, 11 or 20.
 use Prim.Native.Nat.{ℕ, zero, suc, _+_, _*_, _-_, _/_, _%_, _≤_}
 use mathlib.Core.Path.{_≡_, refl, sym, ap, ap₂, subst, _∙_}
-use mathlib.Core.Bool.{Bool, false}
+use mathlib.Core.Bool.{Bool, false, not}
 use mathlib.Core.List.{List, [], _∷_, _++_}
 use native.Mathlib.Omega.{arith}
 use lib.Dec.{ltb}
 use lib.ListN.{length, getD, replicate, length-replicate, replicate-append-replicate}
 use borrow.Author.Tests.{le-ltb, eq-eqb}
 use Rattle.table.specs.Lists.{anyOf, All}
-use Rattle.table.specs.Table.{Row, Table, markOf, markBad, used, freeRows, zeroRow, freeAt, freeWhere, Placed, PlacedAll}
-use Rattle.table.proofs.Rows.{placed-none, placed-next, placed-all, placed-length, free-where-all, free-where-length, free-at-all, free-at-length, free-used, rows-zero, all-replicate}
+use Rattle.table.specs.Table.{Row, Table, markOf, markBad, used, freeRows, zeroRow}
+use Rattle.table.specs.Order.{inForm, closed}
+use Rattle.table.proofs.Rows.{free-used, rows-zero, all-replicate}
+use Rattle.table.proofs.Order.{InForm, true-form, filled-form}
+use Rattle.table.proofs.Arranging.{Added, AddedAll, added-form, added-length, added-all, added-next, added-none, closed-all, closed-length, closed-form}
 use Rattle.table.proofs.Counting.{all-map}
 use Rattle.answer.specs.Answer.{done}
-use Rattle.scheme.specs.Store.{Sizes, Which, plan, widthOf, rowsOf, greatestMark, headerLength, endFrom, sizesBad, lengthFor, headerOf, sizesOf, Store, cut, joinedFrom, joined, instead, putIn, headerBad, marksBad, fresh, makeTests, make}
+use Rattle.scheme.specs.Store.{Sizes, Which, plan, widthOf, rowsOf, greatestMark, headerLength, endFrom, sizesBad, lengthFor, headerOf, sizesOf, Store, cut, joinedFrom, joined, instead, putIn, headerBad, marksBad, formBad, fresh, makeTests, make}
 use Rattle.scheme.specs.Layout.{spanOf, Wide, Laid}
 use Rattle.scheme.proofs.Plan.{by-table, put-own, put-other, laid-length, grows, cut-laid}
 
@@ -24,25 +28,42 @@ pub record RowOK (k : Which) (r : Row) : Type 0 where
 pub record TableOK (k : Which) (n : ℕ) (t : Table) : Type 0 where
   pub all : All (RowOK k) t
   pub number : length t ≡ n
+  pub form : InForm (widthOf k) t
 
 zero-mark : (most w : ℕ) → ltb most (markOf (zeroRow w)) ≡ false
 zero-mark most zero = le-ltb most 0 (omega arith)
 zero-mark most (suc w) = le-ltb most 0 (omega arith)
 
-zero-ok : (k : Which) → RowOK k (zeroRow (widthOf k))
+pub zero-ok : (k : Which) → RowOK k (zeroRow (widthOf k))
 zero-ok k = record { width = length-replicate (widthOf k) 0; mark = zero-mark (greatestMark k) (widthOf k) }
 
-pub placed-ok : (k : Which) (n : ℕ) (t : Table) (row : Row) (t′ : Table) → Placed t row t′ → RowOK k row → TableOK k n t → TableOK k n t′
-placed-ok k n t row t′ p r a = record { all = placed-all (RowOK k) t row t′ p r (a .all); number = placed-length t row t′ p ∙ a .number }
+-- a row added to a table that may have gaps
+pub added-ok : (k : Which) (n : ℕ) (t : Table) (row : Row) (t′ : Table) → Added (widthOf k) t row t′ → RowOK k row → All (RowOK k) t → length t ≡ n → TableOK k n t′
+added-ok k n t row t′ p r a l = record {
+  all = added-all (widthOf k) t row t′ p (RowOK k) (zero-ok k) r a;
+  number = added-length (widthOf k) t row t′ p ∙ l;
+  form = added-form (widthOf k) t row t′ p;
+}
 
-pub free-where-ok : (k : Which) (n : ℕ) (q : List ℕ → Bool) (t : Table) → TableOK k n t → TableOK k n (freeWhere (widthOf k) q t)
-free-where-ok k n q t a = record { all = free-where-all (RowOK k) (widthOf k) q t (zero-ok k) (a .all); number = free-where-length (widthOf k) q t ∙ a .number }
+pub added-all-ok : (k : Which) (n : ℕ) (t : Table) (new : List Row) (t′ : Table) → AddedAll (widthOf k) t new t′ → All (RowOK k) new → TableOK k n t → TableOK k n t′
+added-all-ok k n t [] t′ p a ok = rw (added-none (widthOf k) t t′ p) ok
+added-all-ok k n t (row ∷ rest) t′ p a ok =
+    let q = added-next (widthOf k) t row rest t′ p in
+    added-all-ok k n (q .between) rest t′ (q .more) (a .1) (added-ok k n t row (q .between) (q .one) (a .0) (ok .all) (ok .number))
 
-pub free-at-ok : (k : Which) (n : ℕ) (is : List ℕ) (t : Table) → TableOK k n t → TableOK k n (freeAt (widthOf k) is t)
-free-at-ok k n is t a = record { all = free-at-all (RowOK k) (widthOf k) is t (zero-ok k) (a .all); number = free-at-length (widthOf k) is t ∙ a .number }
+pub closed-ok : (k : Which) (n : ℕ) (q : List ℕ → Bool) (t : Table) → TableOK k n t → TableOK k n (closed (widthOf k) q t)
+closed-ok k n q t a = record {
+  all = closed-all (widthOf k) q t (RowOK k) (zero-ok k) (a .all);
+  number = closed-length (widthOf k) q t ∙ a .number;
+  form = closed-form (widthOf k) q t;
+}
 
 zeros-ok : (k : Which) (n : ℕ) → TableOK k n (replicate n (zeroRow (widthOf k)))
-zeros-ok k n = record { all = all-replicate (RowOK k) n (zeroRow (widthOf k)) (zero-ok k); number = length-replicate n (zeroRow (widthOf k)) }
+zeros-ok k n = record {
+  all = all-replicate (RowOK k) n (zeroRow (widthOf k)) (zero-ok k);
+  number = length-replicate n (zeroRow (widthOf k));
+  form = filled-form (widthOf k) n [] tt tt;
+}
 
 -- used rows are at most the rows
 pub used-le : (k : Which) (n : ℕ) (t : Table) → TableOK k n t → length (used t) ≤ n
@@ -60,6 +81,10 @@ marks-good k n t a = go t (a .all)
     go : (t : Table) → All (RowOK k) t → markBad (greatestMark k) t ≡ false
     go [] a = refl
     go (r ∷ rs) a = rw (a .0 .mark) (go rs (a .1))
+
+no-table : (p : Which → Bool) → ((k : Which) → p k ≡ false) → (ks : List Which) → anyOf p ks ≡ false
+no-table p h [] = refl
+no-table p h (k ∷ ks) = rw (h k) (no-table p h ks)
 
 pub record Shaped (z : Sizes) (st : Store) : Type 0 where
   pub head : st .header ≡ headerOf z
@@ -107,10 +132,10 @@ module _ (z : Sizes) (st : Store) (s : Shaped z st) where
   pub marks-is : marksBad (cut (joined st)) ≡ false
   unfolding marksBad
   marks-is = rw cut-joined (no-table (λ k. markBad (greatestMark k) (st .table k)) (λ k. marks-good k (rowsOf z k) (st .table k) (s .tables k)) plan)
-    where
-      no-table : (p : Which → Bool) → ((k : Which) → p k ≡ false) → (ks : List Which) → anyOf p ks ≡ false
-      no-table p h [] = refl
-      no-table p h (k ∷ ks) = rw (h k) (no-table p h ks)
+
+  pub form-is : formBad (cut (joined st)) ≡ false
+  unfolding formBad
+  form-is = rw cut-joined (no-table (λ k. not (inForm (widthOf k) (st .table k))) (λ k. ap not (true-form (widthOf k) (st .table k) (s .tables k .form))) plan)
 
 -- the fresh store
 unfoldable pub freshStore : Sizes → Store
@@ -133,12 +158,6 @@ zeros-joined z a (k ∷ ks) =
 pub fresh-is : (z : Sizes) → fresh z ≡ joined (freshStore z)
 unfolding fresh joined freshStore lengthFor
 fresh-is z = ap (λ (l : List ℕ). headerOf z ++ l) (sym (zeros-joined z headerLength plan))
-
-pub placed-all-ok : (k : Which) (n : ℕ) (t : Table) (new : List Row) (t′ : Table) → PlacedAll t new t′ → All (RowOK k) new → TableOK k n t → TableOK k n t′
-placed-all-ok k n t [] t′ p a ok = rw (placed-none t t′ p) at ok
-placed-all-ok k n t (row ∷ rest) t′ p a ok =
-    let q = placed-next t row rest t′ p in
-    placed-all-ok k n (q .between) rest t′ (q .more) (a .1) (placed-ok k n t row (q .between) (q .one) (a .0) ok)
 
 -- making a store over a slice of its length gives the fresh store that the claim begins with
 pub make-fresh : (z : Sizes) (slice : List ℕ) → sizesBad z ≡ false → length slice ≡ lengthFor z → make z slice ≡ record { answer = done []; store = fresh z; output = [] }

@@ -2,22 +2,22 @@
 use Prim.Native.Nat.{ℕ, suc, _*_, _≤_}
 use mathlib.Core.Path.{_≡_, refl, ap}
 use mathlib.Core.Option.{none}
-use mathlib.Core.List.{List, []}
+use mathlib.Core.List.{List, [], map}
 use native.Mathlib.Omega.{arith}
-use lib.ListN.{length, replicate}
+use lib.ListN.{length, replicate, length-map}
 use Rattle.table.specs.Lists.{same, anyOf, distinct}
-use Rattle.table.specs.Table.{Table, lookup, zeroRow}
-use Rattle.table.proofs.Counting.{Same-refl}
+use Rattle.table.specs.Table.{Table, used, lookup, zeroRow}
+use Rattle.table.proofs.Counting.{Same-refl, same-length}
 use Rattle.table.proofs.Rows.{used-zero}
 use Rattle.scheme.specs.Keys.{KS}
-use Rattle.scheme.specs.Store.{Store, tableM, tableV, tableC, tableS, widthOf, joined, fresh}
+use Rattle.scheme.specs.Store.{Store, tableM, tableV, tableC, tableS, widthOf, joined, fresh, clIn}
 use Rattle.scheme.specs.Compaction.{logOf}
-use Rattle.scheme.specs.Ledger.{Pair, Ledger, samePair, entryOf, listed, empty}
+use Rattle.scheme.specs.Ledger.{Pair, Ledger, H, samePair, entryOf, listed, empty}
 use Rattle.scheme.specs.Premise.{Kind}
 use Rattle.scheme.proofs.Setting.{Setting, OK, clOf, ctag}
 use Rattle.scheme.proofs.Shape.{Shaped, freshStore, fresh-shaped, fresh-is}
 use Rattle.scheme.proofs.Counters.{PairCounter, Counters, unchanged}
-use Rattle.scheme.proofs.Entries.{Entries}
+use Rattle.scheme.proofs.Entries.{Item, Entries, itemM, itemV}
 
 abbrev pub madeIn : Ledger → Pair → ℕ
 madeIn l pr = entryOf pr (l .entries) .made
@@ -41,6 +41,30 @@ module _ (x : Setting) where
     pub W-is : l .W ≡ length (logIn (st .table tableS))
     pub T-length : length (l .T) ≡ length (distinct (logIn (st .table tableS)))
     pub T-member : (pr : Pair) → OK x pr → anyOf (samePair pr) (l .T) ≡ anyOf (λ y. same y (clOf x pr)) (logIn (st .table tableS))
+
+  -- how many rows are used in each table
+  module _ (i : ℕ) (store : List ℕ) (l : Ledger) (s : Sim i store l) where
+    pub used-M : length (used (s .st .table tableM)) ≡ H l
+    unfolding H
+    used-M =
+        let a = same-length (used (s .st .table tableM)) (map (itemM x) (s .entries .G)) (s .entries .rowsM) in
+        let b = same-length (listed (l .entries)) (map (λ (g : Item). g .id) (s .entries .G)) (s .entries .listing) in
+        let c = length-map (s .entries .G) (itemM x) in
+        let d = length-map (s .entries .G) (λ (g : Item). g .id) in
+        omega arith
+
+    pub used-V : length (used (s .st .table tableV)) ≡ H l
+    unfolding H
+    used-V =
+        let a = same-length (used (s .st .table tableV)) (map (itemV x) (s .entries .G)) (s .entries .rowsV) in
+        let b = same-length (listed (l .entries)) (map (λ (g : Item). g .id) (s .entries .G)) (s .entries .listing) in
+        let c = length-map (s .entries .G) (itemV x) in
+        let d = length-map (s .entries .G) (λ (g : Item). g .id) in
+        omega arith
+
+    pub log-used : length (logIn (s .st .table tableS)) ≡ length (used (s .st .table tableS))
+    unfolding logOf
+    log-used = length-map (used (s .st .table tableS)) (clIn suite (KS suite K))
 
   pub counters-later : (t : Table) (L : List (List ℕ)) (A i : ℕ) (made : Pair → ℕ) → i ≤ length calls → Counters x t L A i made → Counters x t L A (suc i) made
   counters-later t L A i made hi C = record {

@@ -11,16 +11,17 @@ use lib.Dec.{eqb}
 use lib.ListN.{length, getD, take, set}
 use borrow.Author.Tests.{eqb-true, eqb-false}
 use Rattle.table.specs.Lists.{same, select, count}
-use Rattle.table.specs.Table.{Row, Table, used, body, isFree, hasTag, lookup, holds, placeOf, zeroRow, freeAt, Placed}
+use Rattle.table.specs.Table.{Row, Table, used, body, hasTag, lookup, holds, placeOf, zeroRow, freeRows, freeAt}
 use Rattle.table.proofs.Counting.{same-true, ne-same, same-sym, count-select, count-split, count-ext, count-none, all-select, select-map, Same-select, same-length}
 use Rattle.table.proofs.Distinct.{without}
-use Rattle.table.proofs.Rows.{placed-same, free-at-none, Held, place-held, free-one-length, free-one-other, held-other}
-use Rattle.scheme.specs.Store.{tableC, widthOf, countedRow, anchorRow}
-use Rattle.scheme.specs.Compaction.{heldPlaces, Anchored, freedCounters, nextAnchor}
+use Rattle.table.proofs.Arranging.{Added, added-same}
+use Rattle.table.proofs.Rows.{free-used, free-at-length, free-at-none, Held, place-held, free-one-length, free-one-other, held-other}
+use Rattle.scheme.specs.Store.{tableC, widthOf, countedRow}
+use Rattle.scheme.specs.Compaction.{heldPlaces}
 use Rattle.scheme.specs.Ledger.{Pair}
 use Rattle.scheme.specs.Premise.{Kind, counter, anchor}
-use Rattle.scheme.proofs.Setting.{Setting, OK, clOf, ctag, ctags, cl-differ, tag-length, counted-used, counted-tag, numbers-found, counter≢anchor, by-pair}
-use Rattle.scheme.proofs.Counters.{runOf, PairCounter, Counters, unchanged, placed-pair, placed-number, placed-own, some-holds, same-holds}
+use Rattle.scheme.proofs.Setting.{Setting, OK, clOf, ctag, ctags, cl-differ, tag-length, counted-tag, numbers-found, counter≢anchor, by-pair}
+use Rattle.scheme.proofs.Counters.{runOf, PairCounter, Counters, unchanged, added-pair, added-number, added-own, some-holds, same-holds}
 
 module _ (x : Setting) (pr : Pair) (ok : OK x pr) (t : Table) where
   open Setting x using (suite, K, z, calls, premise)
@@ -97,8 +98,23 @@ module _ (x : Setting) where
   -- ---- the treatment
 
   module _ (t : Table) (L : List (List ℕ)) (A i : ℕ) (made : Pair → ℕ) (C : Counters x t L A i made) (hi : i ≤ length calls)
+      (pr : Pair) (ok : OK x pr) (some-run : 0 < runOf x L pr) where
+    free : Freed x pr ok t (C .pairs pr ok .start) (runOf x L pr) t
+    free =
+        let c = C .pairs pr ok .position-calls in
+        freed x pr ok t (C .pairs pr ok .start) (runOf x L pr) t (omega arith)
+        (λ a l u. place-held (ctag x pr counter a) t (C .pairs pr ok .counters-held a l u))
+
+    -- the freed rows leave room for the anchor
+    pub anchor-room : 1 ≤ freeRows (freeAt (widthOf tableC) (heldPlaces suite (clOf x pr) t (C .pairs pr ok .start) (runOf x L pr)) t)
+    anchor-room =
+        let is = heldPlaces suite (clOf x pr) t (C .pairs pr ok .start) (runOf x L pr) in
+        omega (arith, free .fewer, free-used t, free-used (freeAt (widthOf tableC) is t), free-at-length (widthOf tableC) is t)
+
+  module _ (t : Table) (L : List (List ℕ)) (A i : ℕ) (made : Pair → ℕ) (C : Counters x t L A i made) (hi : i ≤ length calls)
       (pr : Pair) (ok : OK x pr) (some-run : 0 < runOf x L pr) (nonce : List ℕ) (hn : length nonce ≡ 12) (t′ : Table)
-      (done : Anchored suite (clOf x pr) nonce t (C .pairs pr ok .B) (C .pairs pr ok .start) (runOf x L pr) (made pr) t′) where
+      (added : Added (widthOf tableC) (freeAt (widthOf tableC) (heldPlaces suite (clOf x pr) t (C .pairs pr ok .start) (runOf x L pr)) t)
+      (countedRow suite (clOf x pr) (ctag x pr anchor (C .pairs pr ok .B + 1)) nonce (C .pairs pr ok .start + runOf x L pr) (made pr)) t′) where
     abbrev P : PairCounter x t L A i pr (made pr)
     P = C .pairs pr ok
 
@@ -108,18 +124,8 @@ module _ (x : Setting) where
     abbrev row : Row
     row = countedRow suite (clOf x pr) (ctag x pr anchor (P .B + 1)) nonce (P .start + runOf x L pr) (made pr)
 
-    placed : Placed t₁ row t′
-    unfolding anchorRow freedCounters nextAnchor
-    placed = done .placed
-
-    free : Freed x pr ok t (P .start) (runOf x L pr) t
-    free =
-        let c = P .position-calls in
-        freed x pr ok t (P .start) (runOf x L pr) t (omega arith)
-        (λ a l u. place-held (ctag x pr counter a) t (P .counters-held a l u))
-
-    busy : isFree row ≡ false
-    busy = counted-used suite (clOf x pr) (ctag x pr anchor (P .B + 1)) nonce (P .start + runOf x L pr) (made pr)
+    abbrev others : (tag : List ℕ) → ((a : ℕ) → P .start < a → a ≤ P .start + runOf x L pr → ctag x pr counter a ≡ tag → ⊥) → lookup tag t₁ ≡ lookup tag t
+    others = free t L A i made C hi pr ok some-run .others
 
     row-tag : take 32 (body row) ≡ ctag x pr anchor (P .B + 1)
     row-tag = counted-tag suite (clOf x pr) (ctag x pr anchor (P .B + 1)) nonce (P .start + runOf x L pr) (made pr) (tag-length suite (clOf x pr) anchor (P .B + 1))
@@ -139,8 +145,8 @@ module _ (x : Setting) where
         let ml = P .made-limit in
         let at : lookup (ctag x pr anchor (P .B + 1)) t₁ ≡ none =
         free-at-none (ctag x pr anchor (P .B + 1)) (widthOf tableC) (heldPlaces suite (clOf x pr) t (P .start) (runOf x L pr)) t (P .anchors-none (P .B + 1) (omega arith) high) in
-        let found : lookup (ctag x pr anchor (P .B + 1)) t′ ≡ some (body row) = placed-own x t₁ pr anchor (P .B + 1) row t′ ok placed busy row-tag low high at in
-        let other = placed-number x t₁ pr anchor (P .B + 1) row t′ ok placed busy row-tag low high in
+        let found : lookup (ctag x pr anchor (P .B + 1)) t′ ≡ some (body row) = added-own x t₁ pr anchor (P .B + 1) row t′ ok added row-tag low high at in
+        let other = added-number x t₁ pr anchor (P .B + 1) row t′ ok added row-tag low high in
         record {
           B = P .B + 1;
           start = P .start + runOf x L pr;
@@ -177,7 +183,7 @@ module _ (x : Setting) where
             let s = C .pairs pr ok .anchors-start in
             same-holds (ctag x pr anchor b) t′ t
             (other anchor b l (omega arith) (λ k. ne)
-            ∙ free .others (ctag x pr anchor b) (λ a la ua q. counter≢anchor (ctags x pr pr counter anchor a b ok ok (omega arith) (omega arith) l (omega arith) q .kind)))
+            ∙ others (ctag x pr anchor b) (λ a la ua q. counter≢anchor (ctags x pr pr counter anchor a b ok ok (omega arith) (omega arith) l (omega arith) q .kind)))
             ∙ C .pairs pr ok .anchors-held b l w
 
     pub counters-treat : Counters x t′ (without (clOf x pr) L) (A + 1) i made
@@ -191,10 +197,10 @@ module _ (x : Setting) where
             ∙ ap (count p) (select-map (clOf x) (λ y. not (same y (clOf x pr))) (C .log));
       };
       total =
-          let a = same-length (used t′) (body row ∷ used t₁) (placed-same t₁ row t′ placed busy) in
+          let a = same-length (used t′) (body row ∷ used t₁) (added-same (widthOf tableC) t₁ row t′ added) in
           let b = without-length L pr in
           let c = C .total in
-          let f = free .fewer in
+          let f = free t L A i made C hi pr ok some-run .fewer in
           omega arith;
     }
       where
@@ -203,6 +209,6 @@ module _ (x : Setting) where
             let c = C .pairs pr ok .position-calls in
             unchanged x t t′ L (without (clOf x pr) L) A (A + 1) i i q (made q)
             (λ h a l u.
-            placed-pair x t₁ pr anchor (P .B + 1) row t′ ok placed busy row-tag low high q oq ne h a l u
-            ∙ free .others (ctag x q h a) (λ b lb ub w. ne (sym (ctags x pr q counter h b a ok oq (omega arith) (omega arith) l u w .pair))))
+            added-pair x t₁ pr anchor (P .B + 1) row t′ ok added row-tag low high q oq ne h a l u
+            ∙ others (ctag x q h a) (λ b lb ub w. ne (sym (ctags x pr q counter h b a ok oq (omega arith) (omega arith) l u w .pair))))
             (run-without L pr q ok oq ne) (omega arith) (omega arith) (omega arith) (C .pairs q oq)

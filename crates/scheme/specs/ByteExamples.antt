@@ -6,10 +6,11 @@ use Rattle.table.specs.Lists.{flat}
 use Rattle.scheme.specs.Suite.{Suite, number8, valueOf}
 use Rattle.scheme.specs.Labels.{Field}
 use Rattle.scheme.specs.Keys.{KM, KC, KS, MT, ME, CL, CT, CE, insertToken, findToken, countToken, compactionToken, tokenP, tokenMT, tokenME, tokenCL, tokenLog, findMT, findME, findCL}
-use Rattle.scheme.specs.Store.{Sizes, Which, tableM, tableV, tableC, tableS, headerOf, sizesOf, startOf, lengthFor, cut, fresh, make, entryTag, entryRow, reverseRow, counterTag, anchorTag, counterRow, anchorRow, idIn, plainIn, clIn, logRow, reverseId, reverseTag}
+use Rattle.scheme.specs.Store.{Sizes, tableM, tableV, tableC, tableS, headerOf, sizesOf, startOf, lengthFor, cut, fresh, make, entryTag, entryRow, reverseRow, counterTag, anchorTag, counterRow, anchorRow, idIn, plainIn, clIn, logRow, reverseId, reverseTag}
 use Rattle.scheme.specs.Layout.{spanOf}
 use Rattle.scheme.specs.Erase.{erase}
-use Rattle.scheme.specs.Lowest.{insertLowest}
+use Rattle.scheme.specs.Insert.{insert}
+use Rattle.scheme.specs.Order.{order}
 use Rattle.scheme.specs.Example.{Equation, _is_, Case, _gives_, fieldOf, zeros, places, eight, number}
 
 -- the field of L2, and its label x
@@ -175,10 +176,11 @@ module _ (suite : Suite) where
   abbrev pub newS : List ℕ
   newS = 1 ∷ places 97 44
 
-  -- ids 1 to 16 and 17 to 32; nonces 1 to 12 and 13 to 24 for them, 25 to 36 for the counter
+  -- ids 1 to 16 and 17 to 32; nonces 1 to 12 and 13 to 24 for them, 25 to 36 for the counter. In the suite that computes F grows with the
+  -- number, so that address 1 comes first
   abbrev pub insertBytes : List Equation
   insertBytes =
-      (insertLowest suite (roomForTwo ++ zeros 326) (places 1 32) (places 1 36) (places 0 141) .store is
+      (insert suite (roomForTwo ++ zeros 326) (places 1 32) (places 1 36) (places 0 141) .store is
       (roomForTwo
       ++ (flat (newM 1 1 1 ∷ newM 2 13 17 ∷ [])
       ++ (flat (newV 1 1 ∷ newV 2 17 ∷ [])
@@ -193,21 +195,47 @@ markedM mark tag = mark ∷ places tag 32 ++ places 5 28
 abbrev pub markedV : ℕ → ℕ → ℕ → List ℕ
 markedV mark id tag = mark ∷ places id 16 ++ places tag 32
 
--- the id's V rows are the first and the third, with tags that three M rows have; a free row is not read, and keeps its bytes
--- [01:OP4 OP5 ST5 ST14]
+-- the id's V rows are the second and the third, with tags that three M rows have [01:OP4 OP5 ST5 ST14]; the rows left close up [02:W2.4]
 abbrev pub beforeErase : List ℕ
 beforeErase =
     1 ∷ 0 ∷ 0 ∷ 5 ∷ 0 ∷ 1 ∷ 0 ∷ 1 ∷ []
-    ++ (markedM 1 40 ++ (markedM 1 20 ++ (markedM 0 30 ++ (markedM 1 30 ++ (markedM 1 20
-    ++ (markedV 1 9 30 ++ (markedV 1 8 40 ++ (markedV 1 9 20 ++ (markedV 0 9 40 ++ (zeros 49
+    ++ (markedM 1 20 ++ (markedM 1 20 ++ (markedM 1 30 ++ (markedM 1 40 ++ (zeros 61
+    ++ (markedV 1 8 40 ++ (markedV 1 9 20 ++ (markedV 1 9 30 ++ (zeros 49 ++ (zeros 49
     ++ (places 1 61 ++ places 1 45)))))))))))
 
 abbrev pub afterErase : List ℕ
 afterErase =
     1 ∷ 0 ∷ 0 ∷ 5 ∷ 0 ∷ 1 ∷ 0 ∷ 1 ∷ []
-    ++ (markedM 1 40 ++ (zeros 61 ++ (markedM 0 30 ++ (zeros 61 ++ (zeros 61
-    ++ (zeros 49 ++ (markedV 1 8 40 ++ (zeros 49 ++ (markedV 0 9 40 ++ (zeros 49
+    ++ (markedM 1 40 ++ (zeros 61 ++ (zeros 61 ++ (zeros 61 ++ (zeros 61
+    ++ (markedV 1 8 40 ++ (zeros 49 ++ (zeros 49 ++ (zeros 49 ++ (zeros 49
     ++ (places 1 61 ++ places 1 45)))))))))))
+
+-- ---- a store put in form
+
+-- in M a used row after a free one, in V equal rows and one that is less by its last byte, in C a free row with bytes, in S two rows that
+-- differ first at a byte of 0x80 and of 0x7f [02:W2.6 W2.7]
+abbrev pub beforeOrder : List ℕ
+beforeOrder =
+    1 ∷ 0 ∷ 0 ∷ 3 ∷ 0 ∷ 1 ∷ 0 ∷ 2 ∷ []
+    ++ (markedM 1 40 ++ (markedM 0 10 ++ (markedM 1 20
+    ++ (markedV 1 9 30 ++ (markedV 1 9 30 ++ ((1 ∷ places 9 16 ++ (places 30 31 ++ (1 ∷ [])))
+    ++ ((0 ∷ places 1 60)
+    ++ ((1 ∷ places 5 10 ++ (0x80 ∷ zeros 33)) ++ (1 ∷ places 5 10 ++ (0x7f ∷ places 9 33))))))))))
+
+abbrev pub afterOrder : List ℕ
+afterOrder =
+    1 ∷ 0 ∷ 0 ∷ 3 ∷ 0 ∷ 1 ∷ 0 ∷ 2 ∷ []
+    ++ (markedM 1 20 ++ (markedM 1 40 ++ (zeros 61
+    ++ ((1 ∷ places 9 16 ++ (places 30 31 ++ (1 ∷ []))) ++ (markedV 1 9 30 ++ (markedV 1 9 30
+    ++ (zeros 61
+    ++ ((1 ∷ places 5 10 ++ (0x7f ∷ places 9 33)) ++ (1 ∷ places 5 10 ++ (0x80 ∷ zeros 33))))))))))
+
+abbrev pub orderBytes : List Equation
+orderBytes =
+    (order beforeOrder .store is afterOrder)
+    ∷ (order afterOrder .store is afterOrder)
+    ∷ (order (2 ∷ beforeOrder) .store is (2 ∷ beforeOrder))
+    ∷ []
 
 abbrev pub eraseBytes : List Equation
 eraseBytes =
@@ -217,8 +245,13 @@ eraseBytes =
     ∷ []
 
 abbrev pub eraseCases : List Case
-eraseCases = (erase beforeErase (places 9 16) .answer gives number 2) ∷ (erase beforeErase (places 10 16) .answer gives number 0) ∷ []
+eraseCases =
+    (erase beforeErase (places 9 16) .answer gives number 2)
+    ∷ (erase beforeErase (places 10 16) .answer gives number 0)
+    ∷ (order beforeOrder .answer gives number 7)
+    ∷ (order afterOrder .answer gives number 7)
+    ∷ []
 
 abbrev pub byteEquations : Suite → List ℕ → List ℕ → List ℕ → List ℕ → List Equation
 byteEquations suite k l nonce id =
-    numberBytes ++ (keyBytes suite k l nonce id ++ (rowBytes suite k l nonce id ++ (storeBytes ++ (insertBytes suite ++ eraseBytes))))
+    numberBytes ++ (keyBytes suite k l nonce id ++ (rowBytes suite k l nonce id ++ (storeBytes ++ (eraseBytes ++ orderBytes))))

@@ -11,6 +11,7 @@ pub data Call : Type 0 where
   find : (key : List ℕ) (f : Field) (output : List ℕ) → Call
   count : (key : List ℕ) (f : Field) → Call
   compact : (key nonces : List ℕ) → Call
+  order : Call
 
 -- the answer, or the refusal's number with what it carries, and a find's whole output slice; no row bytes [01:LG14 LG15]
 pub record Told : Type 0 where

@@ -1,19 +1,20 @@
--- Document 01, "Operations": compaction. A relation for the row placing alone.
+-- Document 01, "Operations": compaction.
 use Prim.Native.Nat.{ℕ, zero, suc, _+_, _/_}
-use mathlib.Core.Path.{_≡_}
-use mathlib.Core.Option.{Option, none, some}
+use mathlib.Core.Option.{Option}
 use mathlib.Core.List.{List, [], _∷_, _++_, map}
 use lib.Dec.{ltb}
 use lib.ListN.{length, take, drop}
 use Rattle.table.specs.Lists.{same, distinct}
-use Rattle.table.specs.Table.{Row, Table, used, placeOf, freeAt, freeWhere, Placed}
+use Rattle.table.specs.Table.{Row, Table, used, placeOf, freeAt}
+use Rattle.table.specs.Order.{withRows, closed}
 use Rattle.answer.specs.Answer.{Answer, done, refused}
 use Rattle.scheme.specs.Suite.{Suite}
 use Rattle.scheme.specs.Keys.{compactionTokenLength}
 use Rattle.scheme.specs.Store.{Store, tableC, tableS, widthOf, sizesOf, cut, joined, putIn, stateTests, counterTag, anchorRow, clIn}
-use Rattle.scheme.specs.Reading.{damage, counter, reading}
-use Rattle.scheme.specs.Refusals.{compactionInputTests, tokenTests}
-use Rattle.answer.specs.Verdict.{_⇒_, verdict}
+use Rattle.scheme.specs.Reading
+use Rattle.scheme.specs.Reading.{Reading, damage, reading}
+use Rattle.scheme.specs.Refusals.{Result, compactionInputTests, tokenTests}
+use Rattle.answer.specs.Verdict.{_⇒_, verdict, answerOr, unlessRefused}
 
 module _ (suite : Suite) where
   -- the places of the rows held as counters start + 1 to start + k [01:OP11]
@@ -21,40 +22,43 @@ module _ (suite : Suite) where
   heldPlaces cl t start zero = []
   heldPlaces cl t start (suc k) = placeOf (counterTag suite cl (suc start)) t ∷ heldPlaces cl t (suc start) k
 
-  -- one CL with k > 0: those rows are freed, anchor B + 1 is written with position and count [01:OP11]
+  -- one CL with k > 0: those rows are freed, anchor B + 1 is written with position and count [01:OP11]; the table is in form again [02:W2.4]
   unfoldable pub freedCounters : List ℕ → Table → ℕ → ℕ → Table
   freedCounters cl t start k = freeAt (widthOf tableC) (heldPlaces cl t start k) t
 
   unfoldable pub nextAnchor : List ℕ → List ℕ → ℕ → ℕ → ℕ → ℕ → Row
   nextAnchor cl nonce B start k n = anchorRow suite cl (B + 1) nonce (start + k) n
 
-  pub record Anchored (cl nonce : List ℕ) (t : Table) (B start k n : ℕ) (after : Table) : Type 0 where
-    pub placed : Placed (freedCounters cl t start k) (nextAnchor cl nonce B start k n) after
+  unfoldable pub anchoredTable : List ℕ → List ℕ → Table → ℕ → ℕ → ℕ → ℕ → Table
+  anchoredTable cl nonce t B start k n = withRows (widthOf tableC) (nextAnchor cl nonce B start k n ∷ []) (freedCounters cl t start k)
 
   -- the CL in the used S rows, in order [01:ST12]
   unfoldable pub logOf : List ℕ → Table → List (List ℕ)
   logOf ks t = map (clIn suite ks) (used t)
 
-  -- all S rows of a CL are freed [01:OP12]
+  -- all S rows of a CL are freed [01:OP12], and the others close up [02:W2.4]
   unfoldable pub freeLog : List ℕ → List ℕ → Table → Table
-  freeLog ks cl t = freeWhere (widthOf tableS) (λ b. same (clIn suite ks b) cl) t
+  freeLog ks cl t = closed (widthOf tableS) (λ b. same (clIn suite ks b) cl) t
 
--- CL after CL, from tables C and S with the nonces left and the numbers so far, to the answer and the tables after it:
--- damage stops it and carries the numbers so far [01:RS13]; with k = 0 nothing is written and no nonce is used [01:OP11]
-pub data Treats (suite : Suite) (c : ℕ) (ks : List ℕ) : List (List ℕ) → Table → Table → List ℕ → ℕ → ℕ → Answer → Table → Table → Type 0 where
-  finished : {tC tS : Table} {nonces : List ℕ} {anchors counters : ℕ} → Treats suite c ks [] tC tS nonces anchors counters (done (anchors ∷ counters ∷ [])) tC tS
-  stopped : {cl : List ℕ} {cls : List (List ℕ)} {tC tS : Table} {nonces : List ℕ} {anchors counters : ℕ}
-      → reading suite c cl tC ≡ damage
-      → Treats suite c ks (cl ∷ cls) tC tS nonces anchors counters (refused 13 (anchors ∷ counters ∷ [])) tC tS
-  skipped : {cl : List ℕ} {cls : List (List ℕ)} {tC tS : Table} {nonces : List ℕ} {anchors counters : ℕ} {answer : Answer} {tC′ tS′ : Table} {B start n : ℕ}
-      → reading suite c cl tC ≡ counter B start zero n
-      → Treats suite c ks cls tC (freeLog suite ks cl tS) nonces anchors counters answer tC′ tS′
-      → Treats suite c ks (cl ∷ cls) tC tS nonces anchors counters answer tC′ tS′
-  anchored : {cl : List ℕ} {cls : List (List ℕ)} {tC tS : Table} {nonces : List ℕ} {anchors counters : ℕ} {answer : Answer} {tC′ tS′ : Table} {B start k n : ℕ} {tC₁ : Table}
-      → reading suite c cl tC ≡ counter B start (suc k) n
-      → Anchored suite cl (take 12 nonces) tC B start (suc k) n tC₁
-      → Treats suite c ks cls tC₁ (freeLog suite ks cl tS) (drop 12 nonces) (anchors + 1) (counters + suc k) answer tC′ tS′
-      → Treats suite c ks (cl ∷ cls) tC tS nonces anchors counters answer tC′ tS′
+-- the answer and the tables C and S after it
+pub record Treated : Type 0 where
+  pub answer : Answer
+  pub tC : Table
+  pub tS : Table
+
+-- one CL, by its reading, from tables C and S with the nonces left and the numbers so far, and then the rest: damage stops it and carries
+-- the numbers so far [01:RS13]; with k = 0 nothing is written and no nonce is used [01:OP11]
+abbrev pub byReading : Suite → List ℕ → List ℕ → Table → Table → List ℕ → ℕ → ℕ → Reading → (Table → Table → List ℕ → ℕ → ℕ → Treated) → Treated
+byReading suite ks cl tC tS nonces a w damage rest = record { answer = refused 13 (a ∷ w ∷ []); tC = tC; tS = tS }
+byReading suite ks cl tC tS nonces a w (Reading.counter B start zero n) rest = rest tC (freeLog suite ks cl tS) nonces a w
+byReading suite ks cl tC tS nonces a w (Reading.counter B start (suc k) n) rest =
+    rest (anchoredTable suite cl (take 12 nonces) tC B start (suc k) n) (freeLog suite ks cl tS) (drop 12 nonces) (a + 1) (w + suc k)
+
+-- CL after CL
+abbrev pub treatAll : Suite → ℕ → List ℕ → List (List ℕ) → Table → Table → List ℕ → ℕ → ℕ → Treated
+treatAll suite c ks [] tC tS nonces a w = record { answer = done (a ∷ w ∷ []); tC = tC; tS = tS }
+treatAll suite c ks (cl ∷ cls) tC tS nonces a w =
+    byReading suite ks cl tC tS nonces a w (reading suite c cl tC) (λ tC tS nonces a w. treatAll suite c ks cls tC tS nonces a w)
 
 -- distinct CL of S in order of first row [01:OP10]
 unfoldable pub logged : Suite → List ℕ → List ℕ → List (List ℕ)
@@ -65,20 +69,19 @@ unfoldable pub compactedStore : List ℕ → Table → Table → Store
 compactedStore before tC tS = putIn tableS tS (putIn tableC tC (cut before))
 
 module _ (suite : Suite) (before nonces token : List ℕ) where
-  -- 4 and 6, then 10 and 11, then 19 [01:RI5 RI7 RS5]
+  -- 4 and 6, then 10, 11 and 20, then 19 [01:RI5 RI7 RS5]
   unfoldable pub compactVerdict : Option Answer
   compactVerdict = verdict (compactionInputTests nonces ++ (tokenTests compactionTokenLength token ++ (stateTests before ++
       ((ltb (length nonces / 12) (length (used (cut before .table tableS))) ⇒ 19)
       ∷ []))))
 
-  -- answer: anchors written, counters freed [01:OP13]
-  pub record Compacted (answer : Answer) (after : List ℕ) : Type 0 where
-    pub tC′ : Table
-    pub tS′ : Table
-    pub treats : Treats suite (sizesOf before .c) token (logged suite before token) (cut before .table tableC) (cut before .table tableS) nonces 0 0 answer tC′ tS′
-    pub written : after ≡ joined (compactedStore before tC′ tS′)
+  unfoldable pub treated : Treated
+  treated = treatAll suite (sizesOf before .c) token (logged suite before token) (cut before .table tableC) (cut before .table tableS) nonces 0 0
 
-  -- a refusal changes no byte, except 13, which Treats tells [01:RS13]
-  pub record Compact (answer : Answer) (after : List ℕ) : Type 0 where
-    pub kept : (r : Answer) → compactVerdict ≡ some r → (answer ≡ r) × (after ≡ before)
-    pub wrote : compactVerdict ≡ none → Compacted answer after
+  -- answer: anchors written, counters freed [01:OP13]; a refusal changes no byte, except 13, which is among the treatment's answers [01:RS13]
+  unfoldable pub compact : Result
+  compact = record {
+    answer = answerOr compactVerdict (treated .answer);
+    store = unlessRefused compactVerdict (joined (compactedStore before (treated .tC) (treated .tS))) before;
+    output = [];
+  }

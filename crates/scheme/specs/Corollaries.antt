@@ -5,26 +5,28 @@ use mathlib.Core.Bool.{Bool, true, false, not}
 use mathlib.Core.List.{List, [], _∷_, _++_, map, List·Memᴰ}
 use lib.ListN.{length, getD, drop}
 use Rattle.answer.specs.Answer.{Answer, done, refused}
-use Rattle.table.specs.Lists.{same, select, flat, All}
+use mathlib.Core.Option.{none}
+use Rattle.answer.specs.Verdict.{verdict}
+use Rattle.table.specs.Lists.{same, select, flat, All, Same}
+use Rattle.table.specs.Order.{usedRows}
 use Rattle.scheme.specs.Suite.{Suite}
 use Rattle.scheme.specs.Labels.{Field}
-use Rattle.scheme.specs.Store.{Sizes, sizesBad, fresh}
+use Rattle.scheme.specs.Store.{Sizes, Which, rowsOf, sizesBad, sizesOf, cut, stateTests, fresh}
 use Rattle.scheme.specs.Refusals.{idsIn}
 use Rattle.scheme.specs.Call
 use Rattle.scheme.specs.Call.{Call, Told}
-use Rattle.scheme.specs.Run.{Run}
+use Rattle.scheme.specs.Run.{storeTells, storeAfter}
 use Rattle.scheme.specs.Premise.{Premise, KeyFits}
 use Rattle.scheme.specs.Ledger.{empty, ledgerLists, ledgerAfter}
 use Rattle.scheme.specs.Claim.{boundsOf}
 
 -- a list of calls that ran from a fresh store, and what it told
 pub record Ran (suite : Suite) (K : List ℕ) (z : Sizes) (calls : List Call) (told : List Told) : Type 0 where
-  pub after : List ℕ
   pub key-length : length K ≡ 32
   pub sizes : sizesBad z ≡ false
   pub keys : All (KeyFits K) calls
   pub premise : Premise suite K (z .p) calls
-  pub run : Run suite calls (fresh z) told after
+  pub run : told ≡ storeTells suite calls (fresh z)
 
 -- what the call of an index told
 abbrev pub toldAt : List Told → ℕ → Told
@@ -54,6 +56,7 @@ Keeps id (Call.erase other) = other ≡ id → ⊥
 Keeps id (Call.find key f output) = Unit {0}
 Keeps id (Call.count key f) = Unit {0}
 Keeps id (Call.compact key nonces) = Unit {0}
+Keeps id Call.order = Unit {0}
 
 -- (a) no id is lost: one of an accepted insert that no later erase names is in every later accepted find of its field and value
 unfoldable pub NoIdLost : Suite → Type 0
@@ -107,6 +110,7 @@ BringsNot id (Call.erase other) = Unit {0}
 BringsNot id (Call.find key f output) = Unit {0}
 BringsNot id (Call.count key f) = Unit {0}
 BringsNot id (Call.compact key nonces) = Unit {0}
+BringsNot id Call.order = Unit {0}
 
 pub record FindsNoId (t : Told) (lent id : List ℕ) : Type 0 where
   pub found : List (List ℕ)
@@ -149,7 +153,7 @@ pub record Made : Type 0 where
   pub client : ℕ
   pub call : Call
 
--- (d) the answers do not depend on which client makes a call, nor on the row placing
+-- (d) the answers do not depend on which client makes a call
 unfoldable pub ClientsAlike : Suite → Type 0
 ClientsAlike suite =
     (K : List ℕ) (z : Sizes) (calls calls′ : List Made) (told told′ : List Told)
@@ -157,3 +161,22 @@ ClientsAlike suite =
     → Ran suite K z (map (λ (m : Made). m .call) calls) told
     → Ran suite K z (map (λ (m : Made). m .call) calls′) told′
     → told ≡ told′
+
+-- (f) each table's rows, repeats counted, fix that table's bytes: in any two stores that 10, 11 and 20 let pass [02:W2.5]
+unfoldable pub RowsFixTable : Type 0
+RowsFixTable =
+    (b b′ : List ℕ) (k : Which)
+    → verdict (stateTests b) ≡ none
+    → verdict (stateTests b′) ≡ none
+    → rowsOf (sizesOf b) k ≡ rowsOf (sizesOf b′) k
+    → Same (usedRows (cut b .table k)) (usedRows (cut b′ .table k))
+    → cut b .table k ≡ cut b′ .table k
+
+-- (f) so two histories that leave the same rows leave the same bytes, whatever calls, keys and nonces they had [02:W2.5]
+unfoldable pub RowsFixStore : Suite → Type 0
+RowsFixStore suite =
+    (K K′ : List ℕ) (z : Sizes) (calls calls′ : List Call) (told told′ : List Told)
+    → Ran suite K z calls told
+    → Ran suite K′ z calls′ told′
+    → ((k : Which) → Same (usedRows (cut (storeAfter suite calls (fresh z)) .table k)) (usedRows (cut (storeAfter suite calls′ (fresh z)) .table k)))
+    → storeAfter suite calls (fresh z) ≡ storeAfter suite calls′ (fresh z)

@@ -13,7 +13,7 @@ use Rattle.answer.specs.Verdict.{_⇒_, verdict, answerOr}
 use Rattle.scheme.specs.Find.{shareReading}
 
 module _ (suite : Suite) (before token : List ℕ) where
-  -- 6, then 10 and 11, then 13 with every share read first [01:RI7 RS6]
+  -- 6, then 10, 11 and 20, then 13 with every share read first [01:RI7 RS6]
   unfoldable pub countVerdict : Option Answer
   countVerdict = verdict (tokenTests countTokenLength token ++ (stateTests before ++
       ((anyOf (λ u. damaged (shareReading suite before token u)) (upTo (sizesOf before .p)) ⇒ 13)

@@ -5,14 +5,15 @@ use mathlib.Core.Option.{Option}
 use mathlib.Core.List.{List, [], _∷_, _++_, map}
 use lib.ListN.{take}
 use Rattle.table.specs.Lists.{same, select, count, anyOf}
-use Rattle.table.specs.Table.{used, freeWhere}
+use Rattle.table.specs.Table.{used}
+use Rattle.table.specs.Order.{closed}
 use Rattle.answer.specs.Answer.{Answer, done}
 use Rattle.scheme.specs.Store.{Store, tableM, tableV, widthOf, cut, joined, putIn, stateTests, reverseId, reverseTag}
 use Rattle.scheme.specs.Refusals.{Result, eraseInputTests}
 use Rattle.answer.specs.Verdict.{verdict, answerOr, unlessRefused}
 
 module _ (before id : List ℕ) where
-  -- 5, then 10 and 11 [01:RI6]
+  -- 5, then 10, 11 and 20 [01:RI6]
   unfoldable pub eraseVerdict : Option Answer
   eraseVerdict = verdict (eraseInputTests id ++ stateTests before)
 
@@ -26,11 +27,11 @@ module _ (before id : List ℕ) where
   unfoldable pub isErased : List ℕ → Bool
   isErased b = anyOf (same (take 32 b)) erasedTags
 
-  -- frees all the id's V rows and each M row with a tag of theirs [01:OP4]
+  -- frees all the id's V rows and each M row with a tag of theirs [01:OP4]; the rows left close up [02:W2.4]
   unfoldable pub erasedStore : Store
   erasedStore =
-      putIn tableV (freeWhere (widthOf tableV) isReverse (cut before .table tableV))
-      (putIn tableM (freeWhere (widthOf tableM) isErased (cut before .table tableM)) (cut before))
+      putIn tableV (closed (widthOf tableV) isReverse (cut before .table tableV))
+      (putIn tableM (closed (widthOf tableM) isErased (cut before .table tableM)) (cut before))
 
   -- answer: V rows freed, each entry of the id [01:OP5] [02:W1.6]
   unfoldable pub erase : Result

@@ -8,14 +8,14 @@ use Rattle.table.specs.Lists.{flat}
 use Rattle.scheme.specs.Suite.{Suite}
 use Rattle.scheme.specs.Labels.{Field, label}
 use Rattle.scheme.specs.Example.{Example, _yields_, _tells_, bytes, every, cases, fieldOf}
-use Rattle.scheme.specs.ByteExamples.{byteEquations, eraseCases}
-use Rattle.scheme.specs.RefusalExamples.{makingCases, storeMakingCases, inputCases, stateCases, insertCases, queryCases, queryBytes}
+use Rattle.scheme.specs.ByteExamples.{byteEquations, insertBytes, eraseCases}
+use Rattle.scheme.specs.RefusalExamples.{makingCases, storeMakingCases, inputCases, stateCases, formCases, orderCases, insertCases, queryCases, queryBytes}
 use Rattle.scheme.specs.ReadingExamples.{readingBytes, laterBytes, blindBytes, blindCases, compactionCases, compactionBytes}
 use Rattle.scheme.specs.Store.{Sizes, fresh}
 use Rattle.scheme.specs.Call
 use Rattle.scheme.specs.Call.{Call, Told}
 use Rattle.scheme.specs.Ledger.{empty, ledgerTells}
-use Rattle.scheme.specs.Lowest.{tellsLowest}
+use Rattle.scheme.specs.Run.{storeTells}
 use Rattle.scheme.specs.Claim.{boundsOf}
 
 -- ---- labels
@@ -152,19 +152,34 @@ repeated =
     }
     ∷ []
 
--- the labels, both lists of calls on the ledger and on the store [01:DY10] [02:W1.5], and the further examples
+-- ---- a store put in form between other calls: how many rows are used, and nothing changes [02:W2.8 W2.10]
+
+abbrev pub orders : Call
+orders = Call.order
+
+abbrev pub ordered : List Block
+ordered =
+    record { calls = orders ∷ inserts hueRed 0 (65 ∷ 66 ∷ []) 36 ∷ orders ∷ []; told = number 0 ∷ number 2 ∷ number 6 ∷ [] }
+    ∷ record { calls = inserts hueRed 1 (67 ∷ []) 24 ∷ orders ∷ finds ∷ []; told = number 1 ∷ number 10 ∷ found 3 (65 ∷ 66 ∷ 67 ∷ []) 16 ∷ [] }
+    ∷ record { calls = erases 66 ∷ orders ∷ finds ∷ counts ∷ []; told = number 1 ∷ number 8 ∷ found 2 (65 ∷ 67 ∷ []) 32 ∷ number 3 ∷ [] }
+    ∷ record { calls = compacts ∷ orders ∷ finds ∷ []; told = says (done (2 ∷ 2 ∷ [])) ∷ number 6 ∷ found 2 (65 ∷ 67 ∷ []) 32 ∷ [] }
+    ∷ []
+
+-- the labels, the lists of calls on the ledger and on the store [01:DY10] [02:W1.5], and the further examples
 abbrev pub examples : Suite → List Example
 examples suite =
     labelExamples ++
     ((ledgerTells (boundsOf workedSizes) empty (callsOf worked) tells toldOf worked)
-    ∷ (tellsLowest suite (callsOf worked) (fresh workedSizes) tells toldOf worked)
+    ∷ (storeTells suite (callsOf worked) (fresh workedSizes) tells toldOf worked)
     ∷ (ledgerTells (boundsOf repeatedSizes) empty (callsOf repeated) tells toldOf repeated)
-    ∷ (tellsLowest suite (callsOf repeated) (fresh repeatedSizes) tells toldOf repeated)
+    ∷ (storeTells suite (callsOf repeated) (fresh repeatedSizes) tells toldOf repeated)
+    ∷ (ledgerTells (boundsOf workedSizes) empty (callsOf ordered) tells toldOf ordered)
+    ∷ (storeTells suite (callsOf ordered) (fresh workedSizes) tells toldOf ordered)
     ∷ every byteEquations
-    ∷ bytes (readingBytes suite ++ (laterBytes suite ++ (blindBytes ++ (compactionBytes suite ++ queryBytes suite))))
+    ∷ bytes (insertBytes suite ++ (readingBytes suite ++ (laterBytes suite ++ (blindBytes ++ (compactionBytes suite ++ queryBytes suite)))))
     ∷ cases (makingCases ++ storeMakingCases)
     ∷ cases (inputCases suite)
-    ∷ cases (stateCases suite)
+    ∷ cases (stateCases suite ++ (formCases suite ++ orderCases suite))
     ∷ cases (insertCases suite ++ (eraseCases ++ (queryCases suite ++ blindCases)))
     ∷ cases (compactionCases suite)
     ∷ [])

@@ -43,7 +43,7 @@ module _ (suite : Suite) (before token : List ℕ) where
   idsFound = distinct idsHeld
 
 module _ (suite : Suite) (before token output : List ℕ) where
-  -- 6, then 10 and 11, then 13 with every share read first, and 18, which counts each id once [01:RI7 RS6 RS11] [02:W1.3]
+  -- 6, then 10, 11 and 20, then 13 with every share read first, and 18, which counts each id once [01:RI7 RS6 RS11] [02:W1.3]
   unfoldable pub findVerdict : Option Answer
   findVerdict = verdict (tokenTests findTokenLength token ++ (stateTests before ++
       ((anyOf (λ u. damaged (shareReading suite before (findCL token) u)) (upTo (sizesOf before .p)) ⇒ 13)

@@ -1,19 +1,19 @@
--- Document 01, "Operations": insert. A relation for the row placing alone.
+-- Document 01, "Operations": insert.
 use Prim.Native.Nat.{ℕ, suc, _+_, _*_}
-use mathlib.Core.Path.{_≡_}
 use mathlib.Core.Bool.{not, _||_}
-use mathlib.Core.Option.{Option, none, some}
+use mathlib.Core.Option.{Option}
 use mathlib.Core.List.{List, [], _∷_, _++_}
 use lib.Dec.{ltb, eqb}
 use lib.ListN.{take, drop}
-use Rattle.table.specs.Table.{Row, Table, freeRows, Placed, PlacedAll}
+use Rattle.table.specs.Table.{Row, freeRows}
+use Rattle.table.specs.Order.{withRows}
 use Rattle.answer.specs.Answer.{Answer, done}
 use Rattle.scheme.specs.Suite.{Suite}
 use Rattle.scheme.specs.Keys.{insertTokenLength, tokenP, tokenMT, tokenME, tokenCL, tokenLog}
-use Rattle.scheme.specs.Store.{Store, tableM, tableV, tableC, tableS, sizesOf, cut, joined, putIn, stateTests, entryRow, reverseRow, counterRow, logRow}
+use Rattle.scheme.specs.Store.{Which, Store, tableM, tableV, tableC, tableS, widthOf, sizesOf, cut, joined, putIn, stateTests, entryRow, reverseRow, counterRow, logRow}
 use Rattle.scheme.specs.Reading.{Reading, limit, damaged, countOf, positionOf, reading}
-use Rattle.scheme.specs.Refusals.{idCount, idsIn, insertInputTests, tokenTests}
-use Rattle.answer.specs.Verdict.{Test, _⇒_, verdict, answerOr}
+use Rattle.scheme.specs.Refusals.{Result, idCount, idsIn, insertInputTests, tokenTests}
+use Rattle.answer.specs.Verdict.{Test, _⇒_, verdict, answerOr, unlessRefused}
 
 module _ (suite : Suite) where
   -- the rows of M and of V for ids at addresses g + 1 onward, one nonce per id [01:OP1 OP2]
@@ -32,9 +32,13 @@ insertReading suite before token = reading suite (sizesOf before .c) (tokenCL to
 unfoldable pub newCount : Suite → List ℕ → List ℕ → List ℕ → ℕ
 newCount suite before ids token = countOf (insertReading suite before token) + idCount ids
 
--- the store with its four tables after the writing
-unfoldable pub insertedStore : List ℕ → Table → Table → Table → Table → Store
-insertedStore before tM tV tC tS = putIn tableS tS (putIn tableC tC (putIn tableV tV (putIn tableM tM (cut before))))
+-- a store with new rows in one table, in byte order with the others [02:W2.4]
+abbrev pub addedTo : Which → List Row → Store → Store
+addedTo k new st = putIn k (withRows (widthOf k) new (st .table k)) st
+
+-- a store with new rows in all of them: of M and of V, one of C and one of S
+unfoldable pub insertedStore : List ℕ → List Row → List Row → Row → Row → Store
+insertedStore before newM newV newC newS = addedTo tableS (newS ∷ []) (addedTo tableC (newC ∷ []) (addedTo tableV newV (addedTo tableM newM (cut before))))
 
 module _ (suite : Suite) (before ids nonces token : List ℕ) where
   -- 12 to 17 [01:RS4 RS6 RS7 RS8 RS9 RS10]
@@ -48,7 +52,7 @@ module _ (suite : Suite) (before ids nonces token : List ℕ) where
       ∷ (ltb (freeRows (cut before .table tableS)) 1 ⇒ 17)
       ∷ []
 
-  -- 4 to 6, then 10 and 11, then these
+  -- 4 to 6, then 10, 11 and 20, then these
   unfoldable pub insertVerdict : Option Answer
   insertVerdict = verdict (insertInputTests ids nonces ++ (tokenTests insertTokenLength token ++ (stateTests before ++ insertStateTests)))
 
@@ -66,20 +70,10 @@ module _ (suite : Suite) (before ids nonces token : List ℕ) where
   unfoldable pub newLog : Row
   newLog = logRow (tokenLog token)
 
-  -- each row in a free row of its table
-  pub record Inserted (after : List ℕ) : Type 0 where
-    pub tM′ : Table
-    pub tV′ : Table
-    pub tC′ : Table
-    pub tS′ : Table
-    pub entries : PlacedAll (cut before .table tableM) newEntries tM′
-    pub reverses : PlacedAll (cut before .table tableV) newReverses tV′
-    pub counter : Placed (cut before .table tableC) newCounter tC′
-    pub log : Placed (cut before .table tableS) newLog tS′
-    pub written : after ≡ joined (insertedStore before tM′ tV′ tC′ tS′)
-
-  -- a refusal changes no byte [01:RS13]; otherwise the rows are written and the answer is the new count [01:OP3 OP14 OP15]
-  pub record Insert (answer : Answer) (after : List ℕ) : Type 0 where
-    pub answered : answer ≡ answerOr insertVerdict (done (newCount suite before ids token ∷ []))
-    pub kept : (r : Answer) → insertVerdict ≡ some r → after ≡ before
-    pub wrote : insertVerdict ≡ none → Inserted after
+  -- the answer is the new count [01:OP3 OP14 OP15]; a refusal changes no byte [01:RS13]
+  unfoldable pub insert : Result
+  insert = record {
+    answer = answerOr insertVerdict (done (newCount suite before ids token ∷ []));
+    store = unlessRefused insertVerdict (joined (insertedStore before newEntries newReverses newCounter newLog)) before;
+    output = [];
+  }

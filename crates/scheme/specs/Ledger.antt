@@ -138,7 +138,7 @@ module _ (z : Bounds) (l : Ledger) where
   nextOr none next = next
   nextOr (some r) next = l
 
-  -- the ledger's step [01:LG5 LG6]
+  -- the ledger's step; it never gives 10, 11, 13 or 20 [01:LG5 LG6] [02:W2.10 W2.11]
   unfoldable pub ledgerStep : Call → Outcome
   ledgerStep (Call.insert key f p u nonce ids nonces) = record {
     told = record {
@@ -166,6 +166,7 @@ module _ (z : Bounds) (l : Ledger) where
     told = record { answer = answerOr (ledgerCompactVerdict key nonces) (done (length (l .T) ∷ l .W ∷ [])); output = [] };
     next = nextOr (ledgerCompactVerdict key nonces) afterCompaction;
   }
+  ledgerStep Call.order = record { told = record { answer = done ((2 * H l + l .A + 2 * l .W) ∷ []); output = [] }; next = l }
 
 -- what the ledger tells of a list of calls [01:LG14]
 abbrev pub ledgerTells : Bounds → Ledger → List Call → List Told

@@ -13,7 +13,7 @@ pub mod Compaction
 pub mod Call
 pub mod Ledger
 pub mod Run
-pub mod Lowest
+pub mod Order
 pub mod Premise
 pub mod Claim
 pub mod Example

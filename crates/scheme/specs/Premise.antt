@@ -20,6 +20,7 @@ fieldsOf (Call.erase id) = []
 fieldsOf (Call.find key f output) = f ∷ []
 fieldsOf (Call.count key f) = f ∷ []
 fieldsOf (Call.compact key nonces) = []
+fieldsOf Call.order = []
 
 -- a field of valid lengths named in the list, with a share up to the store's p [01:LG13]
 pub record Named (p : ℕ) (calls : List Call) (f : Field) (u : ℕ) : Type 0 where
@@ -54,3 +55,4 @@ KeyFits K (Call.erase id) = Unit {0}
 KeyFits K (Call.find key f output) = (key ≡ K) ⊎ (length key ≡ 32 → ⊥)
 KeyFits K (Call.count key f) = (key ≡ K) ⊎ (length key ≡ 32 → ⊥)
 KeyFits K (Call.compact key nonces) = (key ≡ K) ⊎ (length key ≡ 32 → ⊥)
+KeyFits K Call.order = Unit {0}

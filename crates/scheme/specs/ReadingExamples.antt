@@ -10,7 +10,8 @@ use Rattle.scheme.specs.Suite.{Suite}
 use Rattle.scheme.specs.Reading.{Reading, damage, counter, reading}
 use Rattle.scheme.specs.Refusals.{Result}
 use Rattle.scheme.specs.Find
-use Rattle.scheme.specs.Lowest.{insertLowest, compactLowest}
+use Rattle.scheme.specs.Insert
+use Rattle.scheme.specs.Compaction
 use Rattle.scheme.specs.Example.{Equation, _is_, Case, _gives_, zeros, places, eight, number, by}
 use Rattle.scheme.specs.ByteExamples.{newM, newV, newC, newS}
 use Rattle.scheme.specs.RefusalExamples.{withC, rowC, counterIs, anchorIs, atLimit, aboveLimit}
@@ -73,12 +74,16 @@ module _ (suite : Suite) where
 
 module _ (suite : Suite) where
   abbrev pub heldC : List (List ℕ)
-  heldC = rowC suite (places 65 32) 2 (eight 1) (eight 5) (eight 7) ∷ rowC suite (places 65 32) 1 (eight 6) (eight 0) (eight 9) ∷ []
+  heldC = rowC suite (places 65 32) 1 (eight 6) (eight 0) (eight 9) ∷ rowC suite (places 65 32) 2 (eight 1) (eight 5) (eight 7) ∷ []
+
+  -- counter 7 stands between counter 6 and the anchor, since F grows with the number in the suite that computes
+  abbrev pub grownC : List (List ℕ)
+  grownC = rowC suite (places 65 32) 1 (eight 6) (eight 0) (eight 9) ∷ newC suite 7 13 10 ∷ rowC suite (places 65 32) 2 (eight 1) (eight 5) (eight 7) ∷ []
 
   abbrev pub laterBytes : List Equation
   laterBytes =
-      (insertLowest suite (withC 0 3 (heldC ++ (zeros 61 ∷ []))) (places 1 16) (places 1 24) (places 0 141) .store is
-      (1 ∷ 0 ∷ 0 ∷ 1 ∷ 0 ∷ 3 ∷ 0 ∷ 1 ∷ newM suite 10 1 1 ++ (newV suite 10 1 ++ (flat (heldC ++ (newC suite 7 13 10 ∷ [])) ++ newS suite))))
+      (Insert.insert suite (withC 0 3 (heldC ++ (zeros 61 ∷ []))) (places 1 16) (places 1 24) (places 0 141) .store is
+      (1 ∷ 0 ∷ 0 ∷ 1 ∷ 0 ∷ 3 ∷ 0 ∷ 1 ∷ newM suite 10 1 1 ++ (newV suite 10 1 ++ (flat grownC ++ newS suite))))
       ∷ []
 
 -- ---- a find where one row of M is every address from 1 to 7: the id once, and 18 by one id [02:W1.1 W1.3]
@@ -112,14 +117,14 @@ clB = replicate 32 0xbb
 
 -- with n nonce bytes, each its place, and a token of zeros
 abbrev pub compacted : Suite → List ℕ → ℕ → Result
-compacted suite store n = compactLowest suite store (places 1 n) (zeros 32)
+compacted suite store n = Compaction.compact suite store (places 1 n) (zeros 32)
 
 module _ (suite : Suite) where
   open Suite suite using (F, E)
 
-  -- a row of S [01:ST12]
-  abbrev pub logOf : List ℕ → List ℕ
-  logOf cl = 1 ∷ zeros 12 ++ E (zeros 32) (zeros 12) cl
+  -- a row of S under a nonce that begins with a number: in form the lower one comes first [01:ST12] [02:W2.2]
+  abbrev pub logOf : ℕ → List ℕ → List ℕ
+  logOf n cl = 1 ∷ places n 12 ++ E (zeros 32) (places n 12) cl
 
   -- counter 1 or 2 with a count, and anchor 1 with position and count under a nonce
   abbrev pub counterOf : List ℕ → ℕ → ℕ → List ℕ
@@ -130,25 +135,25 @@ module _ (suite : Suite) where
 
   -- the CL of S are A, B, A again; counters 1 and 2 of A, counter 1 of B
   abbrev pub mixed : List ℕ
-  mixed = withCS (counterOf clA 1 2 ∷ counterOf clB 1 3 ∷ counterOf clA 2 5 ∷ []) (logOf clA ∷ logOf clB ∷ logOf clA ∷ [])
+  mixed = withCS (counterOf clA 1 2 ∷ counterOf clA 2 5 ∷ counterOf clB 1 3 ∷ []) (logOf 1 clA ∷ logOf 20 clB ∷ logOf 40 clA ∷ [])
 
   -- A has an anchor and no counter
   abbrev pub anchoredBefore : List ℕ
-  anchoredBefore = withCS (anchorOf clA (zeros 12) 2 5 ∷ counterOf clB 1 3 ∷ []) (logOf clA ∷ logOf clB ∷ [])
+  anchoredBefore = withCS (anchorOf clA (zeros 12) 2 5 ∷ counterOf clB 1 3 ∷ []) (logOf 1 clA ∷ logOf 20 clB ∷ [])
 
   -- the counter of B is damaged
   abbrev pub damagedB : List ℕ
   damagedB = rowC suite clB 1 (eight 1) (eight 1) (eight 3)
 
   abbrev pub damagedSecond : List ℕ
-  damagedSecond = withCS (counterOf clA 1 2 ∷ damagedB ∷ []) (logOf clA ∷ logOf clB ∷ [])
+  damagedSecond = withCS (counterOf clA 1 2 ∷ damagedB ∷ []) (logOf 1 clA ∷ logOf 20 clB ∷ [])
 
   abbrev pub damagedFirst : List ℕ
-  damagedFirst = withCS (counterOf clA 1 2 ∷ damagedB ∷ []) (logOf clB ∷ logOf clA ∷ [])
+  damagedFirst = withCS (counterOf clA 1 2 ∷ damagedB ∷ []) (logOf 1 clB ∷ logOf 20 clA ∷ [])
 
   -- a counter at position 4,294,967,296, and what an anchor with that position looks like
   abbrev pub farBefore : List ℕ
-  farBefore = withCS (rowC suite clA 2 (eight 1) atLimit (eight 7) ∷ rowC suite clA 1 aboveLimit (eight 0) (eight 9) ∷ []) (logOf clA ∷ [])
+  farBefore = withCS (rowC suite clA 1 aboveLimit (eight 0) (eight 9) ∷ rowC suite clA 2 (eight 1) atLimit (eight 7) ∷ []) (logOf 1 clA ∷ [])
 
   abbrev pub farAfter : List ℕ
   farAfter =
@@ -172,13 +177,13 @@ module _ (suite : Suite) where
       -- 19: a nonce for every used S row [01:RS5]
       ∷ (compacted suite mixed 24 .answer gives by 19)
       ∷ (compacted suite mixed 48 .answer gives done (2 ∷ 3 ∷ []))
-      ∷ (compacted suite (withCS (zeros 61 ∷ []) (replicate 12 (logOf clA))) 132 .answer gives by 19)
-      ∷ (compacted suite (withCS (zeros 61 ∷ []) (replicate 12 (logOf clA))) 144 .answer gives done (0 ∷ 0 ∷ []))
+      ∷ (compacted suite (withCS (zeros 61 ∷ []) (replicate 12 (logOf 1 clA))) 132 .answer gives by 19)
+      ∷ (compacted suite (withCS (zeros 61 ∷ []) (replicate 12 (logOf 1 clA))) 144 .answer gives done (0 ∷ 0 ∷ []))
       -- 13 carries both numbers so far; 19 before 13 [01:RS6 RS13 RS1]
       ∷ (compacted suite damagedSecond 24 .answer gives refused 13 (1 ∷ 1 ∷ []))
       ∷ (compacted suite damagedFirst 24 .answer gives refused 13 (0 ∷ 0 ∷ []))
       ∷ (compacted suite damagedFirst 12 .answer gives by 19)
-      ∷ (compacted suite (withCS (rowC suite clA 2 (eight 1) aboveLimit (eight 7) ∷ []) (logOf clA ∷ [])) 12 .answer gives refused 13 (0 ∷ 0 ∷ []))
+      ∷ (compacted suite (withCS (rowC suite clA 2 (eight 1) aboveLimit (eight 7) ∷ []) (logOf 1 clA ∷ [])) 12 .answer gives refused 13 (0 ∷ 0 ∷ []))
       ∷ []
 
   abbrev pub compactionBytes : List Equation
@@ -193,9 +198,9 @@ module _ (suite : Suite) where
       ∷ (compacted suite farBefore 12 .store is farAfter)
       -- 19 changes no byte; 13 leaves the CL before it treated [01:RS13]
       ∷ (compacted suite mixed 24 .store is mixed)
-      ∷ (compacted suite damagedSecond 24 .store is withCS (anchorOf clA (places 1 12) 1 2 ∷ damagedB ∷ []) (zeros 45 ∷ logOf clB ∷ []))
+      ∷ (compacted suite damagedSecond 24 .store is withCS (anchorOf clA (places 1 12) 1 2 ∷ damagedB ∷ []) (logOf 20 clB ∷ zeros 45 ∷ []))
       ∷ (compacted suite damagedFirst 24 .store is damagedFirst)
       -- the rows that the reading held are freed, and no other [01:OP11]
       ∷ (compacted blind blindTwice 12 .store is
-      withCS ((1 ∷ zeros 32 ++ (places 1 12 ++ (eight 2 ++ eight 7))) ∷ blindRow 9 ∷ []) (zeros 45 ∷ []))
+      withCS (blindRow 9 ∷ (1 ∷ zeros 32 ++ (places 1 12 ++ (eight 2 ++ eight 7))) ∷ []) (zeros 45 ∷ []))
       ∷ []

@@ -12,7 +12,9 @@ use Rattle.scheme.specs.Store.{make}
 use Rattle.scheme.specs.Erase
 use Rattle.scheme.specs.Find
 use Rattle.scheme.specs.Count
-use Rattle.scheme.specs.Lowest.{insertLowest, compactLowest}
+use Rattle.scheme.specs.Insert
+use Rattle.scheme.specs.Compaction
+use Rattle.scheme.specs.Order
 use Rattle.scheme.specs.Example.{Equation, _is_, Case, _gives_, fieldOf, zeros, places, eight, accepted, number, by}
 
 -- ---- making tokens, by the lengths of key, name and value, p, u and the length of the nonce
@@ -127,6 +129,13 @@ one = slice 1 0 1 1 1 216
 abbrev pub withC : ℕ → ℕ → List (List ℕ) → List ℕ
 withC p c rows = 1 ∷ p ∷ 0 ∷ 1 ∷ 0 ∷ c ∷ 0 ∷ 1 ∷ zeros 110 ++ (flat rows ++ zeros 45)
 
+-- m = 1, c = 1 and two rows in S, both used, with these bytes after their marks
+abbrev pub twoLogs : List ℕ → List ℕ → List ℕ
+twoLogs a b = 1 ∷ 0 ∷ 0 ∷ 1 ∷ 0 ∷ 1 ∷ 0 ∷ 2 ∷ zeros 171 ++ ((1 ∷ a) ++ (1 ∷ b))
+
+abbrev pub ordering : List ℕ → Answer
+ordering store = Order.order store .answer
+
 abbrev pub erasing : List ℕ → ℕ → Answer
 erasing store id = Erase.erase store (zeros id) .answer
 
@@ -146,7 +155,7 @@ module _ (suite : Suite) where
 
   -- insert, by the lengths of ids and nonces, the token's length after its first byte, and that byte
   abbrev pub inserting : List ℕ → ℕ → ℕ → ℕ → ℕ → Answer
-  inserting store ids nonces token p = insertLowest suite store (zeros ids) (zeros nonces) (p ∷ zeros token) .answer
+  inserting store ids nonces token p = Insert.insert suite store (zeros ids) (zeros nonces) (p ∷ zeros token) .answer
 
   -- of one id, in a store with these rows and a free one in C
   abbrev pub insertOver : List (List ℕ) → Answer
@@ -160,7 +169,7 @@ module _ (suite : Suite) where
   counting store token = Count.count suite store (places 64 token) .answer
 
   abbrev pub compacting : List ℕ → ℕ → ℕ → Answer
-  compacting store nonces token = compactLowest suite store (zeros nonces) (zeros token) .answer
+  compacting store nonces token = Compaction.compact suite store (zeros nonces) (zeros token) .answer
 
   -- 4 to 6 [01:RI5 RI6 RI7]
   abbrev pub inputCases : List Case
@@ -234,19 +243,15 @@ module _ (suite : Suite) where
       ∷ (counting (slice 1 0 1 1 1 217) 32 gives by 10)
       ∷ (counting (slice 1 0 2 3 4 583) 32 gives number 0)
       ∷ (counting (slice 1 0 2 3 4 582) 32 gives by 10)
-      -- 11: a mark of 0 or 1 in every row of every table, and no test of any other byte
+      -- 11: a mark of 0 or 1 in every row of every table
       ∷ (counting (set one 8 1) 32 gives number 0)
       ∷ (counting (set one 8 2) 32 gives by 11)
-      ∷ (counting (set one 9 2) 32 gives number 0)
       ∷ (counting (set one 69 1) 32 gives number 0)
       ∷ (counting (set one 69 2) 32 gives by 11)
-      ∷ (counting (set one 70 2) 32 gives number 0)
       ∷ (counting (set one 118 1) 32 gives number 0)
       ∷ (counting (set one 118 2) 32 gives by 11)
-      ∷ (counting (set one 119 2) 32 gives number 0)
       ∷ (counting (set one 179 1) 32 gives number 0)
       ∷ (counting (set one 179 2) 32 gives by 11)
-      ∷ (counting (set one 180 2) 32 gives number 0)
       ∷ (counting (set (slice 1 0 2 2 2 432) 69 255) 32 gives by 11)
       ∷ (counting (set (slice 1 0 2 2 2 432) 179 255) 32 gives by 11)
       ∷ (counting (set (slice 1 0 2 2 2 432) 289 255) 32 gives by 11)
@@ -261,6 +266,65 @@ module _ (suite : Suite) where
       ∷ (inserting (set one 8 2) 16 24 140 1 gives by 11)
       ∷ (compacting (set (slice 2 0 1 1 1 216) 179 2) 0 32 gives by 10)
       ∷ (compacting (set one 179 2) 0 32 gives by 11)
+      ∷ []
+
+  -- 20, in a count and then in every call [02:W2.1 W2.2 W2.3 W2.11 W2.12]
+  abbrev pub formCases : List Case
+  formCases =
+      -- a free row is all zero: the byte after the mark, and the last byte, in each table
+      (counting (set one 9 2) 32 gives by 20)
+      ∷ (counting (set one 68 1) 32 gives by 20)
+      ∷ (counting (set one 70 2) 32 gives by 20)
+      ∷ (counting (set one 117 1) 32 gives by 20)
+      ∷ (counting (set one 119 2) 32 gives by 20)
+      ∷ (counting (set one 178 1) 32 gives by 20)
+      ∷ (counting (set one 180 2) 32 gives by 20)
+      ∷ (counting (set one 223 1) 32 gives by 20)
+      -- of a used row it may be any byte
+      ∷ (counting (set (set one 8 1) 9 2) 32 gives number 0)
+      ∷ (counting (set (set one 179 1) 223 255) 32 gives number 0)
+      -- a used row after a free one, in each table; the other way round is in form
+      ∷ (counting (set (slice 1 0 2 2 2 432) 69 1) 32 gives by 20)
+      ∷ (counting (set (slice 1 0 2 2 2 432) 179 1) 32 gives by 20)
+      ∷ (counting (set (slice 1 0 2 2 2 432) 289 1) 32 gives by 20)
+      ∷ (counting (set (slice 1 0 2 2 2 432) 395 1) 32 gives by 20)
+      ∷ (counting (set (slice 1 0 2 2 2 432) 8 1) 32 gives number 0)
+      ∷ (counting (set (slice 1 0 2 2 2 432) 350 1) 32 gives number 0)
+      -- two rows of S: in order by the first byte after the mark, by the last, equal, and as unsigned
+      ∷ (counting (twoLogs (5 ∷ zeros 43) (6 ∷ zeros 43)) 32 gives number 0)
+      ∷ (counting (twoLogs (6 ∷ zeros 43) (5 ∷ zeros 43)) 32 gives by 20)
+      ∷ (counting (twoLogs (zeros 43 ++ (1 ∷ [])) (zeros 43 ++ (2 ∷ []))) 32 gives number 0)
+      ∷ (counting (twoLogs (zeros 43 ++ (2 ∷ [])) (zeros 43 ++ (1 ∷ []))) 32 gives by 20)
+      ∷ (counting (twoLogs (places 1 44) (places 1 44)) 32 gives number 0)
+      ∷ (counting (twoLogs (0x7f ∷ zeros 43) (0x80 ∷ zeros 43)) 32 gives number 0)
+      ∷ (counting (twoLogs (0x80 ∷ zeros 43) (0x7f ∷ zeros 43)) 32 gives by 20)
+      ∷ (counting (twoLogs (1 ∷ 255 ∷ zeros 42) (2 ∷ 0 ∷ zeros 42)) 32 gives number 0)
+      -- right after 11, whose test goes over every table first, and before 12, 13 and 19
+      ∷ (counting (set (set one 9 2) 179 2) 32 gives by 11)
+      ∷ (counting (set (slice 2 0 1 1 1 216) 9 2) 32 gives by 10)
+      ∷ (finding (set one 9 2) 96 0 gives by 20)
+      ∷ (erasing (set one 9 2) 16 gives by 20)
+      ∷ (inserting (set one 9 2) 16 24 140 1 gives by 20)
+      ∷ (inserting (withC 0 2 (anchorIs 1 (eight 5) aboveLimit ∷ counterIs 6 (eight 0) (eight 9) ∷ [])) 16 24 140 0 gives by 20)
+      ∷ (compacting (set one 9 2) 0 32 gives by 20)
+      ∷ (compacting (twoLogs (6 ∷ zeros 43) (5 ∷ zeros 43)) 0 32 gives by 20)
+      ∷ []
+
+  -- the call that puts a store in form: 10 and 11 alone, and how many rows are used in all tables [02:W2.8 W2.9]
+  abbrev pub orderCases : List Case
+  orderCases =
+      (ordering one gives number 0)
+      ∷ (ordering (set one 9 2) gives number 0)
+      ∷ (ordering (set (set (set (set one 8 1) 69 1) 118 1) 179 1) gives number 4)
+      ∷ (ordering (twoLogs (6 ∷ zeros 43) (5 ∷ zeros 43)) gives number 2)
+      ∷ (ordering (twoLogs (places 1 44) (places 1 44)) gives number 2)
+      ∷ (ordering (set (slice 1 0 2 2 2 432) 69 1) gives number 1)
+      ∷ (ordering (take 7 one) gives by 10)
+      ∷ (ordering (slice 2 0 1 1 1 216) gives by 10)
+      ∷ (ordering (slice 1 0 1 1 1 215) gives by 10)
+      ∷ (ordering (set one 8 2) gives by 11)
+      ∷ (ordering (set one 179 2) gives by 11)
+      ∷ (ordering (set (slice 2 0 1 1 1 216) 8 2) gives by 10)
       ∷ []
 
   -- insert: 12 to 17 [01:RS4 RS6 RS7 RS8 RS9 RS10]
@@ -289,19 +353,19 @@ module _ (suite : Suite) where
       ∷ (insertOver (anchorIs 1 aboveLimit (eight 7) ∷ []) gives by 13)
       ∷ (insertOver (anchorIs 1 (eight 5) aboveLimit ∷ []) gives by 13)
       -- also where a counter follows it
-      ∷ (insertOver (anchorIs 1 (eight 5) (eight 7) ∷ counterIs 6 (eight 0) (eight 9) ∷ []) gives number 10)
-      ∷ (insertOver (anchorIs 1 (eight 5) (eight 7) ∷ counterIs 6 (eight 1) (eight 9) ∷ []) gives by 13)
-      ∷ (insertOver (anchorIs 1 (eight 5) (eight 7) ∷ counterIs 6 (eight 0) aboveLimit ∷ []) gives by 13)
-      ∷ (insertOver (anchorIs 1 (eight 5) aboveLimit ∷ counterIs 6 (eight 0) (eight 9) ∷ []) gives by 13)
-      ∷ (insertOver (anchorIs 1 atLimit (eight 7) ∷ rowC (zeros 32) 1 aboveLimit (eight 0) (eight 9) ∷ []) gives number 10)
-      ∷ (insertOver (anchorIs 1 aboveLimit (eight 7) ∷ rowC (zeros 32) 1 (0 ∷ 0 ∷ 0 ∷ 1 ∷ 0 ∷ 0 ∷ 0 ∷ 1 ∷ []) (eight 0) (eight 9) ∷ []) gives by 13)
+      ∷ (insertOver (counterIs 6 (eight 0) (eight 9) ∷ anchorIs 1 (eight 5) (eight 7) ∷ []) gives number 10)
+      ∷ (insertOver (counterIs 6 (eight 1) (eight 9) ∷ anchorIs 1 (eight 5) (eight 7) ∷ []) gives by 13)
+      ∷ (insertOver (counterIs 6 (eight 0) aboveLimit ∷ anchorIs 1 (eight 5) (eight 7) ∷ []) gives by 13)
+      ∷ (insertOver (counterIs 6 (eight 0) (eight 9) ∷ anchorIs 1 (eight 5) aboveLimit ∷ []) gives by 13)
+      ∷ (insertOver (rowC (zeros 32) 1 aboveLimit (eight 0) (eight 9) ∷ anchorIs 1 atLimit (eight 7) ∷ []) gives number 10)
+      ∷ (insertOver (rowC (zeros 32) 1 (0 ∷ 0 ∷ 0 ∷ 1 ∷ 0 ∷ 0 ∷ 0 ∷ 1 ∷ []) (eight 0) (eight 9) ∷ anchorIs 1 aboveLimit (eight 7) ∷ []) gives by 13)
       -- only anchor B is read
       ∷ (insertOver (anchorIs 1 aboveLimit aboveLimit ∷ anchorIs 2 (eight 5) (eight 7) ∷ []) gives number 8)
       -- 15: as many free rows of M and of V as ids
       ∷ (inserting (slice 1 0 2 1 1 326) 32 36 140 0 gives number 2)
       ∷ (inserting (slice 1 0 2 1 1 326) 48 48 140 0 gives by 15)
-      ∷ (inserting (set (slice 1 0 2 1 1 326) 69 1) 16 24 140 0 gives number 1)
-      ∷ (inserting (set (slice 1 0 2 1 1 326) 69 1) 32 36 140 0 gives by 15)
+      ∷ (inserting (set (slice 1 0 2 1 1 326) 8 1) 16 24 140 0 gives number 1)
+      ∷ (inserting (set (slice 1 0 2 1 1 326) 8 1) 32 36 140 0 gives by 15)
       ∷ (inserting (set (slice 1 0 2 1 1 326) 130 1) 32 36 140 0 gives by 15)
       -- 16: a free row of C; 17: a free row of S
       ∷ (inserting (set one 118 1) 16 24 140 0 gives by 16)

@@ -1,7 +1,5 @@
--- A run of the store over a list of calls: each step is the relation that the contract of the call states (document 01, "The
--- ledger", last paragraph).
+-- A list of calls on a store: each call is the function that its contract states (document 01, "The ledger", last paragraph).
 use Prim.Native.Nat.{ℕ}
-use mathlib.Core.Path.{_≡_}
 use mathlib.Core.Option.{Option, none, some}
 use mathlib.Core.List.{List, [], _∷_}
 use Rattle.answer.specs.Answer.{Answer}
@@ -10,11 +8,12 @@ use Rattle.scheme.specs.Labels.{Field}
 use Rattle.scheme.specs.Keys.{insertToken, findToken, countToken, compactionToken}
 use Rattle.scheme.specs.Refusals.{Result, insertTokenTests, fieldTokenTests, keyTests}
 use Rattle.answer.specs.Verdict.{verdict}
-use Rattle.scheme.specs.Insert.{Insert}
+use Rattle.scheme.specs.Insert
 use Rattle.scheme.specs.Erase
 use Rattle.scheme.specs.Find
 use Rattle.scheme.specs.Count
-use Rattle.scheme.specs.Compaction.{Compact}
+use Rattle.scheme.specs.Compaction
+use Rattle.scheme.specs.Order
 use Rattle.scheme.specs.Call
 use Rattle.scheme.specs.Call.{Call, Told}
 
@@ -25,13 +24,9 @@ madeOr (some r) result before output = record { answer = r; store = before; outp
 
 module _ (suite : Suite) (before : List ℕ) where
   -- the making of its token, then the operation with it [01:LG16]
-  pub record InsertCall (key : List ℕ) (f : Field) (p u : ℕ) (nonce ids nonces : List ℕ) (answer : Answer) (after : List ℕ) : Type 0 where
-    pub unmade : (r : Answer) → verdict (insertTokenTests key f p u nonce) ≡ some r → (answer ≡ r) × (after ≡ before)
-    pub made : verdict (insertTokenTests key f p u nonce) ≡ none → Insert suite before ids nonces (insertToken suite key f p u nonce) answer after
-
-  pub record CompactCall (key nonces : List ℕ) (answer : Answer) (after : List ℕ) : Type 0 where
-    pub unmade : (r : Answer) → verdict (keyTests key) ≡ some r → (answer ≡ r) × (after ≡ before)
-    pub made : verdict (keyTests key) ≡ none → Compact suite before nonces (compactionToken suite key) answer after
+  unfoldable pub insertCall : List ℕ → Field → ℕ → ℕ → List ℕ → List ℕ → List ℕ → Result
+  insertCall key f p u nonce ids nonces =
+      madeOr (verdict (insertTokenTests key f p u nonce)) (Insert.insert suite before ids nonces (insertToken suite key f p u nonce)) before []
 
   unfoldable pub findCall : List ℕ → Field → List ℕ → Result
   findCall key f output =
@@ -41,25 +36,28 @@ module _ (suite : Suite) (before : List ℕ) where
   countCall key f =
       madeOr (verdict (fieldTokenTests key f)) (Count.count suite before (countToken suite key f)) before []
 
--- a call that is a function gives its result
-pub record Gives (result : Result) (told : Told) (after : List ℕ) : Type 0 where
-  pub answer : told .answer ≡ result .answer
-  pub output : told .output ≡ result .output
-  pub store : after ≡ result .store
+  unfoldable pub compactCall : List ℕ → List ℕ → Result
+  compactCall key nonces =
+      madeOr (verdict (keyTests key)) (Compaction.compact suite before nonces (compactionToken suite key)) before []
 
--- one call of the five: the store before it, what it tells, the store after it [01:LG20]
-abbrev pub Step : Suite → Call → List ℕ → Told → List ℕ → Type 0
-Step suite (Call.insert key f p u nonce ids nonces) before told after =
-    InsertCall suite before key f p u nonce ids nonces (told .answer) after × (told .output ≡ [])
-Step suite (Call.erase id) before told after = Gives (Erase.erase before id) told after
-Step suite (Call.find key f output) before told after = Gives (findCall suite before key f output) told after
-Step suite (Call.count key f) before told after = Gives (countCall suite before key f) told after
-Step suite (Call.compact key nonces) before told after = CompactCall suite before key nonces (told .answer) after × (told .output ≡ [])
+-- one call of the six on a store: what it answers, the store after it, its output [01:LG20]
+abbrev pub perform : Suite → Call → List ℕ → Result
+perform suite (Call.insert key f p u nonce ids nonces) before = insertCall suite before key f p u nonce ids nonces
+perform suite (Call.erase id) before = Erase.erase before id
+perform suite (Call.find key f output) before = findCall suite before key f output
+perform suite (Call.count key f) before = countCall suite before key f
+perform suite (Call.compact key nonces) before = compactCall suite before key nonces
+perform suite Call.order before = Order.order before
 
--- call after call
-pub data Run (suite : Suite) : List Call → List ℕ → List Told → List ℕ → Type 0 where
-  ended : {store : List ℕ} → Run suite [] store [] store
-  step : {call : Call} {calls : List Call} {before : List ℕ} {told : Told} {tolds : List Told} {between after : List ℕ}
-      → Step suite call before told between
-      → Run suite calls between tolds after
-      → Run suite (call ∷ calls) before (told ∷ tolds) after
+-- what is told of a result
+abbrev pub toldBy : Result → Told
+toldBy r = record { answer = r .answer; output = r .output }
+
+-- what a list of calls tells, call after call, and the store after it
+abbrev pub storeTells : Suite → List Call → List ℕ → List Told
+storeTells suite [] before = []
+storeTells suite (call ∷ calls) before = toldBy (perform suite call before) ∷ storeTells suite calls (perform suite call before .store)
+
+abbrev pub storeAfter : Suite → List Call → List ℕ → List ℕ
+storeAfter suite [] before = before
+storeAfter suite (call ∷ calls) before = storeAfter suite calls (perform suite call before .store)

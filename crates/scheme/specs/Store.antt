@@ -6,6 +6,7 @@ use lib.Dec.{ltb, eqb}
 use lib.ListN.{length, getD, take, drop, replicate}
 use Rattle.table.specs.Lists.{anyOf, flat}
 use Rattle.table.specs.Table.{Row, Table, rows, markBad}
+use Rattle.table.specs.Order.{inForm}
 use Rattle.answer.specs.Answer.{done}
 use Rattle.scheme.specs.Suite.{Suite, number8}
 use Rattle.scheme.specs.Refusals.{Result}
@@ -144,9 +145,17 @@ headerBad b = ltb (length b) headerLength || (not (eqb (getD b 0 0) 1) || (sizes
 unfoldable pub marksBad : Store → Bool
 marksBad st = anyOf (λ k. markBad (greatestMark k) (st .table k)) plan
 
--- 10, then 11: the tests of the state that every call begins with [01:RS1 RS2 RS3]
+-- the condition of 20: a table is not in form [02:W2.11]
+unfoldable pub formBad : Store → Bool
+formBad st = anyOf (λ k. not (inForm (widthOf k) (st .table k))) plan
+
+-- 10, then 11: all that refuses the call that puts a store in form [02:W2.9]
+unfoldable pub markTests : List ℕ → List Test
+markTests b = (headerBad b ⇒ 10) ∷ (marksBad (cut b) ⇒ 11) ∷ []
+
+-- 10, 11, then 20: the tests of the state that every other call begins with [01:RS1 RS2 RS3] [02:W2.11 W2.12]
 unfoldable pub stateTests : List ℕ → List Test
-stateTests b = (headerBad b ⇒ 10) ∷ (marksBad (cut b) ⇒ 11) ∷ []
+stateTests b = (headerBad b ⇒ 10) ∷ (marksBad (cut b) ⇒ 11) ∷ (formBad (cut b) ⇒ 20) ∷ []
 
 -- ---- making a store
 
