@@ -1,4 +1,5 @@
+pub mod Courses
 pub mod Logs
-pub mod Turns
-pub mod Running
+pub mod Steps
+pub mod Whole
 pub mod Verdicts

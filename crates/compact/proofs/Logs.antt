@@ -1,122 +1,216 @@
--- Laws of the log: going through two lists of rows in place, and freeing by the log is freeing by CL.
-use Prim.Native.Nat.{ℕ, zero, suc, _+_, _≤_, _<_}
+-- The log of S row by row, the flags of the rows that were treated, and what they free.
+use Prim.Native.Nat.{ℕ, zero, suc, _+_, _*_, _-_, _≤_, _<_}
 use mathlib.Core.Path.{_≡_, refl, sym, ap, ap₂, _∙_}
 use mathlib.Core.Bool.{Bool, true, false, cond, not, _&&_, true≢false}
-use mathlib.Core.List.{List, [], _∷_}
-use native.Mathlib.Nat.{not-suc-le-zero, le-of-suc-le-suc}
+use mathlib.Core.List.{List, [], _∷_, _++_, map}
+use native.Mathlib.Nat.{add-zero, not-suc-le-zero, le-of-suc-le-suc}
 use native.Mathlib.Numerals.{add-one}
 use native.Mathlib.Omega.{arith}
-use lib.ListN.{length, getD, set}
-use Rattle.table.specs.Lists.{same}
-use Rattle.table.specs.Table.{Row, Table, rows, isFree, body, zeroRow, freeWhere}
-use Rattle.table.proofs.Rows.{zero-free}
+use lib.Dec.{ltb, eqb}
+use lib.ListN.{length, getD, take, drop, set, replicate, length-set, length-drop, length-map, length-replicate, getD-replicate, take-append-drop, List·getD-append}
+use lib.Seq.{take-suc, take-all, take-suc-set, drop-drop, drop-set-lt, getD-append-add, take-at, getD-drop, getD-take}
+use borrow.Author.Tests.{ltb-true, ltb-false}
+use Rattle.octets.specs.Part.{back}
+use Rattle.octets.proofs.Parts.{length-back, drop-back}
+use Rattle.table.specs.Lists.{bit, same, anyOf, distinct}
+use Rattle.table.specs.Table.{Row, Table, rows, isFree, body, zeroRow, freeRows, freeWhere}
+use Rattle.table.specs.Order.{usedRows, closed, reordered}
+use Rattle.table.proofs.Rows.{rows-length, zero-free}
+use Rattle.table.proofs.Walk.{rows-back}
+use Rattle.table.proofs.Order.{InForm, used-is}
+use Rattle.table.proofs.Search.{used-row, free-row}
+use Rattle.table.proofs.Distinct.{any-distinct}
+use Rattle.closing.specs.Flags.{freeFlagged}
 use Rattle.scheme.specs.Store.{tableS, widthOf, clIn}
-use Rattle.scheme.specs.Compaction.{freeLog}
+use Rattle.scheme.specs.Compaction.{logOf}
 use Rattle.suite.specs.Program.{program}
-use Rattle.compact.specs.Log.{zipped, opened, freeLogged}
+use Rattle.firsts.specs.Firsts.{firstIn, firsts}
+use Rattle.firsts.proofs.Chaining.{firsts-length, firsts-at}
+use Rattle.treatment.specs.declared.Treated.{Treated}
+use Rattle.compact.specs.declared.Tally.{Tally}
+use Rattle.compact.specs.Tally.{anchorsIn, countersIn, tallyAfter, clsIn}
+use Rattle.compact.specs.Course.{flagsUnder}
+use Rattle.compact.proofs.Courses.{any-first, shut}
 
--- ---- going through two lists
+pub tally-same : (t : Tally) (r : Treated) → anchorsIn r ≡ 0 → countersIn r ≡ 0 → t ≡ tallyAfter t r
+tally-same t r a k =
+    let p = sym (add-zero (t .anchors)) ∙ ap (λ (n : ℕ). t .anchors + n) (sym a) in
+    let q = sym (add-zero (t .counters)) ∙ ap (λ (n : ℕ). t .counters + n) (sym k) in
+    λ i. record { anchors = p i; counters = q i }
 
-module _ (f : List ℕ → List ℕ → List ℕ) where
-  -- the first i elements changed
-  abbrev zippedTo : ℕ → List (List ℕ) → List (List ℕ) → List (List ℕ)
-  zippedTo zero xs ys = xs
-  zippedTo (suc i) [] ys = []
-  zippedTo (suc i) (x ∷ xs) [] = x ∷ xs
-  zippedTo (suc i) (x ∷ xs) (y ∷ ys) = f x y ∷ zippedTo i xs ys
+drop-past : (a b : List ℕ) (e n : ℕ) → e ≤ n → drop e a ≡ drop e b → drop n a ≡ drop n b
+drop-past a b e n h p =
+    let z : e + (n - e) ≡ n = omega arith in
+    ap (λ (m : ℕ). drop m a) (sym z) ∙ sym (drop-drop (n - e) e a) ∙ ap (drop (n - e)) p ∙ drop-drop (n - e) e b ∙ ap (λ (m : ℕ). drop m b) z
 
-  to-at : (i : ℕ) (xs ys : List (List ℕ)) → getD (zippedTo i xs ys) i [] ≡ getD xs i []
-  to-at zero xs ys = refl
-  to-at (suc i) [] ys = refl
-  to-at (suc i) (x ∷ xs) [] = refl
-  to-at (suc i) (x ∷ xs) (y ∷ ys) = to-at i xs ys
+-- ---- the log
 
-  to-set : (i : ℕ) (xs ys : List (List ℕ)) → i < length xs → i < length ys → set (zippedTo i xs ys) i (f (getD xs i []) (getD ys i [])) ≡ zippedTo (suc i) xs ys
-  to-set i [] ys h k = absurd (not-suc-le-zero h)
-  to-set i (x ∷ xs) [] h k = absurd (not-suc-le-zero k)
-  to-set zero (x ∷ xs) (y ∷ ys) h k = refl
-  to-set (suc i) (x ∷ xs) (y ∷ ys) h k = ap (λ (l : List (List ℕ)). f x y ∷ l) (to-set i xs ys (le-of-suc-le-suc h) (le-of-suc-le-suc k))
+module _ (ks : List ℕ) (t : Table) (n : ℕ) (log₀ : List ℕ) where
+  -- the first i rows were decrypted
+  pub record Opening (i : ℕ) (log : List ℕ) : Type 0 where
+    pub size : length log ≡ length log₀
+    pub told : take i (rows 32 n log) ≡ clsIn ks (take i t)
+    pub rest : drop (32 * n) log ≡ drop (32 * n) log₀
 
-  to-keep : (i : ℕ) (xs ys : List (List ℕ)) → i < length xs → f (getD xs i []) (getD ys i []) ≡ getD xs i [] → zippedTo i xs ys ≡ zippedTo (suc i) xs ys
-  to-keep i [] ys h e = absurd (not-suc-le-zero h)
-  to-keep zero (x ∷ xs) [] h e = refl
-  to-keep zero (x ∷ xs) (y ∷ ys) h e = ap (λ (z : List ℕ). z ∷ xs) (sym e)
-  to-keep (suc i) (x ∷ xs) [] h e = refl
-  to-keep (suc i) (x ∷ xs) (y ∷ ys) h e = ap (λ (l : List (List ℕ)). f x y ∷ l) (to-keep i xs ys (le-of-suc-le-suc h) e)
+  pub opening-none : Opening 0 log₀
+  unfolding clsIn
+  opening-none = record { size = refl; told = refl; rest = refl }
 
-  to-all : (i : ℕ) (xs ys : List (List ℕ)) → length xs ≤ i → zippedTo i xs ys ≡ zipped f xs ys
-  to-all zero [] ys h = refl
-  to-all zero (x ∷ xs) ys h = absurd (not-suc-le-zero h)
-  to-all (suc i) [] ys h = refl
-  to-all (suc i) (x ∷ xs) [] h = refl
-  to-all (suc i) (x ∷ xs) (y ∷ ys) h = ap (λ (l : List (List ℕ)). f x y ∷ l) (to-all i xs ys (le-of-suc-le-suc h))
+  map-append : (f : Row → List ℕ) (a b : Table) → map f (a ++ b) ≡ map f a ++ map f b
+  map-append f [] b = refl
+  map-append f (r ∷ rs) b = ap (λ (x : List (List ℕ)). f r ∷ x) (map-append f rs b)
 
-  -- xs as it is after its first i elements
-  pub record Zipping (xs ys : List (List ℕ)) (i : ℕ) (now : List (List ℕ)) : Type 0 where
-    pub so-far : now ≡ zippedTo i xs ys
+  pub opening-turn : (i : ℕ) (log : List ℕ) → Opening i log → i < n → i < length t → 32 * n ≤ length log₀ → (ys : List ℕ) → length ys ≡ 32
+      → ys ≡ clIn program ks (body (getD t i [])) → Opening (i + 1) (back log (32 * i) (32 * i + 32) ys)
+  unfolding clsIn
+  opening-turn i log o h k room ys wide e =
+      let f : Row → List ℕ = λ r. clIn program ks (body r) in
+      record {
+        size = length-back log (32 * i) (32 * i + 32) ys (omega (arith, o .size)) (omega (arith, o .size)) (omega (arith, wide)) ∙ o .size;
+        told = ap (take (i + 1)) (rows-back 32 n i log ys h wide (omega (arith, o .size)))
+            ∙ ap (λ (m : ℕ). take m (set (rows 32 n log) i ys)) (add-one i)
+            ∙ take-suc-set (rows 32 n log) i ys (omega (arith, rows-length 32 n log))
+            ∙ ap₂ (λ (x : List (List ℕ)) (y : List ℕ). x ++ (y ∷ [])) (o .told) e
+            ∙ sym (map-append f (take i t) (getD t i [] ∷ []))
+            ∙ sym (ap (map f) (ap (λ (m : ℕ). take m t) (add-one i) ∙ take-suc t i [] k));
+        rest = drop-past (back log (32 * i) (32 * i + 32) ys) log (32 * i + 32) (32 * n) (omega arith)
+            (drop-back log (32 * i) (32 * i + 32) ys (omega (arith, o .size)) (omega (arith, o .size)) (omega (arith, wide))) ∙ o .rest;
+      }
 
-  pub zipping-none : (xs ys : List (List ℕ)) → Zipping xs ys 0 xs
-  zipping-none xs ys = record { so-far = refl }
+  pub opening-all : (i : ℕ) (log : List ℕ) → Opening i log → i ≡ n → rows 32 n log ≡ clsIn ks (take n t)
+  opening-all i log o e =
+      sym (take-all i (rows 32 n log) (omega (arith, rows-length 32 n log))) ∙ o .told ∙ ap (λ (m : ℕ). clsIn ks (take m t)) e
 
-  module _ (xs ys : List (List ℕ)) (i : ℕ) (now : List (List ℕ)) (z : Zipping xs ys i now) where
-    -- the next element is still as it was
-    pub zipping-at : getD now i [] ≡ getD xs i []
-    zipping-at = ap (λ (l : List (List ℕ)). getD l i []) (z .so-far) ∙ to-at i xs ys
+-- ---- the flags
 
-    pub zipping-set : i < length xs → i < length ys → (after : List (List ℕ)) (x : List ℕ) → x ≡ f (getD xs i []) (getD ys i []) → after ≡ set now i x → Zipping xs ys (i + 1) after
-    zipping-set h k after x e s = record {
-      so-far = s ∙ ap₂ (λ (l : List (List ℕ)) (x : List ℕ). set l i x) (z .so-far) e ∙ to-set i xs ys h k ∙ ap (λ (j : ℕ). zippedTo j xs ys) (sym (add-one i));
+module _ (upto : ℕ) where
+  under-append : (a b : List ℕ) → flagsUnder upto (a ++ b) ≡ flagsUnder upto a ++ flagsUnder upto b
+  under-append [] b = refl
+  under-append (x ∷ xs) b = ap (λ (l : List ℕ). bit (ltb x upto) ∷ l) (under-append xs b)
+
+  under-length : (l : List ℕ) → length (flagsUnder upto l) ≡ length l
+  under-length [] = refl
+  under-length (x ∷ xs) = ap suc (under-length xs)
+
+  under-at : (l : List ℕ) (i : ℕ) → i < length l → getD (flagsUnder upto l) i 0 ≡ bit (ltb (getD l i 0) upto)
+  under-at [] i h = absurd (not-suc-le-zero h)
+  under-at (x ∷ xs) zero h = refl
+  under-at (x ∷ xs) (suc i) h = under-at xs i (le-of-suc-le-suc h)
+
+  module _ (first fs₀ : List ℕ) where
+    pub record Marking (i : ℕ) (fs : List ℕ) : Type 0 where
+      pub size : length fs ≡ length fs₀
+      pub told : take i fs ≡ flagsUnder upto (take i first)
+      pub rest : drop i fs ≡ drop i fs₀
+
+    pub marking-none : Marking 0 fs₀
+    marking-none = record { size = refl; told = refl; rest = refl }
+
+    pub marking-turn : (i : ℕ) (fs : List ℕ) → Marking i fs → i < length first → i < length fs₀ → (x : ℕ) → x ≡ bit (ltb (getD first i 0) upto) → Marking (i + 1) (set fs i x)
+    marking-turn i fs m h k x e = record {
+      size = length-set fs i x ∙ m .size;
+      told = ap (λ (j : ℕ). take j (set fs i x)) (add-one i) ∙ take-suc-set fs i x (omega (arith, m .size))
+          ∙ ap₂ (λ (l : List ℕ) (y : ℕ). l ++ (y ∷ [])) (m .told) e ∙ sym (under-append (take i first) (getD first i 0 ∷ []))
+          ∙ sym (ap (flagsUnder upto) (ap (λ (j : ℕ). take j first) (add-one i) ∙ take-suc first i 0 h));
+      rest = drop-set-lt (i + 1) fs i x (omega arith) ∙ drop-past fs fs₀ i (i + 1) (omega arith) (m .rest);
     }
 
-    pub zipping-keep : i < length xs → (after : List (List ℕ)) → f (getD xs i []) (getD ys i []) ≡ getD xs i [] → after ≡ now → Zipping xs ys (i + 1) after
-    zipping-keep h after e s = record {
-      so-far = s ∙ z .so-far ∙ to-keep i xs ys h e ∙ ap (λ (j : ℕ). zippedTo j xs ys) (sym (add-one i));
-    }
+    pub marking-all : (i : ℕ) (fs : List ℕ) → Marking i fs → (n : ℕ) → i ≡ n → fs ≡ flagsUnder upto (take n first) ++ drop n fs₀
+    marking-all i fs m n e =
+        sym (take-append-drop i fs) ∙ ap₂ (λ (a b : List ℕ). a ++ b) (m .told) (m .rest) ∙ ap (λ (j : ℕ). flagsUnder upto (take j first) ++ drop j fs₀) e
 
-    pub zipping-all : length xs ≤ i → now ≡ zipped f xs ys
-    zipping-all h = z .so-far ∙ to-all i xs ys h
+-- flags that agree with a test on the used rows, and are 0 on the others
+flags-where : (w : ℕ) (q : List ℕ → Bool) (t : Table) (fs : List ℕ) → length t ≤ length fs
+    → ((i : ℕ) → i < length t → isFree (getD t i []) ≡ false → getD fs i 0 ≡ bit (q (body (getD t i []))))
+    → ((i : ℕ) → i < length t → isFree (getD t i []) ≡ true → getD fs i 0 ≡ 0) → freeFlagged w fs t ≡ freeWhere w q t
+flags-where w q [] fs l h k = refl
+flags-where w q (r ∷ rs) [] l h k = absurd (not-suc-le-zero l)
+flags-where w q (r ∷ rs) (f ∷ fs) l h k =
+    ap₂ (λ (x : Row) (xs : Table). x ∷ xs) (go (isFree r) refl)
+    (flags-where w q rs fs (le-of-suc-le-suc l) (λ i a. h (suc i) (omega (arith, a))) (λ i a. k (suc i) (omega (arith, a))))
+  where
+    bits : (b : Bool) → cond (eqb (bit b) 0) r (zeroRow w) ≡ cond b (zeroRow w) r
+    bits true = refl
+    bits false = refl
 
--- ---- the log of a table
+    go : (b : Bool) → isFree r ≡ b → cond (eqb f 0) r (zeroRow w) ≡ cond (not b && q (body r)) (zeroRow w) r
+    go true e = ap (λ (x : ℕ). cond (eqb x 0) r (zeroRow w)) (k 0 (omega arith) e)
+    go false e = ap (λ (x : ℕ). cond (eqb x 0) r (zeroRow w)) (h 0 (omega arith) e) ∙ bits (q (body r))
 
--- the log holds the CL of every used row
-abbrev pub Opened : List ℕ → Table → List (List ℕ) → Type 0
-Opened ks [] log = Unit {0}
-Opened ks (r ∷ rs) [] = _≡_ {A = ℕ} 0 1
-Opened ks (r ∷ rs) (l ∷ ls) = (isFree r ≡ false → l ≡ clIn program ks (body r)) × Opened ks rs ls
+-- ---- table S without the rows that were treated
 
-module _ (ks : List ℕ) where
-  pub opened-is : (t : Table) (log : List (List ℕ)) → length t ≤ length log → Opened ks t (opened ks t log)
-  opened-is [] log h = tt
-  opened-is (r ∷ rs) [] h = absurd (not-suc-le-zero h)
-  opened-is (r ∷ rs) (l ∷ ls) h = ((λ e. ap (λ (b : Bool). cond b l (clIn program ks (body r))) e), opened-is rs ls (le-of-suc-le-suc h))
+module _ (ks : List ℕ) (t : Table) (n : ℕ) (form : InForm (widthOf tableS) t) (en : n ≡ length (usedRows t)) where
+  front : take n t ≡ usedRows t
+  front = ap (take n) (form .filled) ∙ take-at (usedRows t) (replicate (freeRows t) (zeroRow (widthOf tableS))) n (sym en)
 
-  -- the CL of a used row
-  pub opened-at : (t : Table) (log : List (List ℕ)) (i : ℕ) → Opened ks t log → i < length t → isFree (getD t i []) ≡ false → getD log i [] ≡ clIn program ks (body (getD t i []))
-  opened-at [] log i o h e = absurd (not-suc-le-zero h)
-  opened-at (r ∷ rs) [] i o h e = absurd (omega arith)
-  opened-at (r ∷ rs) (l ∷ ls) zero o h e = o .0 e
-  opened-at (r ∷ rs) (l ∷ ls) (suc i) o h e = opened-at rs ls i (o .1) (le-of-suc-le-suc h) e
-
-  -- rows that are freed leave the log of the others
-  pub opened-freed : (q : List ℕ → Bool) (t : Table) (log : List (List ℕ)) → Opened ks t log → Opened ks (freeWhere (widthOf tableS) q t) log
-  opened-freed q [] log o = tt
-  opened-freed q (r ∷ rs) [] o = o
-  opened-freed q (r ∷ rs) (l ∷ ls) o = (go (not (isFree r) && q (body r)), opened-freed q rs ls (o .1))
+  -- the log is that of the used rows
+  pub log-is : clsIn ks (take n t) ≡ logOf program ks t
+  unfolding clsIn logOf
+  log-is = ap (map (λ r. clIn program ks (body r))) front ∙ sym (ap (map (clIn program ks)) (used-is t) ∙ map-map (usedRows t))
     where
-      go : (b : Bool) → isFree (cond b (zeroRow (widthOf tableS)) r) ≡ false → l ≡ clIn program ks (body (cond b (zeroRow (widthOf tableS)) r))
-      go true e = absurd (true≢false (sym (zero-free (widthOf tableS)) ∙ e))
-      go false e = o .0 e
+      map-map : (l : List Row) → map (clIn program ks) (map body l) ≡ map (λ r. clIn program ks (body r)) l
+      map-map [] = refl
+      map-map (r ∷ rs) = ap (λ (x : List (List ℕ)). clIn program ks (body r) ∷ x) (map-map rs)
 
-  -- freeing by the log is freeing by CL [01:OP12]
-  pub free-logged : (cl : List ℕ) (t : Table) (log : List (List ℕ)) → Opened ks t log → freeLogged cl log t ≡ freeLog program ks cl t
-  unfolding freeLog
-  free-logged cl t log o = go t log o
+  pub log-length : length (clsIn ks (take n t)) ≡ n
+  unfolding clsIn
+  log-length = length-map (take n t) (λ r. clIn program ks (body r)) ∙ ap length front ∙ sym en
+
+  log-at : (i : ℕ) → i < n → getD (clsIn ks (take n t)) i [] ≡ clIn program ks (body (getD t i []))
+  unfolding clsIn
+  log-at i h = at (take n t) i (omega (arith, ap length front)) ∙ ap (λ (r : Row). clIn program ks (body r)) (getD-take n t i [] h)
     where
-      row : (b : Bool) (r l : List ℕ) → isFree r ≡ b → (isFree r ≡ false → l ≡ clIn program ks (body r)) → cond (not b && same l cl) (zeroRow (widthOf tableS)) r ≡ cond (not b && same (clIn program ks (body r)) cl) (zeroRow (widthOf tableS)) r
-      row true r l e h = refl
-      row false r l e h = ap (λ (x : List ℕ). cond (same x cl) (zeroRow (widthOf tableS)) r) (h e)
+      at : (l : Table) (i : ℕ) → i < length l → getD (map (λ r. clIn program ks (body r)) l) i [] ≡ clIn program ks (body (getD l i []))
+      at [] i h = absurd (not-suc-le-zero h)
+      at (r ∷ rs) zero h = refl
+      at (r ∷ rs) (suc i) h = at rs i (le-of-suc-le-suc h)
 
-      go : (t : Table) (log : List (List ℕ)) → Opened ks t log → freeLogged cl log t ≡ freeWhere (widthOf tableS) (λ b. same (clIn program ks b) cl) t
-      go [] log o = refl
-      go (r ∷ rs) [] o = absurd (omega arith)
-      go (r ∷ rs) (l ∷ ls) o = ap₂ (λ (x : Row) (xs : Table). x ∷ xs) (row (isFree r) r l refl (o .0)) (go rs ls (o .1))
+  below : (i : ℕ) → i < length t → isFree (getD t i []) ≡ false → i < n
+  below i h e = go (ltb i n) refl
+    where
+      go : (b : Bool) → ltb i n ≡ b → i < n
+      go true q = ltb-true i n q
+      go false q =
+          absurd (true≢false (sym (ap isFree (free-row (widthOf tableS) t form i (omega (arith, ltb-false i n q, en)) h) ∙ zero-free (widthOf tableS)) ∙ e))
+
+  module _ (upto m : ℕ) (few : upto ≤ n) (room : length t ≤ m) (fs : List ℕ) (ef : fs ≡ flagsUnder upto (firsts (clsIn ks (take n t))) ++ drop n (replicate m 0)) where
+    long : length (flagsUnder upto (firsts (clsIn ks (take n t)))) ≡ n
+    long = under-length upto (firsts (clsIn ks (take n t))) ∙ firsts-length (clsIn ks (take n t)) ∙ log-length
+
+    test : List ℕ → Bool
+    test b = anyOf (λ y. same y (clIn program ks b)) (distinct (take upto (clsIn ks (take n t))))
+
+    tested : (x : List ℕ) → anyOf (λ y. same y x) (distinct (take upto (clsIn ks (take n t)))) ≡ ltb (firstIn (clsIn ks (take n t)) x) upto
+    tested x = any-distinct x (take upto (clsIn ks (take n t))) ∙ any-first (clsIn ks (take n t)) x upto (omega (arith, log-length))
+
+    flag-used : (i : ℕ) → i < length t → isFree (getD t i []) ≡ false → getD fs i 0 ≡ bit (test (body (getD t i [])))
+    unfolding test
+    flag-used i h e =
+        let k = below i h e in
+        let l = clsIn ks (take n t) in
+        ap (λ (x : List ℕ). getD x i 0) ef ∙ List·getD-append (flagsUnder upto (firsts l)) (drop n (replicate m 0)) 0 i (omega (arith, k, long))
+        ∙ under-at upto (firsts l) i (omega (arith, k, firsts-length l, log-length))
+        ∙ ap (λ (x : ℕ). bit (ltb x upto)) (sym (List·getD-append (firsts l) [] 0 i (omega (arith, k, firsts-length l, log-length))) ∙ firsts-at l [] i (omega (arith, k, log-length)) ∙ ap (firstIn l) (log-at i k))
+        ∙ ap bit (sym (tested (clIn program ks (body (getD t i [])))))
+
+    flag-free : (i : ℕ) → i < length t → isFree (getD t i []) ≡ true → getD fs i 0 ≡ 0
+    flag-free i h e =
+        let l = flagsUnder upto (firsts (clsIn ks (take n t))) in
+        let z : length l + (i - n) ≡ i = omega (arith, long, past) in
+        ap (λ (x : List ℕ). getD x i 0) ef ∙ ap (λ (j : ℕ). getD (l ++ drop n (replicate m 0)) j 0) (sym z) ∙ getD-append-add l (drop n (replicate m 0)) (i - n) 0
+        ∙ getD-drop n (replicate m 0) (i - n) 0 ∙ getD-replicate m (n + (i - n)) 0 0 (omega (arith, past))
+      where
+        past : n ≤ i
+        past = go (ltb i n) refl
+          where
+            go : (b : Bool) → ltb i n ≡ b → n ≤ i
+            go true q = absurd (true≢false (sym e ∙ used-row (widthOf tableS) t form i (omega (arith, ltb-true i n q, en))))
+            go false q = ltb-false i n q
+
+    fs-long : length t ≤ length fs
+    fs-long = omega (arith, ap length ef ∙ lib.ListN.length-append (flagsUnder upto (firsts (clsIn ks (take n t)))) (drop n (replicate m 0)), long, length-drop {A = ℕ} n (replicate m 0), length-replicate {A = ℕ} m 0)
+
+    -- closed up once
+    pub shut-is : (c : ℕ) (nonces : List ℕ) → reordered (widthOf tableS) (freeFlagged (widthOf tableS) fs t) ≡ shut c nonces ks t form (distinct (take upto (clsIn ks (take n t))))
+    unfolding shut closed test
+    shut-is c nonces = ap (reordered (widthOf tableS)) (flags-where (widthOf tableS) test t fs fs-long flag-used flag-free)

@@ -1,7 +1,7 @@
 -- The refusals before the treatment, in their order (document 01, "Refusals from the input" and "Refusals from the state").
 use Prim.Native.Nat.{ℕ, _+_, _-_, _/_, _%_, _≤_, _<_}
-use mathlib.Core.Path.{_≡_, _∙_}
-use mathlib.Core.Option.{none, some}
+use mathlib.Core.Path.{_≡_, sym, ap, _∙_}
+use mathlib.Core.Option.{Option, none, some}
 use mathlib.Core.List.{List, [], _∷_, _++_}
 use native.Mathlib.Omega.{arith}
 use borrow.Author.Tests.{eq-eqb, ne-eqb, lt-ltb, le-ltb}
@@ -9,13 +9,13 @@ use lib.Dec.{ltb}
 use lib.ListN.{length}
 use Rattle.answer.specs.Answer.{Answer, refused, refusal}
 use Rattle.answer.specs.declared.Refusal.{Refusal}
-use Rattle.answer.specs.Verdict.{Test, _⇒_, verdict}
+use Rattle.answer.specs.Verdict.{Test, _⇒_, verdict, answerOr, unlessRefused}
 use Rattle.table.specs.Table.{used}
 use Rattle.table.proofs.Rows.{free-used}
 use Rattle.scheme.specs.Keys.{compactionTokenLength}
-use Rattle.scheme.specs.Store.{cut, stateTests}
+use Rattle.scheme.specs.Store.{cut, joined, stateTests}
 use Rattle.scheme.specs.Refusals.{compactionInputTests, tokenTests}
-use Rattle.scheme.specs.Compaction.{compactVerdict, Compacted, Compact}
+use Rattle.scheme.specs.Compaction.{compactVerdict, treated, compactedStore, compact}
 use Rattle.suite.specs.Program.{program}
 use Rattle.store.specs.declared.Shape.{Shape}
 use Rattle.store.specs.declared.Checked.the-variants.{Fit, Refused}
@@ -30,15 +30,23 @@ rows-left before z e =
     omega (arith, free-used (cut before .table tableS))
 
 module _ (before nonces token : List ℕ) where
-  -- a refusal, by its number
-  pub refuses : (r answer : Answer) (after : List ℕ) → compactVerdict program before nonces token ≡ some r → answer ≡ r → after ≡ before → Compact program before nonces token answer after
-  refuses r answer after v a b = record {
-    kept = λ q e. (let k : answer ≡ q = cc in k, b);
-    wrote = λ e. absurd (let z : _≡_ {A = ℕ} 0 1 = cc in omega arith);
-  }
+  -- a refusal leaves the store
+  pub refuses : (r : Answer) → compactVerdict program before nonces token ≡ some r → (r ≡ compact program before nonces token .answer) × (before ≡ compact program before nonces token .store)
+  unfolding compact
+  refuses r v = (sym (ap (λ (o : Option Answer). answerOr o (treated program before nonces token .answer)) v), sym (ap (λ (o : Option Answer). unlessRefused o wrote before) v))
+    where
+      wrote : List ℕ
+      wrote = joined (compactedStore before (treated program before nonces token .tC) (treated program before nonces token .tS))
 
-  pub goes : (answer : Answer) (after : List ℕ) → compactVerdict program before nonces token ≡ none → Compacted program before nonces token answer after → Compact program before nonces token answer after
-  goes answer after v c = record { kept = λ q e. absurd (let z : _≡_ {A = ℕ} 0 1 = cc in omega arith); wrote = λ e. c }
+  pub goes : (answer : Answer) (after : List ℕ) → compactVerdict program before nonces token ≡ none → answer ≡ treated program before nonces token .answer
+      → after ≡ joined (compactedStore before (treated program before nonces token .tC) (treated program before nonces token .tS))
+      → (answer ≡ compact program before nonces token .answer) × (after ≡ compact program before nonces token .store)
+  unfolding compact
+  goes answer after v a w =
+      (a ∙ sym (ap (λ (o : Option Answer). answerOr o (treated program before nonces token .answer)) v), w ∙ sym (ap (λ (o : Option Answer). unlessRefused o wrote before) v))
+    where
+      wrote : List ℕ
+      wrote = joined (compactedStore before (treated program before nonces token .tC) (treated program before nonces token .tS))
 
   pub verdict-nonces : (length nonces % 12 ≡ 0 → ⊥) → compactVerdict program before nonces token ≡ some (refused 4 [])
   unfolding compactVerdict compactionInputTests
@@ -54,7 +62,7 @@ module _ (before nonces token : List ℕ) where
       abbrev fewNonces : List Test
       fewNonces = (ltb (length nonces / 12) (length (used (cut before .table tableS))) ⇒ 19) ∷ []
 
-      -- what is left are 10, 11 and 19
+      -- what is left are 10, 11, 20 and 19
       state : compactVerdict program before nonces token ≡ verdict (stateTests before ++ fewNonces)
       unfolding compactVerdict compactionInputTests tokenTests
       state = rw (eq-eqb (length nonces % 12) 0 n, eq-eqb (length token) compactionTokenLength t)
@@ -71,7 +79,7 @@ module _ (before nonces token : List ℕ) where
             let k : length nonces / 12 < length (used (cut before .table tableS)) = omega (arith, rows-left before z e) in
             rest ∙ rw (lt-ltb (length nonces / 12) (length (used (cut before .table tableS))) k)
 
-        pub enough : z .s .rows - z .s .free ≤ length nonces / 12 → length (used (cut before .table tableS)) ≤ length nonces / 12
+        enough : z .s .rows - z .s .free ≤ length nonces / 12 → length (used (cut before .table tableS)) ≤ length nonces / 12
         enough h = omega (arith, rows-left before z e)
 
         pub verdict-none : z .s .rows - z .s .free ≤ length nonces / 12 → compactVerdict program before nonces token ≡ none

@@ -1,3 +1,3 @@
-pub mod Log
-pub mod Steps
+pub mod Tally
+pub mod Course
 pub mod Outcome

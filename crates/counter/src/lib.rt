@@ -4,7 +4,8 @@ ghost use mathlib.Core.List.{[]};
 ghost use Prim.Native.Nat.{_*_, _≤_, _<_};
 ghost use lib.ListN.{length, getD};
 ghost use Rattle.scheme.specs.Store.{tableC, widthOf};
-ghost use Rattle.table.specs.Table.{rows, body};
+ghost use Rattle.table.specs.Table.{rows, body, placeOf};
+ghost use Rattle.table.specs.Order.{Searchable};
 ghost use Rattle.scheme.specs.Reading.{limit, walk, reading};
 ghost use Rattle.suite.specs.Program.{program};
 ghost use Rattle.format.specs.Tags.{KeysOf};
@@ -47,6 +48,24 @@ fn numbers_or(t: &[u8], c: usize, i: usize, ce: &[u8; 32], other: Numbers) -> Nu
     }
 }
 
+// How a row is looked up: by a search in the order of rows, or by a walk from the first row on.
+pub enum Lookup {
+    Search,
+    Walk,
+}
+
+// The used row of C of lowest index with a tag; c where there is none. u is the number of used rows.
+// [01:ST13]
+fn place(t: &[u8], c: usize, u: usize, by: Lookup, tag: &[u8; 32]) -> usize
+    requires { ⌜ (length (now t) ≡ widthOf tableC * c) × Searchable (widthOf tableC) u (rows (widthOf tableC) c (now t)) ⌝ }
+    ensures { λ r. ⌜ r ≡ placeOf (now (tag .entry)) (rows (widthOf tableC) c (now (t .entry))) ⌝ }
+{
+    match by {
+        Lookup::Search => search::place(t, C_WIDTH, c, u, tag),
+        Lookup::Walk => table::place(t, C_WIDTH, c, tag),
+    }
+}
+
 // B, and the place of anchor B's row; c where B is 0.
 struct Anchors {
     b: AnchorNumber,
@@ -54,8 +73,8 @@ struct Anchors {
 }
 
 // The greatest B up to c such that anchors 1 to B are all held. [01:RC1]
-fn anchors_held(t: &[u8], c: usize, ct: Keyed) -> Anchors
-    requires { ⌜ (length (now t) ≡ widthOf tableC * c) × (c ≤ 4096) ⌝ }
+fn anchors_held(t: &[u8], c: usize, u: usize, by: Lookup, ct: Keyed) -> Anchors
+    requires { ⌜ ((length (now t) ≡ widthOf tableC * c) × (c ≤ 4096)) × Searchable (widthOf tableC) u (rows (widthOf tableC) c (now t)) ⌝ }
     ensures { λ r. ⌜ (r .b .0 ≡ walk (heldIn (anchorTags ct) (rows (widthOf tableC) c (now (t .entry)))) c 0) × (r .at ≡ lastPlace (anchorTags ct) (rows (widthOf tableC) c (now (t .entry))) 0 (r .b .0)) ⌝ }
 {
     let mut b: u64 = 0;
@@ -63,7 +82,7 @@ fn anchors_held(t: &[u8], c: usize, ct: Keyed) -> Anchors
     let mut left = c;
     while 0 < left {
         let tag = format::anchor_tag(ct, AnchorNumber(b + 1));
-        let i = table::place(t, C_WIDTH, c, &tag);
+        let i = place(t, c, u, by, &tag);
         if c <= i {
             return Anchors {
                 b: AnchorNumber(b),
@@ -88,8 +107,16 @@ struct Counters {
 
 // The greatest k up to c such that counters Start + 1 to Start + k are all held. [01:RC3]
 // Their places are noted.
-fn counters_held(t: &[u8], c: usize, ct: Keyed, start: Position, places: &mut [u16]) -> Counters
-    requires { ⌜ ((length (now t) ≡ widthOf tableC * c) × (c ≤ length (now places))) × ((c ≤ 4096) × (start .0 ≤ limit)) ⌝ }
+fn counters_held(
+    t: &[u8],
+    c: usize,
+    u: usize,
+    by: Lookup,
+    ct: Keyed,
+    start: Position,
+    places: &mut [u16],
+) -> Counters
+    requires { ⌜ ((length (now t) ≡ widthOf tableC * c) × (c ≤ length (now places))) × (((c ≤ 4096) × (start .0 ≤ limit)) × Searchable (widthOf tableC) u (rows (widthOf tableC) c (now t))) ⌝ }
     ensures { λ r. ⌜ (r .k ≡ walk (heldIn (counterTags ct) (rows (widthOf tableC) c (now (t .entry)))) c (start .0)) × (r .at ≡ lastPlace (counterTags ct) (rows (widthOf tableC) c (now (t .entry))) (start .0) (r .k)) ⌝ }
     ensures { λ r. ⌜ now (places .exit) ≡ noted (counterTags ct) (rows (widthOf tableC) c (now (t .entry))) (start .0) (r .k) (now (places .entry)) ⌝ }
 {
@@ -98,7 +125,7 @@ fn counters_held(t: &[u8], c: usize, ct: Keyed, start: Position, places: &mut [u
     let mut rest = c;
     while 0 < rest {
         let tag = format::counter_tag(ct, Position(start.0 + k + 1));
-        let i = table::place(t, C_WIDTH, c, &tag);
+        let i = place(t, c, u, by, &tag);
         if c <= i {
             return Counters { k, at };
         }
@@ -145,20 +172,28 @@ pub enum Reading {
 // places of the counters that it held. Anchor B is tested before the counters are walked, since Start
 // + k could pass 2^64; only anchor B and counter Start + k are decrypted, each where it exists.
 // [01:RC5 RC6 RC7]
-pub fn read_by(t: &[u8], c: usize, cl: &[u8; 32], keys: Keys, places: &mut [u16]) -> Reading
-    requires { ⌜ ((length (now t) ≡ widthOf tableC * c) × (c ≤ length (now places))) × ((c ≤ 4096) × KeysOf keys (now cl)) ⌝ }
+pub fn read_by(
+    t: &[u8],
+    c: usize,
+    u: usize,
+    by: Lookup,
+    cl: &[u8; 32],
+    keys: Keys,
+    places: &mut [u16],
+) -> Reading
+    requires { ⌜ ((length (now t) ≡ widthOf tableC * c) × (c ≤ length (now places))) × (((c ≤ 4096) × KeysOf keys (now cl)) × Searchable (widthOf tableC) u (rows (widthOf tableC) c (now t))) ⌝ }
     ensures { λ r. ⌜ readingOf r ≡ reading program c (now (cl .entry)) (rows (widthOf tableC) c (now (t .entry))) ⌝ }
     ensures { λ _. ⌜ now (places .exit) ≡ placesNoted c (now (cl .entry)) (rows (widthOf tableC) c (now (t .entry))) (now (places .entry)) ⌝ }
 {
     let ct = keys.ct;
     let ce = keys.ce;
-    let anchors = anchors_held(t, c, ct);
+    let anchors = anchors_held(t, c, u, by, ct);
     let anchor = numbers_or(t, c, anchors.at, &ce, Numbers { a: 0, n: 0 });
     if anchor_damaged(anchor) {
         return Reading::Damage;
     }
     let start = Position(anchor.a);
-    let counters = counters_held(t, c, ct, start, places);
+    let counters = counters_held(t, c, u, by, ct, start, places);
     let counter = numbers_or(t, c, counters.at, &ce, Numbers { a: 0, n: anchor.n });
     if counter_damaged(counter) {
         return Reading::Damage;
@@ -173,27 +208,27 @@ pub fn read_by(t: &[u8], c: usize, cl: &[u8; 32], keys: Keys, places: &mut [u16]
 }
 
 // Reads the counter of CL, whose keys are given; the places that the reading notes aren't needed.
-pub fn read_keyed(t: &[u8], c: usize, cl: &[u8; 32], keys: Keys) -> Reading
-    requires { ⌜ (length (now t) ≡ widthOf tableC * c) × ((c ≤ 4096) × KeysOf keys (now cl)) ⌝ }
+pub fn read_keyed(t: &[u8], c: usize, u: usize, by: Lookup, cl: &[u8; 32], keys: Keys) -> Reading
+    requires { ⌜ (length (now t) ≡ widthOf tableC * c) × (((c ≤ 4096) × KeysOf keys (now cl)) × Searchable (widthOf tableC) u (rows (widthOf tableC) c (now t))) ⌝ }
     ensures { λ r. ⌜ readingOf r ≡ reading program c (now (cl .entry)) (rows (widthOf tableC) c (now (t .entry))) ⌝ }
 {
     let mut places = [0u16; 4096];
-    read_by(t, c, cl, keys, &mut places)
+    read_by(t, c, u, by, cl, keys, &mut places)
 }
 
 // Reads the counter of CL out of the part that holds table C.
-pub fn read(t: &[u8], c: usize, cl: &[u8; 32]) -> Reading
-    requires { ⌜ (length (now t) ≡ widthOf tableC * c) × (c ≤ 4096) ⌝ }
+pub fn read(t: &[u8], c: usize, u: usize, by: Lookup, cl: &[u8; 32]) -> Reading
+    requires { ⌜ (length (now t) ≡ widthOf tableC * c) × ((c ≤ 4096) × Searchable (widthOf tableC) u (rows (widthOf tableC) c (now t))) ⌝ }
     ensures { λ r. ⌜ readingOf r ≡ reading program c (now (cl .entry)) (rows (widthOf tableC) c (now (t .entry))) ⌝ }
 {
-    read_keyed(t, c, cl, format::keys_of(cl))
+    read_keyed(t, c, u, by, cl, format::keys_of(cl))
 }
 
-// Reads the counter of share u, whose CL comes from the prepared F(KC, x).
-pub fn read_share(t: &[u8], c: usize, clx: Keyed, u: u64) -> Reading
-    requires { ⌜ (length (now t) ≡ widthOf tableC * c) × (c ≤ 4096) ⌝ }
-    ensures { λ r. ⌜ readingOf r ≡ shareRead clx c (rows (widthOf tableC) c (now (t .entry))) u ⌝ }
+// Reads the counter of a share, whose CL comes from the prepared F(KC, x).
+pub fn read_share(t: &[u8], c: usize, u: usize, by: Lookup, clx: Keyed, share: u64) -> Reading
+    requires { ⌜ (length (now t) ≡ widthOf tableC * c) × ((c ≤ 4096) × Searchable (widthOf tableC) u (rows (widthOf tableC) c (now t))) ⌝ }
+    ensures { λ r. ⌜ readingOf r ≡ shareRead clx c (rows (widthOf tableC) c (now (t .entry))) share ⌝ }
 {
-    let cl = format::numbered(clx, u);
-    read(t, c, &cl)
+    let cl = format::numbered(clx, share);
+    read(t, c, u, by, &cl)
 }

@@ -1,65 +1,114 @@
--- V row by row: the rows gone through are freed where they are the id's, and what is left of V decides what is still to be freed in M.
-use Prim.Native.Nat.{ℕ, suc, _+_, _*_, _-_, _≤_, _<_}
-use mathlib.Core.Path.{_≡_, refl, sym, ap, ap₂, subst, _∙_}
+-- The id's rows of V stand together: those before them and behind them add no tag, and each one's tag flags its rows of M.
+use Prim.Native.Nat.{ℕ, zero, suc, _+_, _*_, _≤_, _<_}
+use mathlib.Core.Path.{_≡_, refl, sym, ap, ap₂, _∙_}
 use mathlib.Core.Bool.{Bool, true, false, cond, not, _&&_, _||_}
 use mathlib.Core.List.{List, [], _∷_, _++_, append-nil, map}
 use native.Mathlib.Numerals.{add-one}
 use native.Mathlib.Omega.{arith}
 use borrow.Author.Tests.{eq-eqb, ne-eqb}
-use lib.ListN.{length, getD, take, drop, set, length-drop, drop-of-length-le}
+use lib.ListN.{length, getD, take, drop, replicate, length-drop, drop-of-length-le}
 use lib.Seq.{drop-cons}
-use Rattle.octets.specs.Part.{back}
 use Rattle.table.specs.Lists.{same, select, count, anyOf}
-use Rattle.table.specs.Table.{Row, Table, rows, isFree, body, used, zeroRow, freeWhere}
-use Rattle.table.proofs.Rows.{free-where-none, free-where-or}
-use Rattle.table.proofs.Walk.{row-part, row-length, Freeing, freeing-none, freeing-at, freeing-hit, freeing-miss, freeing-all}
+use Rattle.table.specs.Table.{Table, rows, isFree, body, used}
+use Rattle.table.specs.Order.{reordered, closed}
+use Rattle.table.proofs.Walk.{row-part, row-length}
+use Rattle.table.proofs.Search.{startsWith}
+use Rattle.closing.specs.Flags.{flagged, freeFlagged}
+use Rattle.closing.proofs.Flags.{free-flagged-one}
 use Rattle.answer.specs.Answer.{done, refused, refusal}
 use Rattle.answer.specs.declared.Refusal.{Refusal}
 use Rattle.answer.specs.Verdict.{verdict}
-use Rattle.scheme.specs.Store.{Store, Which, widthOf, cut, joined, putIn, stateTests, reverseId, reverseTag}
+use Rattle.scheme.specs.Store.{tableM, tableV, widthOf, cut, joined, putIn, stateTests, reverseId, reverseTag}
+use Rattle.scheme.specs.Layout.{Laid}
 use Rattle.scheme.specs.Refusals.{eraseInputTests}
 use Rattle.scheme.specs.Erase.{isReverse, erasedTags, isErased, erasedStore, eraseVerdict, erase}
 use Rattle.store.specs.declared.Shape.{Shape}
 use Rattle.store.specs.declared.Checked.the-variants.{Fit, Refused}
-use Rattle.store.specs.Check.{checkedOf}
+use Rattle.store.specs.Check.{checkedOf, spanIn}
 use Rattle.store.proofs.Laws.{unfit, fit-verdict}
-use Rattle.scheme.specs.Layout.{Span, Laid}
-use Rattle.scheme.proofs.Plan.{tableM, tableV, put-same, put-again, put-swap, laid-rows, laid-back, laid-length}
+use Rattle.erase.specs.Tags.{erasedBy}
 
-module _ (before id : List ℕ) where
-  -- whether an M row has a tag of the id's rows in a part of V
-  abbrev erasedIn : Table → List ℕ → Bool
-  erasedIn t b = anyOf (same (take 32 b)) (map reverseTag (select (isReverse before id) (used t)))
+-- ---- flags by one test after another
 
-  abbrev isIds : Row → Bool
-  isIds r = not (isFree r) && isReverse before id (body r)
+flagged-or : (p q : List ℕ → Bool) (t : Table) (fs : List ℕ) → flagged (λ b. p b || q b) t fs ≡ flagged q t (flagged p t fs)
+flagged-or p q [] fs = refl
+flagged-or p q (r ∷ rs) [] = refl
+flagged-or p q (r ∷ rs) (f ∷ fs) = ap₂ (λ (x : ℕ) (xs : List ℕ). x ∷ xs) (go (isFree r) (p (body r)) (q (body r))) (flagged-or p q rs fs)
+  where
+    go : (a b c : Bool) → cond (not a && (b || c)) 1 f ≡ cond (not a && c) 1 (cond (not a && b) 1 f)
+    go true b c = refl
+    go false true true = refl
+    go false true false = refl
+    go false false c = refl
+
+flagged-ext : (p q : List ℕ → Bool) → ((b : List ℕ) → p b ≡ q b) → (t : Table) (fs : List ℕ) → flagged p t fs ≡ flagged q t fs
+flagged-ext p q h t fs = ap (λ (f : List ℕ → Bool). flagged f t fs) (λ i b. h b i)
+
+flagged-never : (t : Table) (fs : List ℕ) → flagged (λ b. false) t fs ≡ fs
+flagged-never [] fs = refl
+flagged-never (r ∷ rs) [] = refl
+flagged-never (r ∷ rs) (f ∷ fs) = ap₂ (λ (x : ℕ) (xs : List ℕ). x ∷ xs) (go (isFree r)) (flagged-never rs fs)
+  where
+    go : (a : Bool) → cond (not a && false) 1 f ≡ f
+    go true = refl
+    go false = refl
+
+-- ---- the id's rows of V
+
+module _ (id : List ℕ) where
+  -- whether a row is used and the id's
+  abbrev pub isIds : List ℕ → Bool
+  isIds r = not (isFree r) && same (reverseId (body r)) id
 
   erased-next : (t : Table) (i : ℕ) → i < length t → (x : List ℕ)
-      → erasedIn (drop i t) x ≡ cond (isIds (getD t i [])) (same (take 32 x) (reverseTag (body (getD t i []))) || erasedIn (drop (i + 1) t) x) (erasedIn (drop (i + 1) t) x)
-  erased-next t i h x = rw (add-one i, drop-cons t i [] h) (go (isFree (getD t i [])) (isReverse before id (body (getD t i []))) refl)
+      → erasedBy id (drop i t) x ≡ cond (isIds (getD t i [])) (same (take 32 x) (reverseTag (body (getD t i []))) || erasedBy id (drop (i + 1) t) x) (erasedBy id (drop (i + 1) t) x)
+  erased-next t i h x = rw (add-one i, drop-cons t i [] h) (go (isFree (getD t i [])) (same (reverseId (body (getD t i []))) id) refl)
     where
-      go : (f r : Bool) → isReverse before id (body (getD t i [])) ≡ r
-          → anyOf (same (take 32 x)) (map reverseTag (select (isReverse before id) (cond f (used (drop (suc i) t)) (body (getD t i []) ∷ used (drop (suc i) t)))))
-          ≡ cond (not f && r) (same (take 32 x) (reverseTag (body (getD t i []))) || erasedIn (drop (suc i) t) x) (erasedIn (drop (suc i) t) x)
+      go : (f r : Bool) → same (reverseId (body (getD t i []))) id ≡ r
+          → anyOf (same (take 32 x)) (map reverseTag (select (λ r. same (reverseId r) id) (cond f (used (drop (suc i) t)) (body (getD t i []) ∷ used (drop (suc i) t)))))
+          ≡ cond (not f && r) (same (take 32 x) (reverseTag (body (getD t i []))) || erasedBy id (drop (suc i) t) x) (erasedBy id (drop (suc i) t) x)
       go true r e = refl
       go false true e = rw e
       go false false e = rw e
 
-  -- the store with other tables M and V
-  abbrev with : Table → Table → Store
-  with tM tV = putIn tableV tV (putIn tableM tM (cut before))
+  -- rows that are not the id's add nothing, at the front or at the end
+  erased-skip : (t : Table) (i : ℕ) → i ≤ length t → ((j : ℕ) → j < i → isIds (getD t j []) ≡ false) → (x : List ℕ) → erasedBy id (drop i t) x ≡ erasedBy id t x
+  erased-skip t zero h n x = refl
+  erased-skip t (suc i) h n x =
+      let e = erased-next t i h x ∙ ap (λ (b : Bool). cond b (same (take 32 x) (reverseTag (body (getD t i []))) || erasedBy id (drop (i + 1) t) x) (erasedBy id (drop (i + 1) t) x)) (n i (omega arith)) in
+      ap (λ (k : ℕ). erasedBy id (drop k t) x) (sym (add-one i)) ∙ sym e ∙ erased-skip t i (omega arith) (λ j l. n j (omega arith)) x
 
-  with-same : with (cut before .table tableM) (cut before .table tableV) ≡ cut before
-  with-same = ap (putIn tableV (cut before .table tableV)) (put-same tableM (cut before)) ∙ put-same tableV (cut before)
+  erased-none : (t : Table) → ((j : ℕ) → j < length t → isIds (getD t j []) ≡ false) → (x : List ℕ) → erasedBy id t x ≡ false
+  erased-none t n x = sym (erased-skip t (length t) (omega arith) n x) ∙ ap (λ (l : Table). erasedBy id l x) (drop-of-length-le t {i = length t} (omega arith))
 
-  with-M : (tM tV t : Table) → putIn tableM t (with tM tV) ≡ with t tV
-  with-M tM tV t = put-swap tableM tableV t tV (putIn tableM tM (cut before)) refl ∙ ap (putIn tableV tV) (put-again tableM t tM (cut before))
+  -- the rows of V before i are gone through; what is left of V decides
+  pub record Flagged (v tM : Table) (fs₀ : List ℕ) (i : ℕ) (fs : List ℕ) : Type 0 where
+    pub left : flagged (erasedBy id (drop i v)) tM fs ≡ flagged (erasedBy id v) tM fs₀
+    pub long : length fs ≡ length fs₀
 
-  with-V : (tM tV t : Table) → putIn tableV t (with tM tV) ≡ with tM t
-  with-V tM tV t = put-again tableV t tV (putIn tableM tM (cut before))
+  module _ (v tM : Table) (fs₀ : List ℕ) where
+    pub flagged-begin : (i : ℕ) → i ≤ length v → ((j : ℕ) → j < i → isIds (getD v j []) ≡ false) → Flagged v tM fs₀ i fs₀
+    flagged-begin i h n = record { left = flagged-ext (erasedBy id (drop i v)) (erasedBy id v) (erased-skip v i h n) tM fs₀; long = refl }
 
-  abbrev v₀ : Table
-  v₀ = cut before .table tableV
+    pub flagged-turn : (i : ℕ) (fs fs′ tag : List ℕ) → Flagged v tM fs₀ i fs → i < length v → isIds (getD v i []) ≡ true → tag ≡ reverseTag (body (getD v i []))
+        → fs′ ≡ flagged (λ b. same (take 32 b) tag) tM fs → length fs′ ≡ length fs → Flagged v tM fs₀ (i + 1) fs′
+    flagged-turn i fs fs′ tag o h y et ef l = record {
+      left =
+          ap (flagged (erasedBy id (drop (i + 1) v)) tM) ef
+          ∙ sym (flagged-or (λ b. same (take 32 b) tag) (erasedBy id (drop (i + 1) v)) tM fs)
+          ∙ sym (flagged-ext (erasedBy id (drop i v)) (λ b. same (take 32 b) tag || erasedBy id (drop (i + 1) v) b)
+          (λ b. erased-next v i h b ∙ ap (λ (c : Bool). cond c (same (take 32 b) (reverseTag (body (getD v i []))) || erasedBy id (drop (i + 1) v) b) (erasedBy id (drop (i + 1) v) b)) y
+          ∙ ap (λ (g : List ℕ). same (take 32 b) g || erasedBy id (drop (i + 1) v) b) (sym et)) tM fs)
+          ∙ o .left;
+      long = l ∙ o .long;
+    }
+
+    pub flagged-done : (i : ℕ) (fs : List ℕ) → Flagged v tM fs₀ i fs → ((j : ℕ) → i ≤ j → j < length v → isIds (getD v j []) ≡ false) → fs ≡ flagged (erasedBy id v) tM fs₀
+    flagged-done i fs o n =
+        sym (flagged-never tM fs)
+        ∙ sym (flagged-ext (erasedBy id (drop i v)) (λ b. false) (erased-none (drop i v)
+        (λ j l. rw (lib.Seq.getD-drop i v j []) (n (i + j) (omega arith) (omega (arith, length-drop i v))))) tM fs)
+        ∙ o .left
 
 -- a tag has 32 bytes
 pub tag-length : (t : List ℕ) (n i : ℕ) → i < n → length t ≡ widthOf tableV * n → length (reverseTag (body (getD (rows (widthOf tableV) n t) i []))) ≡ 32
@@ -69,106 +118,37 @@ tag-length t n i h e =
     let l : length row ≡ widthOf tableV = sym (ap length (row-part (widthOf tableV) n i t h)) ∙ row-length (widthOf tableV) n i t h e in
     length-drop 16 (drop 1 row) ∙ omega (arith, length-drop 1 row)
 
--- the tables stand at these places
-module _ (before id : List ℕ) (at : Which → Span) where
-  -- i rows of V gone through, k of them freed, and the bytes b
-  pub record Erasing (i k : ℕ) (b : List ℕ) : Type 0 where
-    pub tM : Table
-    pub tV : Table
-    pub laid : Laid at b (with before id tM tV)
-    pub reverses : Freeing (widthOf tableV) (isReverse before id) (cut before .table tableV) i tV k
-    pub entries : freeWhere (widthOf tableM) (erasedIn before id (drop i (cut before .table tableV))) tM ≡ freeWhere (widthOf tableM) (isErased before id) (cut before .table tableM)
+-- the id's test is that of the definition, and of a search
+pub ids-start : (id r : List ℕ) → length id ≡ 16 → isIds id r ≡ startsWith id r
+unfolding reverseId
+ids-start id r e = ap (λ (k : ℕ). not (isFree r) && same (take k (body r)) id) (sym e)
 
-  pub erasing-none : Laid at before (cut before) → Erasing 0 0 before
-  unfolding isErased erasedTags
-  erasing-none l = record {
-    tM = cut before .table tableM;
-    tV = cut before .table tableV;
-    laid = subst (Laid at before) (sym (with-same before id)) l;
-    reverses = freeing-none (widthOf tableV) (isReverse before id) (cut before .table tableV);
-    entries = refl;
-  }
+-- ---- both tables closed up
 
-  abbrev partOf : Which → List ℕ → List ℕ
-  partOf k b = take (at k .end - at k .start) (drop (at k .start) b)
+module _ (before id : List ℕ) where
+  pub reverse-is : (n : ℕ) → n ≡ length id → n ≡ 16 → (b : List ℕ) → same (take n b) id ≡ isReverse before id b
+  unfolding isReverse reverseId
+  reverse-is n e f b = ap (λ (k : ℕ). same (take k b) id) f
 
-  module _ (i k : ℕ) (b : List ℕ) (o : Erasing i k b) where
-    pub rows-V : rows (widthOf tableV) (at tableV .rows) (partOf tableV b) ≡ o .tV
-    rows-V = laid-rows at b (with before id (o .tM) (o .tV)) (o .laid) tableV
+  pub closed-V : (t : Table) (fs : List ℕ) → length id ≡ 16 → length t ≤ 4096 → fs ≡ flagged (λ b. same (take (length id) b) id) t (replicate 4096 0)
+      → reordered (widthOf tableV) (freeFlagged (widthOf tableV) fs t) ≡ closed (widthOf tableV) (isReverse before id) t
+  unfolding closed
+  closed-V t fs e h f =
+      ap (λ (g : List ℕ). reordered (widthOf tableV) (freeFlagged (widthOf tableV) g t)) f
+      ∙ ap (reordered (widthOf tableV)) (free-flagged-one (widthOf tableV) (λ b. same (take (length id) b) id) 4096 t h)
+      ∙ ap (λ (q : List ℕ → Bool). reordered (widthOf tableV) (Rattle.table.specs.Table.freeWhere (widthOf tableV) q t)) (λ i b. reverse-is (length id) refl e b i)
 
-    -- after a change of M
-    pub laid-M : (ys : List ℕ) → length ys ≡ length (partOf tableM b) → Laid at (back b (at tableM .start) (at tableM .end) ys) (with before id (rows (widthOf tableM) (at tableM .rows) ys) (o .tV))
-    laid-M ys h =
-        subst (Laid at (back b (at tableM .start) (at tableM .end) ys)) (with-M before id (o .tM) (o .tV) (rows (widthOf tableM) (at tableM .rows) ys))
-        (laid-back at b (with before id (o .tM) (o .tV)) (o .laid) tableM ys h)
+  pub closed-M : (t : Table) (fs : List ℕ) → length t ≤ 4096 → fs ≡ flagged (erasedBy id (cut before .table tableV)) t (replicate 4096 0)
+      → reordered (widthOf tableM) (freeFlagged (widthOf tableM) fs t) ≡ closed (widthOf tableM) (isErased before id) t
+  unfolding closed isErased erasedTags isReverse
+  closed-M t fs h f =
+      ap (λ (g : List ℕ). reordered (widthOf tableM) (freeFlagged (widthOf tableM) g t)) f
+      ∙ ap (reordered (widthOf tableM)) (free-flagged-one (widthOf tableM) (erasedBy id (cut before .table tableV)) 4096 t h)
 
-    pub same-length : Laid at before (cut before) → length b ≡ length before
-    same-length l = laid-length at b (with before id (o .tM) (o .tV)) (o .laid) ∙ sym (laid-length at before (cut before) l)
-
-    -- what the code compares: row i of V
-    module _ (l : i < length (v₀ before id)) (hit : Bool)
-        (e : hit ≡ (let r = getD (rows (widthOf tableV) (at tableV .rows) (partOf tableV b)) i [] in not (isFree r) && same (reverseId (body r)) id)) where
-      test : hit ≡ isIds before id (getD (o .tV) i [])
-      unfolding isReverse
-      test = e ∙ ap (λ (t : Table). isIds before id (getD t i [])) rows-V
-
-      at₀ : getD (o .tV) i [] ≡ getD (v₀ before id) i []
-      at₀ = freeing-at (widthOf tableV) (isReverse before id) (v₀ before id) (o .tV) i k (o .reverses)
-
-      pub erasing-miss : hit ≡ false → Erasing (i + 1) k b
-      erasing-miss no-hit = record {
-        tM = o .tM;
-        tV = o .tV;
-        laid = o .laid;
-        reverses = freeing-miss (widthOf tableV) (isReverse before id) (v₀ before id) (o .tV) i k (o .reverses) l hit test (o .tV) k no-hit refl refl;
-        entries = ap (λ (q : List ℕ → Bool). freeWhere (widthOf tableM) q (o .tM)) (λ j x. sym (rest x) j) ∙ o .entries;
-      }
-        where
-          rest : (x : List ℕ) → erasedIn before id (drop i (v₀ before id)) x ≡ erasedIn before id (drop (i + 1) (v₀ before id)) x
-          rest x = erased-next before id (v₀ before id) i l x ∙ ap (λ (z : Bool). cond z (same (take 32 x) (reverseTag (body (getD (v₀ before id) i []))) || erasedIn before id (drop (i + 1) (v₀ before id)) x) (erasedIn before id (drop (i + 1) (v₀ before id)) x)) (ap (isIds before id) (sym at₀) ∙ sym test ∙ no-hit)
-
-      -- the id's row: its tag's rows of M are freed, then it is freed
-      module _ (tag ysM ysV : List ℕ) (et : tag ≡ reverseTag (body (getD (rows (widthOf tableV) (at tableV .rows) (partOf tableV b)) i [])))
-          (lM : length ysM ≡ length (partOf tableM b)) (lV : length ysV ≡ length (partOf tableV (back b (at tableM .start) (at tableM .end) ysM)))
-          (eM : rows (widthOf tableM) (at tableM .rows) ysM ≡ freeWhere (widthOf tableM) (λ x. same (take 32 x) tag) (rows (widthOf tableM) (at tableM .rows) (partOf tableM b)))
-          (eV : rows (widthOf tableV) (at tableV .rows) ysV ≡ set (rows (widthOf tableV) (at tableV .rows) (partOf tableV (back b (at tableM .start) (at tableM .end) ysM))) i (zeroRow (widthOf tableV))) (yes-hit : hit ≡ true) where
-        abbrev b₁ : List ℕ
-        b₁ = back b (at tableM .start) (at tableM .end) ysM
-
-        abbrev mRows : Table
-        mRows = rows (widthOf tableM) (at tableM .rows) ysM
-
-        abbrev vRows : Table
-        vRows = rows (widthOf tableV) (at tableV .rows) ysV
-
-        laid₁ : Laid at b₁ (with before id mRows (o .tV))
-        laid₁ = laid-M ysM lM
-
-        tagged : tag ≡ reverseTag (body (getD (v₀ before id) i []))
-        tagged = et ∙ ap (λ (t : Table). reverseTag (body (getD t i []))) rows-V ∙ ap (λ (r : Row). reverseTag (body r)) at₀
-
-        rest : (x : List ℕ) → erasedIn before id (drop i (v₀ before id)) x ≡ (same (take 32 x) (reverseTag (body (getD (v₀ before id) i []))) || erasedIn before id (drop (i + 1) (v₀ before id)) x)
-        rest x = erased-next before id (v₀ before id) i l x ∙ ap (λ (z : Bool). cond z (same (take 32 x) (reverseTag (body (getD (v₀ before id) i []))) || erasedIn before id (drop (i + 1) (v₀ before id)) x) (erasedIn before id (drop (i + 1) (v₀ before id)) x)) (ap (isIds before id) (sym at₀) ∙ sym test ∙ yes-hit)
-
-        pub erasing-hit : Erasing (i + 1) (k + 1) (back b₁ (at tableV .start) (at tableV .end) ysV)
-        erasing-hit = record {
-          tM = mRows;
-          tV = vRows;
-          laid = subst (Laid at (back b₁ (at tableV .start) (at tableV .end) ysV)) (with-V before id mRows (o .tV) vRows) (laid-back at b₁ (with before id mRows (o .tV)) laid₁ tableV ysV lV);
-          reverses = freeing-hit (widthOf tableV) (isReverse before id) (v₀ before id) (o .tV) i k (o .reverses) l hit test vRows (k + 1) yes-hit
-              (eV ∙ ap (λ (t : Table). set t i (zeroRow (widthOf tableV))) (laid-rows at b₁ (with before id mRows (o .tV)) laid₁ tableV)) refl;
-          entries = ap (freeWhere (widthOf tableM) (erasedIn before id (drop (i + 1) (v₀ before id)))) (eM ∙ ap₂ (λ (g : List ℕ) (t : Table). freeWhere (widthOf tableM) (λ x. same (take 32 x) g) t) tagged (laid-rows at b (with before id (o .tM) (o .tV)) (o .laid) tableM))
-              ∙ free-where-or (widthOf tableM) (λ x. same (take 32 x) (reverseTag (body (getD (v₀ before id) i [])))) (erasedIn before id (drop (i + 1) (v₀ before id))) (o .tM)
-              ∙ ap (λ (q : List ℕ → Bool). freeWhere (widthOf tableM) q (o .tM)) (λ j x. sym (rest x) j) ∙ o .entries;
-        }
-
-    pub erasing-all : length (v₀ before id) ≤ i → (k ≡ count (isReverse before id) (used (v₀ before id))) × (b ≡ joined (erasedStore before id))
-    unfolding erasedStore
-    erasing-all h =
-        let r = freeing-all (widthOf tableV) (isReverse before id) (v₀ before id) (o .tV) i k (o .reverses) h in
-        let e : o .tM ≡ freeWhere (widthOf tableM) (isErased before id) (cut before .table tableM) =
-        sym (free-where-none (widthOf tableM) (o .tM)) ∙ ap (λ (t : Table). freeWhere (widthOf tableM) (erasedIn before id t) (o .tM)) (sym (drop-of-length-le (v₀ before id) h)) ∙ o .entries in
-        (r .0, o .laid .bytes ∙ ap₂ (λ (x y : Table). joined (with before id x y)) e (r .1))
+  pub both-closed : (after : List ℕ) (z : Shape) (tM tV : Table) → tM ≡ closed (widthOf tableM) (isErased before id) (cut before .table tableM) → tV ≡ closed (widthOf tableV) (isReverse before id) (cut before .table tableV)
+      → Laid (spanIn z) after (putIn tableV tV (putIn tableM tM (cut before))) → after ≡ joined (erasedStore before id)
+  unfolding erasedStore
+  both-closed after z tM tV eM eV l = l .bytes ∙ (λ i. joined (putIn tableV (eV i) (putIn tableM (eM i) (cut before))))
 
 -- the call's ways out, in the order of its refusals
 module _ (before id : List ℕ) where

@@ -8,6 +8,7 @@ ghost use lib.ListN.{length, getD, replicate};
 ghost use Rattle.answer.specs.Answer.{counted};
 ghost use Rattle.table.specs.Lists.{sum, upTo, distinct};
 ghost use Rattle.table.specs.Table.{rows};
+ghost use Rattle.table.specs.Order.{Searchable};
 ghost use Rattle.scheme.specs.Store.{tableC, tableM, widthOf};
 ghost use Rattle.scheme.specs.Keys.{findTokenLength, findCL};
 ghost use Rattle.scheme.specs.Find.{shareReading, find as findOf};
@@ -22,6 +23,7 @@ use answer::Counted;
 use answer::Refusal;
 use chains::BUCKETS;
 use chains::FIRST_BYTES;
+use counter::Lookup;
 use counter::Reading;
 use format::FIND_TOKEN;
 use format::ID;
@@ -45,15 +47,15 @@ struct Counts {
 
 // Reads the counters of shares 0 to p out of the part that holds table C, from the prepared F(KC, x).
 // [01:RS6 FM8]
-fn read_all(t: &[u8], c: usize, clx: Keyed, p: u64) -> Counts
-    requires { ⌜ (length (now t) ≡ widthOf tableC * c) × ((c ≤ 4096) × (p ≤ 15)) ⌝ }
+fn read_all(t: &[u8], c: usize, used: usize, clx: Keyed, p: u64) -> Counts
+    requires { ⌜ ((length (now t) ≡ widthOf tableC * c) × Searchable (widthOf tableC) used (rows (widthOf tableC) c (now t))) × ((c ≤ 4096) × (p ≤ 15)) ⌝ }
     ensures { λ r. ⌜ r ≡ countsOf (shareRead clx c (rows (widthOf tableC) c (now (t .entry)))) p ⌝ }
 {
     let mut of = [0u64; 16];
     let mut sum: u64 = 0;
     let mut u: u64 = 0;
     while u <= p {
-        let reading = counter::read_share(t, c, clx, u);
+        let reading = counter::read_share(t, c, used, Lookup::Search, clx, u);
         let Reading::Counter(z) = reading else {
             return Counts {
                 damaged: true,
@@ -82,7 +84,7 @@ fn counts_in(store: &[u8], z: Shape, token: &[u8]) -> Counts
     let a = c.start;
     let e = c.end;
     let clx = hmac::prepare(&token[64..FIND_TOKEN]);
-    read_all(&store[a..e], c.rows, clx, z.p)
+    read_all(&store[a..e], c.rows, c.rows - c.free, clx, z.p)
 }
 
 // The ids of the shares 0 to p, by their counts, each once, at the start of the output, and how many; or
@@ -90,19 +92,20 @@ fn counts_in(store: &[u8], z: Shape, token: &[u8]) -> Counts
 fn give(
     t: &[u8],
     m: usize,
+    used: usize,
     keys: EntryKeys,
     of: [u64; 16],
     p: u64,
     index: &mut [u32],
     output: &mut [u8],
 ) -> Counted
-    requires { ⌜ (length (now t) ≡ widthOf tableM * m) × ((m ≤ 4096) × ((p ≤ 15) × Empty (now index) (length (distinct (idsIn keys (rows (widthOf tableM) m (now t)) of (p + 1)))))) ⌝ }
+    requires { ⌜ ((length (now t) ≡ widthOf tableM * m) × Searchable (widthOf tableM) used (rows (widthOf tableM) m (now t))) × ((m ≤ 4096) × ((p ≤ 15) × Empty (now index) (length (distinct (idsIn keys (rows (widthOf tableM) m (now t)) of (p + 1)))))) ⌝ }
     ensures { λ r. ⌜ counted r ≡ givenAnswer (distinct (idsIn keys (rows (widthOf tableM) m (now (t .entry))) of (p + 1))) (now (output .entry)) ⌝ }
     ensures { λ _. ⌜ now (output .exit) ≡ givenOutput (distinct (idsIn keys (rows (widthOf tableM) m (now (t .entry))) of (p + 1))) (now (output .entry)) ⌝ }
     ensures { λ _. ⌜ now (index .exit) ≡ notedIn keys (rows (widthOf tableM) m (now (t .entry))) of (p + 1) (kept (now (index .entry)) (replicate 65536 0) 0) .index ⌝ }
 {
     let mut ids = [0u8; FIRST_BYTES];
-    let n = ids::gather(t, m, keys, of, p, index, &mut ids);
+    let n = ids::gather(t, m, used, keys, of, p, index, &mut ids);
     let room = output.len() / ID;
     if room < n {
         return Counted::Refused(Refusal::OutputLength(n as u64));
@@ -115,34 +118,36 @@ fn give(
 fn give_few(
     t: &[u8],
     m: usize,
+    used: usize,
     keys: EntryKeys,
     of: [u64; 16],
     p: u64,
     output: &mut [u8],
 ) -> Counted
-    requires { ⌜ (length (now t) ≡ widthOf tableM * m) × ((m ≤ 4096) × ((p ≤ 15) × (sum (map (λ u. getD of u 0) (upTo p)) ≤ 4096))) ⌝ }
+    requires { ⌜ ((length (now t) ≡ widthOf tableM * m) × Searchable (widthOf tableM) used (rows (widthOf tableM) m (now t))) × ((m ≤ 4096) × ((p ≤ 15) × (sum (map (λ u. getD of u 0) (upTo p)) ≤ 4096))) ⌝ }
     ensures { λ r. ⌜ counted r ≡ givenAnswer (distinct (idsIn keys (rows (widthOf tableM) m (now (t .entry))) of (p + 1))) (now (output .entry)) ⌝ }
     ensures { λ _. ⌜ now (output .exit) ≡ givenOutput (distinct (idsIn keys (rows (widthOf tableM) m (now (t .entry))) of (p + 1))) (now (output .entry)) ⌝ }
 {
     let mut index = [0u32; FEW];
-    give(t, m, keys, of, p, &mut index, output)
+    give(t, m, used, keys, of, p, &mut index, output)
 }
 
 // The same, whatever the counts: m different ids in each share at the most.
 fn give_many(
     t: &[u8],
     m: usize,
+    used: usize,
     keys: EntryKeys,
     of: [u64; 16],
     p: u64,
     output: &mut [u8],
 ) -> Counted
-    requires { ⌜ (length (now t) ≡ widthOf tableM * m) × ((m ≤ 4096) × (p ≤ 15)) ⌝ }
+    requires { ⌜ ((length (now t) ≡ widthOf tableM * m) × Searchable (widthOf tableM) used (rows (widthOf tableM) m (now t))) × ((m ≤ 4096) × (p ≤ 15)) ⌝ }
     ensures { λ r. ⌜ counted r ≡ givenAnswer (distinct (idsIn keys (rows (widthOf tableM) m (now (t .entry))) of (p + 1))) (now (output .entry)) ⌝ }
     ensures { λ _. ⌜ now (output .exit) ≡ givenOutput (distinct (idsIn keys (rows (widthOf tableM) m (now (t .entry))) of (p + 1))) (now (output .entry)) ⌝ }
 {
     let mut index = [0u32; MANY];
-    give(t, m, keys, of, p, &mut index, output)
+    give(t, m, used, keys, of, p, &mut index, output)
 }
 
 // Find in a store that passed the checks, with a token of its length: refused by 13 and 18.
@@ -164,12 +169,12 @@ fn find_in(store: &[u8], z: Shape, token: &[u8], output: &mut [u8]) -> Counted
     let keys = EntryKeys { mt, me };
     let of = counts.of;
     if counts.sum <= MOST_ROWS as u64 {
-        return give_few(&store[a..e], m.rows, keys, of, z.p, output);
+        return give_few(&store[a..e], m.rows, m.rows - m.free, keys, of, z.p, output);
     }
-    give_many(&store[a..e], m.rows, keys, of, z.p, output)
+    give_many(&store[a..e], m.rows, m.rows - m.free, keys, of, z.p, output)
 }
 
-// The ids of all shares at the start of the output, and how many: refused by 6, 10, 11, 13 and 18, with
+// The ids of all shares at the start of the output, and how many: refused by 6, 10, 11, 20, 13 and 18, with
 // the output as lent. [01:OP6 OP7 OP8]
 pub fn find(store: &[u8], token: &[u8], output: &mut [u8]) -> Counted
     ensures { λ r. ⌜ counted r ≡ findOf program (now (store .entry)) (now (token .entry)) (now (output .entry)) .answer ⌝ }

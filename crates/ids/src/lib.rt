@@ -4,9 +4,8 @@ ghost use mathlib.Core.Path.{_≡_};
 ghost use Prim.Native.Nat.{_+_, _*_, _≤_, _<_};
 ghost use lib.ListN.{length};
 ghost use Rattle.table.specs.Table.{rows, placeOf};
-ghost use Rattle.scheme.specs.Store.{tableM, widthOf, entryTag};
-ghost use Rattle.suite.specs.Program.{program};
-ghost use Rattle.format.specs.Tags.{numberedBy};
+ghost use Rattle.table.specs.Order.{Searchable};
+ghost use Rattle.scheme.specs.Store.{tableM, widthOf};
 ghost use Rattle.chains.specs.Chains.{kept, Chained};
 ghost use Rattle.ids.specs.Ids.{entryTags, notedAt, notedTo, notedIn, ShareOf};
 use format::Address;
@@ -39,12 +38,12 @@ fn keys_of(keys: EntryKeys, u: u64) -> Share
 }
 
 // The place of the row of M at an address, with the prepared MT; m where there is none. [01:ST6 ST13]
-fn place(t: &[u8], m: usize, mt: Keyed, a: Address) -> usize
-    requires { ⌜ length (now t) ≡ widthOf tableM * m ⌝ }
+fn place(t: &[u8], m: usize, used: usize, mt: Keyed, a: Address) -> usize
+    requires { ⌜ (length (now t) ≡ widthOf tableM * m) × Searchable (widthOf tableM) used (rows (widthOf tableM) m (now t)) ⌝ }
     ensures { λ r. ⌜ r ≡ placeOf (entryTags mt (a .0)) (rows (widthOf tableM) m (now (t .entry))) ⌝ }
 {
     let tag = format::entry_tag(mt, a);
-    table::place(t, M_WIDTH, m, &tag)
+    search::place(t, M_WIDTH, m, used, &tag)
 }
 
 // Notes the id of the entry at an address of a share, where it is held; answers how many are kept.
@@ -52,6 +51,7 @@ fn place(t: &[u8], m: usize, mt: Keyed, a: Address) -> usize
 fn note_entry(
     t: &[u8],
     m: usize,
+    used: usize,
     s: Share,
     keys: EntryKeys,
     a: Address,
@@ -59,10 +59,10 @@ fn note_entry(
     ids: &mut [u8],
     n: usize,
 ) -> usize
-    requires { ⌜ (length (now t) ≡ widthOf tableM * m) × ((m ≤ 4096) × ((s .u ≤ 15) × (ShareOf keys (s .u) s × (Chained (keys .me) (rows (widthOf tableM) m (now t)) (kept (now index) (now ids) n) × (4096 + notedAt keys (rows (widthOf tableM) m (now t)) (s .u) (a .0) (kept (now index) (now ids) n) .n ≤ length (now index)))))) ⌝ }
+    requires { ⌜ ((length (now t) ≡ widthOf tableM * m) × Searchable (widthOf tableM) used (rows (widthOf tableM) m (now t))) × ((m ≤ 4096) × ((s .u ≤ 15) × (ShareOf keys (s .u) s × (Chained (keys .me) (rows (widthOf tableM) m (now t)) (kept (now index) (now ids) n) × (4096 + notedAt keys (rows (widthOf tableM) m (now t)) (s .u) (a .0) (kept (now index) (now ids) n) .n ≤ length (now index)))))) ⌝ }
     ensures { λ r. ⌜ kept (now (index .exit)) (now (ids .exit)) r ≡ notedAt keys (rows (widthOf tableM) m (now (t .entry))) (s .u) (a .0) (kept (now (index .entry)) (now (ids .entry)) n) ⌝ }
 {
-    let i = place(t, m, s.mt, a);
+    let i = place(t, m, used, s.mt, a);
     if i < m {
         let key = s.me;
         let id = row::text_at(t, m, i, &key);
@@ -76,6 +76,7 @@ fn note_entry(
 fn note_share(
     t: &[u8],
     m: usize,
+    used: usize,
     s: Share,
     keys: EntryKeys,
     count: u64,
@@ -83,14 +84,14 @@ fn note_share(
     ids: &mut [u8],
     n: usize,
 ) -> usize
-    requires { ⌜ (length (now t) ≡ widthOf tableM * m) × ((m ≤ 4096) × ((s .u ≤ 15) × (ShareOf keys (s .u) s × (Chained (keys .me) (rows (widthOf tableM) m (now t)) (kept (now index) (now ids) n) × (4096 + notedTo keys (rows (widthOf tableM) m (now t)) (s .u) count (kept (now index) (now ids) n) .n ≤ length (now index)))))) ⌝ }
+    requires { ⌜ ((length (now t) ≡ widthOf tableM * m) × Searchable (widthOf tableM) used (rows (widthOf tableM) m (now t))) × ((m ≤ 4096) × ((s .u ≤ 15) × (ShareOf keys (s .u) s × (Chained (keys .me) (rows (widthOf tableM) m (now t)) (kept (now index) (now ids) n) × (4096 + notedTo keys (rows (widthOf tableM) m (now t)) (s .u) count (kept (now index) (now ids) n) .n ≤ length (now index)))))) ⌝ }
     ensures { λ r. ⌜ kept (now (index .exit)) (now (ids .exit)) r ≡ notedTo keys (rows (widthOf tableM) m (now (t .entry))) (s .u) count (kept (now (index .entry)) (now (ids .entry)) n) ⌝ }
 {
     let mut next = n;
     let mut a: u64 = 0;
     while a < count {
         a += 1;
-        next = note_entry(t, m, s, keys, Address(a), index, ids, next);
+        next = note_entry(t, m, used, s, keys, Address(a), index, ids, next);
     }
     next
 }
@@ -100,13 +101,14 @@ fn note_share(
 pub fn gather(
     t: &[u8],
     m: usize,
+    used: usize,
     keys: EntryKeys,
     of: [u64; 16],
     p: u64,
     index: &mut [u32],
     ids: &mut [u8],
 ) -> usize
-    requires { ⌜ (length (now t) ≡ widthOf tableM * m) × ((m ≤ 4096) × ((p ≤ 15) × (Chained (keys .me) (rows (widthOf tableM) m (now t)) (kept (now index) (now ids) 0) × (4096 + notedIn keys (rows (widthOf tableM) m (now t)) of (p + 1) (kept (now index) (now ids) 0) .n ≤ length (now index))))) ⌝ }
+    requires { ⌜ ((length (now t) ≡ widthOf tableM * m) × Searchable (widthOf tableM) used (rows (widthOf tableM) m (now t))) × ((m ≤ 4096) × ((p ≤ 15) × (Chained (keys .me) (rows (widthOf tableM) m (now t)) (kept (now index) (now ids) 0) × (4096 + notedIn keys (rows (widthOf tableM) m (now t)) of (p + 1) (kept (now index) (now ids) 0) .n ≤ length (now index))))) ⌝ }
     ensures { λ r. ⌜ kept (now (index .exit)) (now (ids .exit)) r ≡ notedIn keys (rows (widthOf tableM) m (now (t .entry))) of (p + 1) (kept (now (index .entry)) (now (ids .entry)) 0) ⌝ }
 {
     let mut n: usize = 0;
@@ -114,7 +116,7 @@ pub fn gather(
     while u <= p {
         let i = u as usize;
         let s = keys_of(keys, u);
-        n = note_share(t, m, s, keys, of[i], index, ids, n);
+        n = note_share(t, m, used, s, keys, of[i], index, ids, n);
         u += 1;
     }
     n

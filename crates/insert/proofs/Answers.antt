@@ -1,6 +1,6 @@
--- From the tests that a call passed or failed to the scheme's relation.
+-- From the tests that a call passed or failed to the scheme's answer and store.
 use Prim.Native.Nat.{ℕ, _+_, _*_, _-_, _%_, _≤_}
-use mathlib.Core.Path.{_≡_, refl, sym, ap, ap₂, subst, _∙_}
+use mathlib.Core.Path.{_≡_, refl, sym, ap, ap₂, _∙_}
 use mathlib.Core.Bool.{cond, not, _||_}
 use mathlib.Core.Option.{Option, none, some}
 use mathlib.Core.List.{List, [], _∷_, _++_, append-assoc}
@@ -8,17 +8,18 @@ use native.Mathlib.Omega.{arith}
 use lib.Dec.{ltb, eqb}
 use lib.ListN.{length, take, drop}
 use borrow.Author.Tests.{eqb-true, eq-eqb, ne-eqb, not-false, ltb-false}
-use Rattle.table.specs.Table.{Row, Table, rows, PlacedAll, Placed}
+use Rattle.table.specs.Table.{Row, Table, rows}
 use Rattle.table.proofs.Counting.{neither}
 use Rattle.answer.specs.Answer.{Answer, done, refused, refusal}
 use Rattle.answer.specs.declared.Refusal.{Refusal}
-use Rattle.answer.specs.Verdict.{Test, _⇒_, verdict, answerOr}
+use Rattle.answer.specs.Verdict.{verdict, answerOr, unlessRefused}
 use Rattle.scheme.specs.Keys.{insertTokenLength, tokenP, tokenMT, tokenME, tokenCL, tokenLog}
-use Rattle.scheme.specs.Store.{Sizes, widthOf, sizesOf, cut, stateTests, counterRow, logRow}
+use Rattle.scheme.specs.Store.{Sizes, Store, widthOf, sizesOf, cut, joined, stateTests, counterRow, logRow}
 use Rattle.scheme.specs.Reading.{Reading, limit, damaged, countOf, positionOf, reading}
 use Rattle.scheme.specs.Reading.Reading.{counter, damage}
 use Rattle.scheme.specs.Refusals.{lengthNot, idCount, idsIn, insertInputTests, tokenTests}
-use Rattle.scheme.specs.Insert.{entryRows, reverseRows, insertReading, newCount, insertStateTests, insertVerdict, newEntries, newReverses, newCounter, newLog, Inserted, Insert}
+use Rattle.scheme.specs.Insert
+use Rattle.scheme.specs.Insert.{entryRows, reverseRows, insertReading, newCount, insertStateTests, insertVerdict, newEntries, newReverses, newCounter, newLog, insertedStore}
 use Rattle.scheme.proofs.Verdicts.{orElse, verdict-append, passed, length-passed}
 use Rattle.suite.specs.Program.{program}
 use Rattle.store.specs.declared.Shape.{Shape}
@@ -28,7 +29,6 @@ use Rattle.store.proofs.Laws.{tableM, tableV, tableC, tableS, unfit, fit-verdic
 use Rattle.counter.proofs.Readings.{reading-bounds}
 use Rattle.admission.specs.Tests.{roomTests}
 use Rattle.insert.specs.Tests.{Accepted, Lengths, Room}
-use Rattle.insert.specs.Writing.{Written}
 
 -- ---- what passed tests tell
 
@@ -95,15 +95,28 @@ module _ (before ids nonces token : List ℕ) where
       ap verdict (sym (append-assoc (insertInputTests ids nonces) (tokenTests insertTokenLength token) (stateTests before ++ insertStateTests program before ids nonces token)))
       ∙ verdict-append (insertInputTests ids nonces ++ tokenTests insertTokenLength token) (stateTests before ++ insertStateTests program before ids nonces token)
 
-  -- a refusal changes no byte [01:RS13]
-  pub refuse : (r : Answer) → insertVerdict program before ids nonces token ≡ some r → Insert program before ids nonces token r before
-  refuse r e = record {
-    answered = sym (ap (λ (v : Option Answer). answerOr v (done (newCount program before ids token ∷ []))) e);
-    kept = λ q f. refl;
-    wrote = λ f. absurd (let z : _≡_ {A = ℕ} 0 1 = cc in omega arith);
-  }
+  -- an insert that answers so and leaves the store so
+  abbrev pub Gives : Answer → List ℕ → Type 0
+  Gives r after = (r ≡ Insert.insert program before ids nonces token .answer) × (after ≡ Insert.insert program before ids nonces token .store)
 
-  pub refused-input : (r : Answer) → some r ≡ verdict (insertInputTests ids nonces ++ tokenTests insertTokenLength token) → Insert program before ids nonces token r before
+  -- the store with the new rows
+  abbrev with-new : Store
+  with-new = insertedStore before (newEntries program before ids nonces token) (newReverses program before ids nonces token) (newCounter program before ids nonces token) (newLog program before ids nonces token)
+
+  -- a refusal changes no byte [01:RS13]
+  pub refuse : (r : Answer) → insertVerdict program before ids nonces token ≡ some r → Gives r before
+  unfolding Insert.insert
+  refuse r e =
+      (sym (ap (λ (v : Option Answer). answerOr v (done (newCount program before ids token ∷ []))) e), sym (ap (λ (v : Option Answer). unlessRefused v (joined with-new) before) e))
+
+  wrote : (n : ℕ) (after : List ℕ) → insertVerdict program before ids nonces token ≡ none → n ≡ newCount program before ids token → after ≡ joined with-new → Gives (done (n ∷ [])) after
+  unfolding Insert.insert
+  wrote n after e c a = (
+    ap (λ (j : ℕ). done (j ∷ [])) c ∙ sym (ap (λ (v : Option Answer). answerOr v (done (newCount program before ids token ∷ []))) e),
+    a ∙ sym (ap (λ (v : Option Answer). unlessRefused v (joined with-new) before) e),
+  )
+
+  pub refused-input : (r : Answer) → some r ≡ verdict (insertInputTests ids nonces ++ tokenTests insertTokenLength token) → Gives r before
   refused-input r e =
       refuse r (verdict-is ∙ ap (λ (v : Option Answer). orElse v (verdict (stateTests before ++ insertStateTests program before ids nonces token))) (sym e))
 
@@ -111,7 +124,7 @@ module _ (before ids nonces token : List ℕ) where
     state : insertVerdict program before ids nonces token ≡ verdict (stateTests before ++ insertStateTests program before ids nonces token)
     state = verdict-is ∙ ap (λ (v : Option Answer). orElse v (verdict (stateTests before ++ insertStateTests program before ids nonces token))) (a .passes)
 
-    pub refused-store : (r : Refusal) → Refused r ≡ checkedOf before → Insert program before ids nonces token (refusal r) before
+    pub refused-store : (r : Refusal) → Refused r ≡ checkedOf before → Gives (refusal r) before
     refused-store r e = refuse (refusal r) (state ∙ unfit before r (insertStateTests program before ids nonces token) (sym e))
 
     module _ (z : Shape) (f : checkedOf before ≡ Fit z) where
@@ -126,11 +139,11 @@ module _ (before ids nonces token : List ℕ) where
           state ∙ fit-verdict before z (insertStateTests program before ids nonces token) f
           ∙ rw (← fit-sizes before z f, free tableM, free tableV, free tableC, free tableS) refl
 
-      pub refused-shares : (tokenP token ≡ z .p → ⊥) → Insert program before ids nonces token (refused 12 []) before
+      pub refused-shares : (tokenP token ≡ z .p → ⊥) → Gives (refused 12 []) before
       refused-shares n = refuse (refused 12 []) (checked ∙ rw (ne-eqb (tokenP token) (z .p) n))
 
       module _ (s : tokenP token ≡ z .p) where
-        pub refused-damage : damage ≡ insertReading program before token → Insert program before ids nonces token (refused 13 []) before
+        pub refused-damage : damage ≡ insertReading program before token → Gives (refused 13 []) before
         refused-damage d = refuse (refused 13 []) (checked ∙ rw (eq-eqb (tokenP token) (z .p) s, ← d))
 
         -- the counter was read
@@ -143,34 +156,20 @@ module _ (before ids nonces token : List ℕ) where
           read =
               checked ∙ rw (eq-eqb (tokenP token) (z .p) s, ← e) (ap (λ (j : ℕ). verdict (roomTests z j (idCount ids))) counted)
 
-          pub refused-room : (r : Answer) → some r ≡ verdict (roomTests z (n + idCount ids) (idCount ids)) → Insert program before ids nonces token r before
+          pub refused-room : (r : Answer) → some r ≡ verdict (roomTests z (n + idCount ids) (idCount ids)) → Gives r before
           refused-room r h = refuse r (read ∙ sym h)
 
           -- the rows are those of the definition
-          rows-are : (row : Row) (after : List ℕ) → row ≡ counterRow program (tokenCL token) (start + k + 1) (drop (12 * idCount ids) nonces) (n + idCount ids)
-              → Written before (entryRows program (tokenMT token) (tokenME token) n (idsIn ids) nonces) (reverseRows program (tokenMT token) n (idsIn ids)) row (logRow (tokenLog token)) after
-              → Inserted program before ids nonces token after
+          rows-are : (row : Row) → row ≡ counterRow program (tokenCL token) (start + k + 1) (drop (12 * idCount ids) nonces) (n + idCount ids)
+              → insertedStore before (entryRows program (tokenMT token) (tokenME token) n (idsIn ids) nonces) (reverseRows program (tokenMT token) n (idsIn ids)) row (logRow (tokenLog token)) ≡ with-new
           unfolding newEntries newReverses newCounter newLog newCount
-          rows-are row after g w = record {
-            tM′ = w .tM′;
-            tV′ = w .tV′;
-            tC′ = w .tC′;
-            tS′ = w .tS′;
-            entries = subst (λ (r : Reading). PlacedAll (cut before .table tableM) (entryRows program (tokenMT token) (tokenME token) (countOf r) (idsIn ids) nonces) (w .tM′)) e (w .entries);
-            reverses = subst (λ (r : Reading). PlacedAll (cut before .table tableV) (reverseRows program (tokenMT token) (countOf r) (idsIn ids)) (w .tV′)) e (w .reverses);
-            counter = subst (λ (r : Reading). Placed (cut before .table tableC) (counterRow program (tokenCL token) (positionOf r + 1) (drop (12 * idCount ids) nonces) (countOf r + idCount ids)) (w .tC′)) e (subst (λ (r : Row). Placed (cut before .table tableC) r (w .tC′)) g (w .counter));
-            log = w .log;
-            written = w .written;
-          }
+          rows-are row g =
+              ap (λ (x : Row). insertedStore before (entryRows program (tokenMT token) (tokenME token) n (idsIn ids) nonces) (reverseRows program (tokenMT token) n (idsIn ids)) x (logRow (tokenLog token))) g
+              ∙ ap (λ (r : Reading). insertedStore before (entryRows program (tokenMT token) (tokenME token) (countOf r) (idsIn ids) nonces) (reverseRows program (tokenMT token) (countOf r) (idsIn ids))
+              (counterRow program (tokenCL token) (positionOf r + 1) (drop (12 * idCount ids) nonces) (countOf r + idCount ids)) (logRow (tokenLog token))) e
 
           pub accepted : (row : Row) (after : List ℕ) → none ≡ verdict (roomTests z (n + idCount ids) (idCount ids))
               → row ≡ counterRow program (tokenCL token) (start + k + 1) (drop (12 * idCount ids) nonces) (n + idCount ids)
-              → Written before (entryRows program (tokenMT token) (tokenME token) n (idsIn ids) nonces) (reverseRows program (tokenMT token) n (idsIn ids)) row (logRow (tokenLog token)) after
-              → Insert program before ids nonces token (done ((n + idCount ids) ∷ [])) after
-          accepted row after h g w =
-              let v = read ∙ sym h in
-              record {
-                answered = ap (λ (j : ℕ). done (j ∷ [])) (sym counted) ∙ sym (ap (λ (v : Option Answer). answerOr v (done (newCount program before ids token ∷ []))) v);
-                kept = λ q f. absurd (let z : _≡_ {A = ℕ} 0 1 = cc in omega arith);
-                wrote = λ f. rows-are row after g w;
-              }
+              → after ≡ joined (insertedStore before (entryRows program (tokenMT token) (tokenME token) n (idsIn ids) nonces) (reverseRows program (tokenMT token) n (idsIn ids)) row (logRow (tokenLog token)))
+              → Gives (done ((n + idCount ids) ∷ [])) after
+          accepted row after h g w = wrote (n + idCount ids) after (read ∙ sym h) (sym counted) (w ∙ ap joined (rows-are row g))

@@ -1,81 +1,61 @@
--- The four tables lent one after the other: each comes back with its rows placed, and the store is laid out as before.
-use Prim.Native.Nat.{ℕ, _-_, _*_, _≤_}
-use mathlib.Core.Path.{_≡_, sym, subst, _∙_}
-use mathlib.Core.List.{List, [], _∷_}
+-- The four tables lent one after the other: each comes back with the new rows in it.
+use Prim.Native.Nat.{ℕ, _+_, _-_, _*_, _≤_}
+use mathlib.Core.Path.{_≡_, refl, sym, ap, ap₂, _∙_}
+use mathlib.Core.Bool.{true}
+use mathlib.Core.List.{List, [], _∷_, _++_}
 use native.Mathlib.Omega.{arith}
-use lib.ListN.{length, take, drop}
+use lib.ListN.{length}
 use lib.Seq.{take-all}
-use Rattle.octets.specs.Part.{back}
-use Rattle.table.specs.Table.{Row, Table, rows, freeRows, Placed, PlacedAll}
-use Rattle.table.proofs.Placing.{placed-only}
-use Rattle.scheme.specs.Store.{Store, Which, tableM, tableV, tableC, tableS, widthOf, cut, putIn}
+use Rattle.table.specs.Table.{Row, Table, rows}
+use Rattle.table.specs.Order.{ascending, usedRows, inForm, sorted, withRows}
+use Rattle.table.proofs.Counting.{count-append}
+use Rattle.table.proofs.Order.{true-ascending, sorted-ascending, sorted-Same, arranged-same}
+use Rattle.scheme.specs.Store.{Which, tableM, tableV, tableC, tableS, widthOf, cut, joined, putIn}
 use Rattle.scheme.specs.Layout.{Laid}
 use Rattle.scheme.specs.Insert.{insertedStore}
 use Rattle.store.specs.declared.Shape.{Shape}
 use Rattle.store.specs.Check.{partIn, spanIn}
-use Rattle.scheme.proofs.Plan.{laid-inside, laid-long, laid-rows, laid-back, laid-placed, laid-length}
-use Rattle.insert.specs.Writing.{Written}
+use Rattle.store.proofs.Stores.{LaidStore, part, part-long, part-rows}
 
--- the bytes of a store with these tables
-pub record LaidStore (z : Shape) : Type 0 where
-  pub bytes : List ℕ
-  pub store : Store
-  pub laid : Laid (spanIn z) bytes store
-
-module _ (z : Shape) (g : LaidStore z) (k : Which) where
-  -- the part that is lent
-  abbrev part : List ℕ
-  part = take (partIn z k .end - partIn z k .start) (drop (partIn z k .start) (g .bytes))
-
-  -- it came back
-  abbrev pub put : (ys : List ℕ) → length ys ≡ length part → LaidStore z
-  put ys h = record {
-    bytes = back (g .bytes) (partIn z k .start) (partIn z k .end) ys;
-    store = putIn k (rows (widthOf k) (partIn z k .rows) ys) (g .store);
-    laid = laid-back (spanIn z) (g .bytes) (g .store) (g .laid) k ys h;
-  }
-
-  pub put-end : partIn z k .end ≤ length (g .bytes)
-  put-end = laid-inside (spanIn z) (g .bytes) (g .store) (g .laid) k
-
-  -- there is room in it
-  pub may-put : (new : List ℕ) (n : ℕ) → 1 ≤ widthOf k → length new ≡ widthOf k * n → n ≤ freeRows (g .store .table k)
-      → (1 ≤ widthOf k) × ((length part ≡ widthOf k * partIn z k .rows) × ((length new ≡ widthOf k * n) × (n ≤ freeRows (rows (widthOf k) (partIn z k .rows) part))))
-  may-put new n w e h =
-      (w, (laid-long (spanIn z) (g .bytes) (g .store) (g .laid) k, (e, rw (laid-rows (spanIn z) (g .bytes) (g .store) (g .laid) k) h)))
-
-  pub put-placed : (new : List Row) (ys : List ℕ) → PlacedAll (rows (widthOf k) (partIn z k .rows) part) new (rows (widthOf k) (partIn z k .rows) ys) → PlacedAll (g .store .table k) new (rows (widthOf k) (partIn z k .rows) ys)
-  put-placed = laid-placed (spanIn z) (g .bytes) (g .store) (g .laid) k
-
--- two stores with these tables are as long
-pub same-long : (z : Shape) (g h : LaidStore z) → length (g .bytes) ≡ length (h .bytes)
-same-long z g h = laid-length (spanIn z) (g .bytes) (g .store) (g .laid) ∙ sym (laid-length (spanIn z) (h .bytes) (h .store) (h .laid))
+-- there is room in a table, and it is in form
+pub may-merge : (z : Shape) (g : LaidStore z) (k : Which) (new : List ℕ) (n : ℕ) → length new ≡ widthOf k * n → n ≤ partIn z k .free → partIn z k .free ≤ partIn z k .rows
+    → inForm (widthOf k) (g .store .table k) ≡ true → partIn z k .rows - partIn z k .free ≡ length (usedRows (g .store .table k)) → ascending (rows (widthOf k) n new) ≡ true
+    → ((length (part z g k) ≡ widthOf k * partIn z k .rows) × ((length new ≡ widthOf k * n) × (partIn z k .rows - partIn z k .free + n ≤ partIn z k .rows)))
+    × ((inForm (widthOf k) (rows (widthOf k) (partIn z k .rows) (part z g k)) ≡ true) × ((partIn z k .rows - partIn z k .free ≡ length (usedRows (rows (widthOf k) (partIn z k .rows) (part z g k)))) × (ascending (rows (widthOf k) n new) ≡ true)))
+may-merge z g k new n e h l f u o =
+    let r = part-rows z g k in
+    ((part-long z g k, (e, omega arith)), (ap (inForm (widthOf k)) r ∙ f, (u ∙ ap (λ (t : Table). length (usedRows t)) (sym r), o)))
 
 -- one row as a list of rows
-only : (w : ℕ) (t : Table) (row : Row) (t′ : Table) → length row ≡ w → PlacedAll t (rows w 1 row) t′ → Placed t row t′
-only w t row t′ h p = placed-only t row t′ (subst (λ (r : Row). PlacedAll t (r ∷ []) t′) (take-all w row (omega arith)) p)
+pub only : (w : ℕ) (row : Row) → length row ≡ w → rows w 1 row ≡ row ∷ []
+only w row h = ap (λ (r : Row). r ∷ []) (take-all w row (omega arith))
 
-pub all-written : (b : List ℕ) (z : Shape) (newM newV : List Row) (newC newS : Row) (ysM ysV ysC ysS after : List ℕ) → length newC ≡ widthOf tableC → length newS ≡ widthOf tableS
-    → PlacedAll (cut b .table tableM) newM (rows (widthOf tableM) (z .m .rows) ysM) → PlacedAll (cut b .table tableV) newV (rows (widthOf tableV) (z .v .rows) ysV)
-    → PlacedAll (cut b .table tableC) (rows (widthOf tableC) 1 newC) (rows (widthOf tableC) (z .c .rows) ysC) → PlacedAll (cut b .table tableS) (rows (widthOf tableS) 1 newS) (rows (widthOf tableS) (z .s .rows) ysS)
-    → Laid (spanIn z) after (putIn tableS (rows (widthOf tableS) (z .s .rows) ysS) (putIn tableC (rows (widthOf tableC) (z .c .rows) ysC) (putIn tableV (rows (widthOf tableV) (z .v .rows) ysV) (putIn tableM (rows (widthOf tableM) (z .m .rows) ysM) (cut b)))))
-    → Written b newM newV newC newS after
+pub only-ascending : (w : ℕ) (row : Row) → ascending (rows w 1 row) ≡ true
+only-ascending w row = refl
+
+pub sorted-is-ascending : (w n : ℕ) (l ys : List ℕ) (us : List Row) → l ≡ ys → rows w n ys ≡ sorted us → ascending (rows w n l) ≡ true
+sorted-is-ascending w n l ys us e f = ap (λ (x : List ℕ). ascending (rows w n x)) e ∙ ap ascending f ∙ true-ascending (sorted us) (sorted-ascending us)
+
+-- the new rows may be sorted first
+pub with-sorted : (w : ℕ) (new : List Row) (t : Table) → withRows w (sorted new) t ≡ withRows w new t
+unfolding withRows
+with-sorted w new t =
+    arranged-same w (length t) (sorted new ++ usedRows t) (new ++ usedRows t)
+    (record { counts = λ p. omega (arith, count-append p (sorted new) (usedRows t), count-append p new (usedRows t), sorted-Same new .counts p) })
+
+pub inserted-sorted : (b : List ℕ) (newM newV : List Row) (newC newS : Row) → insertedStore b (sorted newM) (sorted newV) newC newS ≡ insertedStore b newM newV newC newS
 unfolding insertedStore
-all-written b z newM newV newC newS ysM ysV ysC ysS after hC hS pM pV pC pS l = record {
-  tM′ = rows (widthOf tableM) (z .m .rows) ysM;
-  tV′ = rows (widthOf tableV) (z .v .rows) ysV;
-  tC′ = rows (widthOf tableC) (z .c .rows) ysC;
-  tS′ = rows (widthOf tableS) (z .s .rows) ysS;
-  entries = pM;
-  reverses = pV;
-  counter = only (widthOf tableC) (cut b .table tableC) newC (rows (widthOf tableC) (z .c .rows) ysC) hC pC;
-  log = only (widthOf tableS) (cut b .table tableS) newS (rows (widthOf tableS) (z .s .rows) ysS) hS pS;
-  written = l .bytes;
-}
+inserted-sorted b newM newV newC newS =
+    ap₂ (λ (tM tV : Table). putIn tableS (withRows (widthOf tableS) (newS ∷ []) (cut b .table tableS)) (putIn tableC (withRows (widthOf tableC) (newC ∷ []) (cut b .table tableC)) (putIn tableV tV (putIn tableM tM (cut b)))))
+    (with-sorted (widthOf tableM) newM (cut b .table tableM)) (with-sorted (widthOf tableV) newV (cut b .table tableV))
 
--- the rows by other names
-pub written-as : (b : List ℕ) (newM newM′ newV newV′ : List Row) (newC newS newS′ : Row) (after : List ℕ) → newM ≡ newM′ → newV ≡ newV′ → newS ≡ newS′
-    → Written b newM newV newC newS after → Written b newM′ newV′ newC newS′ after
-written-as b newM newM′ newV newV′ newC newS newS′ after eM eV eS w =
-    subst (λ (l : List Row). Written b l newV′ newC newS′ after) eM
-    (subst (λ (l : List Row). Written b newM l newC newS′ after) eV (subst (λ (r : Row). Written b newM newV newC r after) eS w))
+-- the four tables with their rows
+pub all-inserted : (b after : List ℕ) (z : Shape) (newM newV : List Row) (newC newS : Row) (tM tV tC tS : Table) → length newC ≡ widthOf tableC → length newS ≡ widthOf tableS
+    → tM ≡ withRows (widthOf tableM) newM (cut b .table tableM) → tV ≡ withRows (widthOf tableV) newV (cut b .table tableV)
+    → tC ≡ withRows (widthOf tableC) (rows (widthOf tableC) 1 newC) (cut b .table tableC) → tS ≡ withRows (widthOf tableS) (rows (widthOf tableS) 1 newS) (cut b .table tableS)
+    → Laid (spanIn z) after (putIn tableS tS (putIn tableC tC (putIn tableV tV (putIn tableM tM (cut b))))) → after ≡ joined (insertedStore b newM newV newC newS)
+unfolding insertedStore
+all-inserted b after z newM newV newC newS tM tV tC tS hC hS eM eV eC eS l =
+    let fC = eC ∙ ap (λ (r : List Row). withRows (widthOf tableC) r (cut b .table tableC)) (only (widthOf tableC) newC hC) in
+    let fS = eS ∙ ap (λ (r : List Row). withRows (widthOf tableS) r (cut b .table tableS)) (only (widthOf tableS) newS hS) in
+    l .bytes ∙ (λ i. joined (putIn tableS (fS i) (putIn tableC (fC i) (putIn tableV (eV i) (putIn tableM (eM i) (cut b))))))

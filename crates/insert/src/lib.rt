@@ -3,23 +3,25 @@
 ghost use mathlib.Core.Path.{_≡_};
 ghost use Prim.Native.Nat.{_*_, _≤_};
 ghost use lib.ListN.{length, replicate};
+ghost use mathlib.Core.Bool.{true};
 ghost use Rattle.table.specs.Table.{rows};
+ghost use Rattle.table.specs.Order.{ascending, sorted};
 ghost use Rattle.answer.specs.Answer.{counted};
-ghost use Rattle.scheme.specs.Store.{tableM, tableV, tableC, tableS, widthOf, logRow};
+ghost use Rattle.scheme.specs.Store.{tableM, tableV, tableC, tableS, widthOf, joined, logRow};
 ghost use Rattle.scheme.specs.Reading.{limit};
 ghost use Rattle.scheme.specs.Refusals.{idCount, idsIn};
 ghost use Rattle.scheme.specs.Keys.{tokenMT, tokenME, tokenCL, tokenLog};
-ghost use Rattle.scheme.specs.Insert.{entryRows, reverseRows, insertReading, Insert};
+ghost use Rattle.scheme.specs.Insert.{entryRows, reverseRows, insertReading, insertedStore, insert as insertOf};
 ghost use Rattle.suite.specs.Program.{program};
 ghost use Rattle.store.specs.Check.{checkedOf};
 ghost use Rattle.format.specs.Tags.{KeysOf};
 ghost use Rattle.counter.specs.Outcome.{readingOf};
 ghost use Rattle.insert.specs.Tests.{Accepted, Matching, Lengths, Room};
-ghost use Rattle.insert.specs.Writing.{Written};
 use admission::Tested;
 use answer::Counted;
 use answer::Refusal;
 use counter::Counter;
+use counter::Lookup;
 use counter::Reading;
 use format::ID;
 use format::INSERT_TOKEN;
@@ -34,7 +36,8 @@ use store::S_WIDTH;
 use store::Shape;
 use store::V_WIDTH;
 
-// Places given rows in the four tables of a store that has room for them. [01:ST4 OP1]
+// Puts given rows, those of M and of V ascending, in the four tables of a store that has room for them.
+// [01:ST4 OP1] [02:W2.4]
 fn place(
     store: &mut [u8],
     z: Shape,
@@ -46,7 +49,8 @@ fn place(
 )
     requires { ⌜ (checkedOf (now store) ≡ Checked.Fit z) × Room z n ⌝ }
     requires { ⌜ ((length (now entries) ≡ widthOf tableM * n) × (length (now reverses) ≡ widthOf tableV * n)) × ((length (now counter) ≡ widthOf tableC) × (length (now log) ≡ widthOf tableS)) ⌝ }
-    ensures { λ _. ⌜ Written (now (store .entry)) (rows (widthOf tableM) n (now (entries .entry))) (rows (widthOf tableV) n (now (reverses .entry))) (now (counter .entry)) (now (log .entry)) (now (store .exit)) ⌝ }
+    requires { ⌜ (ascending (rows (widthOf tableM) n (now entries)) ≡ true) × (ascending (rows (widthOf tableV) n (now reverses)) ≡ true) ⌝ }
+    ensures { λ _. ⌜ now (store .exit) ≡ joined (insertedStore (now (store .entry)) (rows (widthOf tableM) n (now (entries .entry))) (rows (widthOf tableV) n (now (reverses .entry))) (now (counter .entry)) (now (log .entry))) ⌝ }
 {
     let m = z.m;
     let v = z.v;
@@ -54,16 +58,37 @@ fn place(
     let s = z.s;
     let a = m.start;
     let e = m.end;
-    table::put_rows(&mut store[a..e], M_WIDTH, m.rows, entries, n);
+    merging::merge(
+        &mut store[a..e],
+        M_WIDTH,
+        m.rows,
+        m.rows - m.free,
+        entries,
+        n,
+    );
     let a = v.start;
     let e = v.end;
-    table::put_rows(&mut store[a..e], V_WIDTH, v.rows, reverses, n);
+    merging::merge(
+        &mut store[a..e],
+        V_WIDTH,
+        v.rows,
+        v.rows - v.free,
+        reverses,
+        n,
+    );
     let a = c.start;
     let e = c.end;
-    table::put_rows(&mut store[a..e], C_WIDTH, c.rows, counter, 1);
+    merging::merge(
+        &mut store[a..e],
+        C_WIDTH,
+        c.rows,
+        c.rows - c.free,
+        counter,
+        1,
+    );
     let a = s.start;
     let e = s.end;
-    table::put_rows(&mut store[a..e], S_WIDTH, s.rows, log, 1);
+    merging::merge(&mut store[a..e], S_WIDTH, s.rows, s.rows - s.free, log, 1);
 }
 
 // Room for 64 rows of M.
@@ -80,6 +105,37 @@ fn blank_reverses() -> [u8; 64 * V_WIDTH]
     [0u8; 64 * V_WIDTH]
 }
 
+// Puts at most 64 rows in byte order. [02:W2.2]
+fn sort_rows(t: &mut [u8], w: usize, n: usize)
+    requires { ⌜ (length (now t) ≡ w * n) × ((n ≤ 64) × (w ≤ widthOf tableM)) ⌝ }
+    ensures { λ _. ⌜ rows w n (now (t .exit)) ≡ sorted (rows w n (now (t .entry))) ⌝ }
+{
+    let mut room = blank_entries();
+    let e = w * n;
+    sorting::sort(t, w, n, &mut room[..e]);
+}
+
+// Makes the rows of M and of V for n ids at addresses g + 1 onward, in byte order. [01:OP1 OP2] [02:W2.2]
+fn make_rows(
+    mt: &[u8],
+    me: &[u8],
+    g: u64,
+    n: usize,
+    nonces: &[u8],
+    ids: &[u8],
+    entries: &mut [u8],
+    reverses: &mut [u8],
+)
+    requires { ⌜ ((length (now mt) ≡ 32) × (length (now me) ≡ 32)) × ((g ≤ limit) × (n ≤ 64)) ⌝ }
+    requires { ⌜ ((12 * n ≤ length (now nonces)) × (length (now ids) ≡ 16 * n)) × ((length (now entries) ≡ widthOf tableM * n) × (length (now reverses) ≡ widthOf tableV * n)) ⌝ }
+    ensures { λ _. ⌜ rows (widthOf tableM) n (now (entries .exit)) ≡ sorted (entryRows program (now (mt .entry)) (now (me .entry)) g (rows 16 n (now (ids .entry))) (now (nonces .entry))) ⌝ }
+    ensures { λ _. ⌜ rows (widthOf tableV) n (now (reverses .exit)) ≡ sorted (reverseRows program (now (mt .entry)) g (rows 16 n (now (ids .entry)))) ⌝ }
+{
+    entries::new_rows(mt, me, g, n, nonces, ids, entries, reverses);
+    sort_rows(entries, M_WIDTH, n);
+    sort_rows(reverses, V_WIDTH, n);
+}
+
 // Makes the new rows of M, V and S, and places them with a counter row; g is the count read.
 // [01:OP1 OP2]
 fn write(
@@ -93,14 +149,14 @@ fn write(
 )
     requires { ⌜ (checkedOf (now store) ≡ Checked.Fit z) × Room z (idCount (now ids)) ⌝ }
     requires { ⌜ Lengths (now ids) (now nonces) (now token) × ((g ≤ limit) × (length (now counter) ≡ widthOf tableC)) ⌝ }
-    ensures { λ _. ⌜ Written (now (store .entry)) (entryRows program (tokenMT (now (token .entry))) (tokenME (now (token .entry))) g (idsIn (now (ids .entry))) (now (nonces .entry))) (reverseRows program (tokenMT (now (token .entry))) g (idsIn (now (ids .entry)))) (now (counter .entry)) (logRow (tokenLog (now (token .entry)))) (now (store .exit)) ⌝ }
+    ensures { λ _. ⌜ now (store .exit) ≡ joined (insertedStore (now (store .entry)) (entryRows program (tokenMT (now (token .entry))) (tokenME (now (token .entry))) g (idsIn (now (ids .entry))) (now (nonces .entry))) (reverseRows program (tokenMT (now (token .entry))) g (idsIn (now (ids .entry)))) (now (counter .entry)) (logRow (tokenLog (now (token .entry))))) ⌝ }
 {
     let n = ids.len() / ID;
     let i = M_WIDTH * n;
     let j = V_WIDTH * n;
     let mut entries = blank_entries();
     let mut reverses = blank_reverses();
-    entries::new_rows(
+    make_rows(
         &token[1..33],
         &token[33..65],
         g,
@@ -127,7 +183,8 @@ fn insert_read(
 ) -> Counted
     requires { ⌜ Accepted (now ids) (now nonces) (now token) × Matching (now store) (now token) z ⌝ }
     requires { ⌜ (readingOf (Reading.Counter x) ≡ insertReading program (now store) (now token)) × (KeysOf keys (now cl) × (now cl ≡ tokenCL (now token))) ⌝ }
-    ensures { λ r. ⌜ Insert program (now (store .entry)) (now (ids .entry)) (now (nonces .entry)) (now (token .entry)) (counted r) (now (store .exit)) ⌝ }
+    ensures { λ r. ⌜ counted r ≡ insertOf program (now (store .entry)) (now (ids .entry)) (now (nonces .entry)) (now (token .entry)) .answer ⌝ }
+    ensures { λ _. ⌜ now (store .exit) ≡ insertOf program (now (store .entry)) (now (ids .entry)) (now (nonces .entry)) (now (token .entry)) .store ⌝ }
 {
     let n = ids.len() / ID;
     let count = x.count + n as u64;
@@ -147,7 +204,8 @@ fn insert_read(
 // [01:RS4 RS6 RC5 FM8]
 fn insert_checked(store: &mut [u8], z: Shape, ids: &[u8], nonces: &[u8], token: &[u8]) -> Counted
     requires { ⌜ Accepted (now ids) (now nonces) (now token) × (checkedOf (now store) ≡ Checked.Fit z) ⌝ }
-    ensures { λ r. ⌜ Insert program (now (store .entry)) (now (ids .entry)) (now (nonces .entry)) (now (token .entry)) (counted r) (now (store .exit)) ⌝ }
+    ensures { λ r. ⌜ counted r ≡ insertOf program (now (store .entry)) (now (ids .entry)) (now (nonces .entry)) (now (token .entry)) .answer ⌝ }
+    ensures { λ _. ⌜ now (store .exit) ≡ insertOf program (now (store .entry)) (now (ids .entry)) (now (nonces .entry)) (now (token .entry)) .store ⌝ }
 {
     let p = z.p;
     if octets::wide(token[0]) != p {
@@ -159,7 +217,14 @@ fn insert_checked(store: &mut [u8], z: Shape, ids: &[u8], nonces: &[u8], token: 
     let mut cl = [0u8; 32];
     octets::copy(&mut cl, &token[65..97]);
     let keys = format::keys_of(&cl);
-    let Reading::Counter(x) = counter::read_keyed(&store[a..e], c.rows, &cl, keys) else {
+    let Reading::Counter(x) = counter::read_keyed(
+        &store[a..e],
+        c.rows,
+        c.rows - c.free,
+        Lookup::Search,
+        &cl,
+        keys,
+    ) else {
         return Counted::Refused(Refusal::Damage);
     };
     insert_read(store, z, x, keys, &cl, ids, nonces, token)
@@ -167,7 +232,8 @@ fn insert_checked(store: &mut [u8], z: Shape, ids: &[u8], nonces: &[u8], token: 
 
 // Insert of 1 to 64 ids under an insert token; answers the new count. [01:OP1 OP2 OP3 OP14]
 pub fn insert(store: &mut [u8], ids: &[u8], nonces: &[u8], token: &[u8]) -> Counted
-    ensures { λ r. ⌜ Insert program (now (store .entry)) (now (ids .entry)) (now (nonces .entry)) (now (token .entry)) (counted r) (now (store .exit)) ⌝ }
+    ensures { λ r. ⌜ counted r ≡ insertOf program (now (store .entry)) (now (ids .entry)) (now (nonces .entry)) (now (token .entry)) .answer ⌝ }
+    ensures { λ _. ⌜ now (store .exit) ≡ insertOf program (now (store .entry)) (now (ids .entry)) (now (nonces .entry)) (now (token .entry)) .store ⌝ }
 {
     match admission::input(ids, nonces, token) {
         Tested::Refused(r) => Counted::Refused(r),

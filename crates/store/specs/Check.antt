@@ -1,4 +1,4 @@
--- What the checks 10 and 11 make of a slice: its p, and of each table where it stands, how many rows it has and how many are free; or
+-- What the checks 10, 11 and 20 make of a slice: its p, and of each table where it stands, how many rows it has and how many are free; or
 -- the refusal (document 01, "Store" and "Refusals from the state").
 use Prim.Native.Nat.{ℕ, _+_, _*_}
 use mathlib.Core.Bool.{cond}
@@ -6,8 +6,8 @@ use mathlib.Core.List.{List}
 use lib.ListN.{drop}
 use Rattle.table.specs.Lists.{anyOf}
 use Rattle.table.specs.Table.{Table, rows, markBad, freeRows}
-use Rattle.answer.specs.declared.Refusal.the-variants.{Header, Mark}
-use Rattle.scheme.specs.Store.{Sizes, Which, plan, widthOf, rowsOf, greatestMark, startOf, sizesOf, cut, headerBad, marksBad}
+use Rattle.answer.specs.declared.Refusal.the-variants.{Header, Mark, Form}
+use Rattle.scheme.specs.Store.{Sizes, Which, plan, widthOf, rowsOf, greatestMark, startOf, sizesOf, cut, headerBad, marksBad, formBad}
 use Rattle.scheme.specs.Layout.{Span}
 use Rattle.store.specs.declared.Part.{Part}
 use Rattle.store.specs.declared.Shape.{Shape}
@@ -38,9 +38,14 @@ shapeBy b z = record { p = z .p; m = partBy b z tableM; v = partBy b z tableV; c
 unfoldable pub surveysOf : List ℕ → Sizes → Surveys
 surveysOf b z = record { bad = anyOf (λ k. markBad (greatestMark k) (tableBy b z k)) plan; shape = shapeBy b z }
 
--- 10, then 11 [01:RS1 RS2 RS3]
+-- 10, then 11 [01:RS1 RS2 RS3] [02:W2.9]
+unfoldable pub markedOf : List ℕ → Checked
+markedOf b = cond (headerBad b) (Refused Header) (cond (marksBad (cut b)) (Refused Mark) (Fit (shapeBy b (sizesOf b))))
+
+-- 10, 11, then 20 [01:RS1 RS2 RS3] [02:W2.11 W2.12]
 unfoldable pub checkedOf : List ℕ → Checked
-checkedOf b = cond (headerBad b) (Refused Header) (cond (marksBad (cut b)) (Refused Mark) (Fit (shapeBy b (sizesOf b))))
+checkedOf b =
+    cond (headerBad b) (Refused Header) (cond (marksBad (cut b)) (Refused Mark) (cond (formBad (cut b)) (Refused Form) (Fit (shapeBy b (sizesOf b)))))
 
 -- the part of a table in what the checks found, and where it stands
 abbrev pub partIn : Shape → Which → Part

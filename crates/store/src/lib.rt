@@ -1,13 +1,15 @@
-// The store, one lent slice: making it, the checks 10 and 11 of every operation, and where its tables
-// stand (document 01, "Store"). What the checks find is handed on by value: an operation lends a table as
+// The store, one lent slice: making it, the checks 10, 11 and 20 of every operation, and where its
+// tables stand (document 01, "Store"; document 02, "Rows in byte order"). What the checks find is handed on by value: an operation lends a table as
 // `&mut store[start..end]` by the bounds of its `Part`, and works out none itself.
 ghost use mathlib.Core.Path.{_≡_};
-ghost use mathlib.Core.Bool.{false, _||_};
-ghost use Prim.Native.Nat.{_+_, _*_, _<_, _≤_};
-ghost use lib.ListN.{length, getD};
+ghost use mathlib.Core.Bool.{false, not, _||_};
+ghost use Prim.Native.Nat.{_+_, _*_, _-_, _<_, _≤_};
+ghost use lib.ListN.{length, getD, drop};
 ghost use Rattle.answer.specs.Answer.{completion};
-ghost use Rattle.scheme.specs.Store.{headerLength, rowsBad, sizesBad, lengthFor, headerOf, headerBad, make as makeOf};
-ghost use Rattle.store.specs.Check.{surveyOf, surveysOf, checkedOf};
+ghost use Rattle.scheme.specs.Store.{headerLength, rowsBad, sizesBad, lengthFor, headerOf, headerBad, cut, formBad, make as makeOf};
+ghost use Rattle.table.specs.Table.{rows, freeRows};
+ghost use Rattle.table.specs.Order.{inForm};
+ghost use Rattle.store.specs.Check.{surveyOf, surveysOf, markedOf, checkedOf};
 use answer::Completion;
 use answer::Refusal;
 
@@ -209,9 +211,9 @@ fn survey_all(store: &[u8], p: u64, m: usize, c: usize, s: usize) -> Surveys
     }
 }
 
-// The checks 10 and 11 of every operation, with what it needs to know of the store. [01:RS2 RS3]
-pub fn sizes(store: &[u8]) -> Checked
-    ensures { λ r. ⌜ r ≡ checkedOf (now (store .entry)) ⌝ }
+// The checks 10 and 11, with what an operation needs to know of the store. [01:RS2 RS3] [02:W2.9]
+pub fn marked(store: &[u8]) -> Checked
+    ensures { λ r. ⌜ r ≡ markedOf (now (store .entry)) ⌝ }
 {
     if bad_header(store) {
         return Checked::Refused(Refusal::Header);
@@ -226,4 +228,44 @@ pub fn sizes(store: &[u8]) -> Checked
     }
     let shape = all.shape;
     Checked::Fit(shape)
+}
+
+// Whether the table of a part is in form. [02:W2.1 W2.2 W2.3]
+fn formed(store: &[u8], part: Part, w: usize) -> bool
+    requires { ⌜ ((8 ≤ w) × ((part .start ≤ part .end) × (part .end ≤ length (now store)))) × ((part .end - part .start ≡ w * part .rows) × (part .free ≡ freeRows (rows w (part .rows) (drop (part .start) (now store))))) ⌝ }
+    ensures { λ r. ⌜ r ≡ inForm w (rows w (part .rows) (drop (part .start) (now (store .entry)))) ⌝ }
+{
+    let a = part.start;
+    let e = part.end;
+    form::in_form(&store[a..e], w, part.rows, part.free)
+}
+
+// Whether a table of a store is not in form: the condition of 20. [02:W2.11]
+fn bad_form(store: &[u8], z: Shape) -> bool
+    requires { ⌜ markedOf (now store) ≡ Checked.Fit z ⌝ }
+    ensures { λ r. ⌜ r ≡ formBad (cut (now (store .entry))) ⌝ }
+{
+    any(
+        !formed(store, z.m, M_WIDTH),
+        !formed(store, z.v, V_WIDTH),
+        !formed(store, z.c, C_WIDTH),
+        !formed(store, z.s, S_WIDTH),
+    )
+}
+
+// The checks 10, 11 and 20 of every operation, with what it needs to know of the store.
+// [01:RS2 RS3] [02:W2.11 W2.12]
+pub fn sizes(store: &[u8]) -> Checked
+    ensures { λ r. ⌜ r ≡ checkedOf (now (store .entry)) ⌝ }
+{
+    let checked = marked(store);
+    match checked {
+        Checked::Refused(r) => Checked::Refused(r),
+        Checked::Fit(z) => {
+            if bad_form(store, z) {
+                return Checked::Refused(Refusal::Form);
+            }
+            Checked::Fit(z)
+        }
+    }
 }

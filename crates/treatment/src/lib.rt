@@ -1,24 +1,29 @@
 // The treatment of one CL by a compaction (document 01, "Operations": compaction): the counters that
 // its reading held are freed and the next anchor is written. Table C alone is changed.
 ghost use mathlib.Core.Path.{_≡_};
+ghost use mathlib.Core.Bool.{false};
+ghost use mathlib.Core.List.{_∷_, []};
 ghost use Prim.Native.Nat.{_+_, _*_, _≤_, _<_};
 ghost use lib.ListN.{length, take};
 ghost use Rattle.table.specs.Lists.{All};
-ghost use Rattle.table.specs.Table.{rows, freeAt};
+ghost use Rattle.table.specs.Table.{rows, isFree, freeAt};
+ghost use Rattle.table.specs.Order.{usedRows, withRows, Searchable};
+ghost use Rattle.closing.specs.Flags.{flaggedAt};
 ghost use Rattle.scheme.specs.Store.{tableC, widthOf};
-ghost use Rattle.scheme.specs.Reading.{limit};
-ghost use Rattle.scheme.specs.Compaction.{Anchored};
+ghost use Rattle.scheme.specs.Reading.{limit, reading};
+ghost use Rattle.scheme.specs.Compaction.{anchoredTable};
 ghost use Rattle.suite.specs.Program.{program};
 ghost use Rattle.format.specs.Tags.{KeysOf};
-ghost use Rattle.counter.specs.Outcome.{placesNoted};
-ghost use Rattle.treatment.specs.Treatment.{Noted, Treatment};
+ghost use Rattle.treatment.specs.Treatment.{Noted, doneBy, tableBy};
 use counter::Counter;
+use counter::Lookup;
 use counter::Reading;
 use format::AnchorNumber;
 use format::Keys;
 use format::Position;
 use format::row;
 use store::C_WIDTH;
+use store::MOST_ROWS;
 
 // What was done with one CL: the reading was damage; k was 0; or k counters were freed and an anchor
 // written.
@@ -28,16 +33,52 @@ pub enum Treated {
     Anchored(u64),
 }
 
-// Frees the rows of C at the first k places.
-fn free_places(t: &mut [u8], c: usize, places: &[u16], k: usize)
-    requires { ⌜ (length (now t) ≡ widthOf tableC * c) × ((k ≤ length (now places)) × All (λ i. i < c) (take k (now places))) ⌝ }
-    ensures { λ _. ⌜ rows (widthOf tableC) c (now (t .exit)) ≡ freeAt (widthOf tableC) (take k (now (places .entry))) (rows (widthOf tableC) c (now (t .entry))) ⌝ }
+// What was done with one CL, and how many rows of C are used after it.
+pub struct Outcome {
+    pub treated: Treated,
+    pub used: usize,
+}
+
+// A place as an index.
+fn wide(x: u16) -> usize
+    ensures { λ r. ⌜ r ≡ x ⌝ }
+{
+    x as usize
+}
+
+// Flags the rows at the first k places.
+fn flag_places(places: &[u16], k: usize, flags: &mut [u8])
+    requires { ⌜ (k ≤ length (now places)) × All (λ i. i < length (now flags)) (take k (now places)) ⌝ }
+    ensures { λ _. ⌜ now (flags .exit) ≡ flaggedAt (take k (now (places .entry))) (now (flags .entry)) ⌝ }
 {
     let mut j = 0;
     while j < k {
-        table::clear_row(t, C_WIDTH, c, places[j] as usize);
+        let at = wide(places[j]);
+        flags[at] = 1;
         j += 1;
     }
+}
+
+// Gives up the rows of C at the first k places and takes a row; tells how many rows are used then.
+// [01:OP11] [02:W2.4]
+fn replace(t: &mut [u8], c: usize, u: usize, places: &[u16], k: usize, row: &[u8]) -> usize
+    requires { ⌜ (length (now t) ≡ widthOf tableC * c) × ((c ≤ 4096) × (1 ≤ k)) ⌝ }
+    requires { ⌜ ((k ≤ length (now places)) × All (λ i. i < u) (take k (now places))) × ((length (now row) ≡ widthOf tableC) × ((isFree (now row) ≡ false) × Searchable (widthOf tableC) u (rows (widthOf tableC) c (now t)))) ⌝ }
+    ensures { λ r. ⌜ r ≡ length (usedRows (rows (widthOf tableC) c (now (t .exit)))) ⌝ }
+    ensures { λ _. ⌜ rows (widthOf tableC) c (now (t .exit)) ≡ withRows (widthOf tableC) (now (row .entry) ∷ []) (freeAt (widthOf tableC) (take k (now (places .entry))) (rows (widthOf tableC) c (now (t .entry)))) ⌝ }
+{
+    if k == 1 {
+        let at = wide(places[0]);
+        merging::exchange(t, C_WIDTH, c, u, at, row);
+        return u;
+    }
+    let mut flags = [0u8; MOST_ROWS];
+    flag_places(places, k, &mut flags);
+    closing::close(t, C_WIDTH, c, u, &flags);
+    let marks = table::survey(t, C_WIDTH, c, 1);
+    let left = c - marks.free;
+    merging::merge(t, C_WIDTH, c, left, row, 1);
+    left + 1
 }
 
 // What the next anchor says.
@@ -59,41 +100,53 @@ fn next_anchor(z: Counter) -> NextAnchor
     }
 }
 
-// Frees the counters that the reading held, and writes anchor B + 1 where the first of them stood.
-// [01:OP11]
+// Frees the counters that the reading held, and writes anchor B + 1. [01:OP11]
 fn anchor(
     t: &mut [u8],
     c: usize,
+    u: usize,
     cl: &[u8; 32],
     keys: Keys,
     nonce: &[u8],
     z: Counter,
     places: &[u16],
-)
+) -> usize
     requires { ⌜ ((length (now t) ≡ widthOf tableC * c) × (c ≤ 4096)) × ((KeysOf keys (now cl) × (length (now nonce) ≡ 12)) × Noted c (now cl) (rows (widthOf tableC) c (now t)) z (now places)) ⌝ }
-    ensures { λ _. ⌜ Anchored program (now (cl .entry)) (now (nonce .entry)) (rows (widthOf tableC) c (now (t .entry))) (z .b .0) (z .start .0) (z .k) (z .count) (rows (widthOf tableC) c (now (t .exit))) ⌝ }
+    requires { ⌜ Searchable (widthOf tableC) u (rows (widthOf tableC) c (now t)) ⌝ }
+    ensures { λ r. ⌜ r ≡ length (usedRows (rows (widthOf tableC) c (now (t .exit)))) ⌝ }
+    ensures { λ _. ⌜ rows (widthOf tableC) c (now (t .exit)) ≡ anchoredTable program (now (cl .entry)) (now (nonce .entry)) (rows (widthOf tableC) c (now (t .entry))) (z .b .0) (z .start .0) (z .k) (z .count) ⌝ }
 {
-    free_places(t, c, places, z.k as usize);
     let next = next_anchor(z);
     let row = row::anchor_row(keys, cl, next.number, nonce, next.position, next.count);
-    table::put_row(t, C_WIDTH, c, places[0] as usize, &row);
+    replace(t, c, u, places, z.k as usize, &row)
 }
 
 // Treats one CL: with k > 0 its counters are freed and an anchor is written under the nonce, with k = 0
 // nothing is written. The keys of the CL are made once, and each counter's tag once: the reading notes
-// the places of the counters in the room lent for them. [01:OP11]
-pub fn treat(t: &mut [u8], c: usize, cl: &[u8; 32], nonce: &[u8], places: &mut [u16]) -> Treated
-    requires { ⌜ ((length (now t) ≡ widthOf tableC * c) × (c ≤ length (now places))) × ((c ≤ 4096) × (length (now nonce) ≡ 12)) ⌝ }
-    ensures { λ r. ⌜ Treatment c (now (cl .entry)) (now (nonce .entry)) (rows (widthOf tableC) c (now (t .entry))) (rows (widthOf tableC) c (now (t .exit))) r ⌝ }
-    ensures { λ _. ⌜ now (places .exit) ≡ placesNoted c (now (cl .entry)) (rows (widthOf tableC) c (now (t .entry))) (now (places .entry)) ⌝ }
+// the places of the counters. [01:OP11]
+pub fn treat(t: &mut [u8], c: usize, u: usize, cl: &[u8; 32], nonce: &[u8]) -> Outcome
+    requires { ⌜ ((length (now t) ≡ widthOf tableC * c) × (c ≤ 4096)) × ((length (now nonce) ≡ 12) × Searchable (widthOf tableC) u (rows (widthOf tableC) c (now t))) ⌝ }
+    ensures { λ r. ⌜ (r .treated ≡ doneBy (reading program c (now (cl .entry)) (rows (widthOf tableC) c (now (t .entry))))) × (r .used ≡ length (usedRows (rows (widthOf tableC) c (now (t .exit))))) ⌝ }
+    ensures { λ _. ⌜ rows (widthOf tableC) c (now (t .exit)) ≡ tableBy (now (cl .entry)) (now (nonce .entry)) (rows (widthOf tableC) c (now (t .entry))) (reading program c (now (cl .entry)) (rows (widthOf tableC) c (now (t .entry)))) ⌝ }
 {
+    let mut places = [0u16; MOST_ROWS];
     let keys = format::keys_of(cl);
-    let Reading::Counter(z) = counter::read_by(t, c, cl, keys, places) else {
-        return Treated::Damage;
+    let Reading::Counter(z) = counter::read_by(t, c, u, Lookup::Search, cl, keys, &mut places)
+    else {
+        return Outcome {
+            treated: Treated::Damage,
+            used: u,
+        };
     };
     if z.k == 0 {
-        return Treated::Skipped;
+        return Outcome {
+            treated: Treated::Skipped,
+            used: u,
+        };
     }
-    anchor(t, c, cl, keys, nonce, z, places);
-    Treated::Anchored(z.k)
+    let used = anchor(t, c, u, cl, keys, nonce, z, &places);
+    Outcome {
+        treated: Treated::Anchored(z.k),
+        used,
+    }
 }

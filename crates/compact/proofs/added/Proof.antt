@@ -2,8 +2,8 @@
 use mathlib.Core.Path.{sym, ap}
 use native.Mathlib.Omega.{arith}
 use Rattle.treatment.specs.declared.Treated.{Treated}
-use Rattle.compact.specs.Steps.{anchorsIn, countersIn, tallyAfter}
-use Rattle.compact.proofs.Turns.{tally-same}
+use Rattle.compact.specs.Tally.{anchorsIn, countersIn, tallyAfter}
+use Rattle.compact.proofs.Logs.{tally-same}
 use borrow.Author.Needs.{needs}
 use Rattle.compact.proofs.added.Statement.{statement}
 use Rattle.compact.proofs.added.Tie as tie

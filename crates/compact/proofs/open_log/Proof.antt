@@ -1,71 +1,63 @@
--- The first rows of the log are gone through: a used row of S is decrypted into its own.
-use Prim.Native.Nat.{ℕ, _+_, _*_, _-_, _≤_, _<_}
-use mathlib.Core.Path.{_≡_, refl, sym, ap, _∙_}
-use mathlib.Core.Bool.{Bool, cond}
-use mathlib.Core.List.{List, []}
-use mathlib.Core.Logic.{⊎-elim}
+-- Row by row.
+use Prim.Native.Nat.{_-_, _≤_}
+use mathlib.Core.Path.{_∙_}
 use native.Mathlib.Omega.{arith}
-use lib.ListN.{length, getD}
-use borrow.Author.Tests.{not-true, not-false}
-use Rattle.octets.proofs.Parts.{length-back}
-use Rattle.table.specs.Table.{Table, rows, isFree, body}
+use Rattle.table.specs.Table.{rows}
 use Rattle.table.proofs.Rows.{rows-length}
-use Rattle.table.proofs.Walk.{rows-back, row-length}
-use Rattle.scheme.specs.Store.{tableS, widthOf, clIn}
-use Rattle.suite.specs.Program.{program}
-use Rattle.compact.specs.Log.{openRow}
-use Rattle.compact.proofs.Logs.{Zipping, zipping-none, zipping-set, zipping-keep, zipping-all}
+use Rattle.scheme.specs.Store.{tableS, widthOf}
+use Rattle.firsts.proofs.Chaining.{part-wide}
+use Rattle.compact.proofs.Logs.{Opening, opening-none, opening-turn, opening-all}
 use borrow.Author.Needs.{needs}
 use Rattle.compact.proofs.open_log.Statement.{statement}
 use Rattle.compact.proofs.open_log.Tie as tie
 
 abbrev Inv-loop : tie.InvT-loop
-Inv-loop t s ks log₀ i₀ log i = (i ≤ s) × (length log ≡ length log₀) × Zipping (openRow ks) (rows 32 s log₀) (rows (widthOf tableS) s t) i (rows 32 s log)
+Inv-loop t s n ks log₀ i₀ log i = (i ≤ n) × Opening ks (rows (widthOf tableS) s t) n log₀ i log
 
 abbrev μ-loop : tie.MeasureT-loop
-μ-loop t s ks log₀ i₀ log i = s - i
+μ-loop t s n ks log₀ i₀ log i = n - i
 
 loop-holds : tie.Need-loop-holds Inv-loop μ-loop
-loop-holds c = (omega arith, refl, zipping-none _ _ _)
+loop-holds c =
+    let a = c .before .before .before .args in
+    (omega arith, opening-none (a .ks .now) (rows (widthOf tableS) (a .s) (a .t .now)) (a .n) (a .log .now))
+
+mul-at : tie.Need-mul-at Inv-loop μ-loop
+mul-at c =
+    omega (arith, c .before .before .before .before .before .pre)
+
+add-e : tie.Need-add-e Inv-loop μ-loop
+add-e c =
+    omega (arith, c .before .before .before .before .before .pre)
+
+part-open-row-end : tie.Need-part-open-row-end Inv-loop μ-loop
+part-open-row-end c =
+    omega (arith, c .before .before .before .before .before .pre, c .before .loop .inv .1 .size)
+
+open-row-requires : tie.Need-open-row-requires Inv-loop μ-loop
+open-row-requires c κs =
+    let p = c .before .before .before .before .before .before .pre in
+    (omega (arith, p, c .before .loop-test .taken), (p .1 .0, (p .1 .1 .0, part-wide (c .before .before .loop .log) (c .before .before .before .before .before .before .args .n) (c .before .before .loop .i) (omega (arith, p, c .before .before .loop .inv .1 .size)) (c .before .loop-test .taken))))
 
 loop-again : tie.Need-loop-again Inv-loop μ-loop
 loop-again c =
-    let l = c .before .before .before .loop in
-    let b = c .before .before .before .before .before .before .before in
-    let a = b .args in
-    let h = c .before .before .loop-test .taken in
-    let xs = rows 32 (a .s) (a .log .now) in
-    let t : Table = rows (widthOf tableS) (a .s) (a .t .now) in
-    let r = getD t (l .i) [] in
-    let old : List ℕ = getD xs (l .i) [] in
-    let inL : l .i < length xs = rw (rows-length 32 (a .s) (a .log .now)) h in
-    let inT : l .i < length t = rw (rows-length (widthOf tableS) (a .s) (a .t .now)) h in
-    ⊎-elim (λ w.
-    let ys : List ℕ = w .2 .last .1 .1 .1 .1 .0 in
-    let e = w .2 .ensures in
-    let long : length ys ≡ 32 = w .2 .kept .1 .1 .1 .1 .0 ∙ row-length 32 (a .s) (l .i) (l .log) h (l .inv .1 ∙ b .pre .1 .1) in (
+    let a = c .before .before .before .before .before .before .before .before .before .args in
+    let p = c .before .before .before .before .before .before .before .before .before .pre in
+    let l = c .before .before .before .before .before .loop in
+    let w = c .before .before .open-row .kept .1 .1 .1 .1 .0 ∙ part-wide (l .log) (a .n) (l .i) (omega (arith, p, l .inv .1 .size)) (c .before .before .before .before .loop-test .taken) in (
       omega arith,
-      ap length (w .5) ∙ length-back (l .log) (32 * l .i) (32 * l .i + 32) ys (omega arith) (omega arith) (omega arith) ∙ l .inv .1,
-      zipping-set (openRow (a .ks .now)) xs t (l .i) (rows 32 (a .s) (l .log)) (l .inv .2) inL inT _ ys
-          (e ∙ sym (ap (λ (f : Bool). cond f old (clIn program (a .ks .now) (body r))) (not-true (isFree r) (sym (c .before .is-used .ensures) ∙ w .0 .taken))))
-          (ap (rows 32 (a .s)) (w .5) ∙ rows-back 32 (a .s) (l .i) (l .log) ys h long (omega arith)),
-    )) (λ w. (
-      omega arith,
-      ap length (w .1) ∙ l .inv .1,
-      zipping-keep (openRow (a .ks .now)) xs t (l .i) (rows 32 (a .s) (l .log)) (l .inv .2) inL _
-          (ap (λ (f : Bool). cond f old (clIn program (a .ks .now) (body r))) (not-false (isFree r) (sym (c .before .is-used .ensures) ∙ w .0 .left)))
-          (ap (rows 32 (a .s)) (w .1)),
-    )) (c .if1 .came)
+      opening-turn (a .ks .now) (rows (widthOf tableS) (a .s) (a .t .now)) (a .n) (a .log .now) (l .i) (l .log) (l .inv .1) (c .before .before .before .before .loop-test .taken)
+          (omega (arith, p, c .before .before .before .before .loop-test .taken, rows-length (widthOf tableS) (a .s) (a .t .now))) (p .1 .1 .1) _ w (c .before .before .open-row .ensures),
+    )
+
+same-length : tie.Need-same-length Inv-loop μ-loop
+same-length c =
+    c .before .loop .inv .1 .size
 
 returns : tie.Need-returns Inv-loop μ-loop
 returns c =
-    let l = c .before .loop in
     let a = c .before .before .before .before .before .args in
-    zipping-all (openRow (a .ks .now)) (rows 32 (a .s) (a .log .now)) (rows (widthOf tableS) (a .s) (a .t .now)) (l .i) (rows 32 (a .s) (l .log)) (l .inv .2)
-    (rw (rows-length 32 (a .s) (a .log .now)) (c .loop-test .left))
+    (opening-all (a .ks .now) (rows (widthOf tableS) (a .s) (a .t .now)) (a .n) (a .log .now) (c .before .loop .i) (c .before .loop .log) (c .before .loop .inv .1) (omega (arith, c .before .loop .inv .0, c .loop-test .left)), c .before .loop .inv .1 .rest)
 
 pub open-log-spec : {M : Type 1} → statement M
-open-log-spec =
-    tie.close
-    (tie.spec Inv-loop μ-loop loop-holds (λ c κs. search needs) (λ c. search needs) (λ c. search needs) (λ c. search needs) (λ c. search needs)
-    (λ c. search needs) (λ c κs. search needs) (λ c. search needs) (λ c. search needs) loop-again (λ c. c .before .loop .inv .1) returns)
+open-log-spec = tie.close (tie.spec Inv-loop μ-loop loop-holds mul-at add-e (λ c. search needs) (λ c. search needs) part-open-row-end open-row-requires (λ c. search needs) (λ c. search needs) loop-again same-length returns)

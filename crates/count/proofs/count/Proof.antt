@@ -1,9 +1,9 @@
 -- Refused by the definition's tests, in its order; then the sum over the shares, read out of the part that holds C.
-use mathlib.Core.Path.{_≡_, sym, _∙_}
+use mathlib.Core.Path.{_≡_, refl, sym, _∙_}
 use native.Mathlib.Omega.{arith}
 use Rattle.store.specs.declared.Checked.the-variants.{Fit}
 use Rattle.store.specs.Check.{checkedOf}
-use Rattle.store.proofs.Laws.{tableC, Fits, fit-range, fits}
+use Rattle.store.proofs.Laws.{tableC, Fits, fit-range, fits, free-le, part-searchable}
 use Rattle.count.proofs.Laws.{other-length, unfit-store, fit-store}
 use borrow.Author.Needs.{needs}
 use Rattle.count.proofs.count.Statement.{statement}
@@ -18,33 +18,42 @@ inC : (c : tie.After-known-told2) → Fits (c .before .before .before .before .b
 inC c = fits (c .before .before .before .before .before .before .before .args .store .now) (c .before .checked2 .given .0 .0) (passed c) tableC
 
 returns : tie.Need-returns
-returns c = let a = c .before .before .before .args in other-length (a .store .now) (a .token .now) (c .if1 .taken)
+returns c =
+    let a = c .before .before .before .args in other-length (a .store .now) (a .token .now) (c .if1 .taken)
 
-returns-2 : tie.Need-returns-2
-returns-2 c =
-    let s = c .before .before .before in
-    let a = s .before .before .before .before .args in
-    unfit-store (a .store .now) (a .token .now) (s .before .if1 .left) (c .before .checked .given .0 .0) (sym (s .sizes .ensures) ∙ c .before .checked .given .1)
+sub-sum-of-counts : tie.Need-sub-sum-of-counts
+sub-sum-of-counts c =
+    omega (arith, inC (c .before .before))
+
+part-sum-of-counts-start : tie.Need-part-sum-of-counts-start
+part-sum-of-counts-start c =
+    omega (arith, inC (c .before .before))
+
+part-sum-of-counts-end : tie.Need-part-sum-of-counts-end
+part-sum-of-counts-end c =
+    omega (arith, inC (c .before .before))
+
+sub-sum-of-counts-2 : tie.Need-sub-sum-of-counts-2
+sub-sum-of-counts-2 c =
+    let k = c .before .before .before .before in free-le (c .before .before .before .before .before .before .before .before .before .before .before .args .store .now) (c .before .before .before .before .before .checked2 .given .0 .0) (passed k) tableC
 
 sum-of-counts-requires : tie.Need-sum-of-counts-requires
 sum-of-counts-requires c κs =
-    let k = c .before .before .before in
-    let z = k .before .checked2 .given .0 .0 in
-    let b = k .before .before .before .before .before .before .before .args .store .now in
-    (inC k .long, (inC k .most, fit-range b z (passed k) .p-most))
+    let k = c .before .before .before .before in
+    let z = c .before .before .before .before .before .checked2 .given .0 .0 in
+    let b = c .before .before .before .before .before .before .before .before .before .before .before .args .store .now in
+    ((inC k .long, part-searchable b z (passed k) tableC refl), (inC k .most, fit-range b z (passed k) .p-most))
+
+returns-2 : tie.Need-returns-2
+returns-2 c =
+    let a = c .before .before .before .before .before .before .before .args in
+    unfit-store (a .store .now) (a .token .now) (c .before .before .before .before .if1 .left) (c .before .checked .given .0 .0) (sym (c .before .before .before .sizes .ensures) ∙ c .before .checked .given .1)
 
 returns-3 : tie.Need-returns-3
 returns-3 c =
-    let p = c .before .before in
-    let k = p .before .before in
-    let z = k .before .checked2 .given .0 .0 in
-    let e = k .before .before .before .before in
-    let a = e .before .before .before .args in
+    let a = c .before .before .before .before .before .before .before .before .before .before .before .before .args in
     c .sum-of-counts .ensures
-    ∙ fit-store (a .store .now) (a .token .now) (e .if1 .left) z (p .prepare .result) (passed k) (record { inner = p .prepare .ensures .0; outer = p .prepare .ensures .1 })
+    ∙ fit-store (a .store .now) (a .token .now) (c .before .before .before .before .before .before .before .before .before .if1 .left) (c .before .before .before .before .before .before .checked2 .given .0 .0) (c .before .before .before .prepare .result) (passed (c .before .before .before .before .before)) (record { inner = c .before .before .before .prepare .ensures .0; outer = c .before .before .before .prepare .ensures .1 })
 
 pub count-spec : {M : Type 1} → statement M
-count-spec =
-    tie.close
-    (tie.spec returns (λ c κs. search needs) (λ c. search needs) (λ c. search needs) (λ c κs. search needs) (λ c. omega (arith, inC (c .before .before)))
-    (λ c. omega (arith, inC (c .before .before))) (λ c. omega (arith, inC (c .before .before))) sum-of-counts-requires returns-2 returns-3)
+count-spec = tie.close (tie.spec returns (λ c κs. search needs) (λ c. search needs) (λ c. search needs) (λ c κs. search needs) sub-sum-of-counts part-sum-of-counts-start part-sum-of-counts-end sub-sum-of-counts-2 sum-of-counts-requires returns-2 returns-3)

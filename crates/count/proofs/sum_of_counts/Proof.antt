@@ -14,10 +14,10 @@ use Rattle.count.proofs.sum_of_counts.Statement.{statement}
 use Rattle.count.proofs.sum_of_counts.Tie as tie
 
 abbrev Inv-loop : tie.InvT-loop
-Inv-loop t c clx p sum₀ u₀ sum u = (u ≤ p + 1) × Summed (shareRead clx c (rows (widthOf tableC) c t)) u sum
+Inv-loop t c used clx p sum₀ u₀ sum u = (u ≤ p + 1) × Summed (shareRead clx c (rows (widthOf tableC) c t)) u sum
 
 abbrev μ-loop : tie.MeasureT-loop
-μ-loop t c clx p sum₀ u₀ sum u = p + 1 - u
+μ-loop t c used clx p sum₀ u₀ sum u = p + 1 - u
 
 loop-holds : tie.Need-loop-holds Inv-loop μ-loop
 loop-holds c = let a = c .before .args in (search needs, summed-none (shareRead (a .clx) (a .c) (rows (widthOf tableC) (a .c) (a .t .now))))

@@ -13,10 +13,10 @@ use Rattle.counter.proofs.anchors_held.Statement.{statement}
 use Rattle.counter.proofs.anchors_held.Tie as tie
 
 abbrev Inv-loop : tie.InvT-loop
-Inv-loop t c ct b₀ at₀ left₀ b at left = Walked (anchorTags ct) (rows (widthOf tableC) c t) c 0 b left at
+Inv-loop t c u by ct b₀ at₀ left₀ b at left = Walked (anchorTags ct) (rows (widthOf tableC) c t) c 0 b left at
 
 abbrev μ-loop : tie.MeasureT-loop
-μ-loop t c ct b₀ at₀ left₀ b at left = left
+μ-loop t c u by ct b₀ at₀ left₀ b at left = left
 
 -- the place of the next one's row
 found : (c : tie.After-place Inv-loop μ-loop) →

@@ -14,11 +14,11 @@ use Rattle.counter.proofs.counters_held.Statement.{statement}
 use Rattle.counter.proofs.counters_held.Tie as tie
 
 abbrev Inv-loop : tie.InvT-loop
-Inv-loop t c ct start places₀ k₀ at₀ rest₀ places k at rest =
+Inv-loop t c u by ct start places₀ k₀ at₀ rest₀ places k at rest =
     Walked (counterTags ct) (rows (widthOf tableC) c t) c (start .0) k rest at × (places ≡ noted (counterTags ct) (rows (widthOf tableC) c t) (start .0) k places₀)
 
 abbrev μ-loop : tie.MeasureT-loop
-μ-loop t c ct start places₀ k₀ at₀ rest₀ places k at rest = rest
+μ-loop t c u by ct start places₀ k₀ at₀ rest₀ places k at rest = rest
 
 -- the place of the next one's row
 found : (c : tie.After-place Inv-loop μ-loop) →

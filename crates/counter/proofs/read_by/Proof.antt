@@ -22,7 +22,7 @@ anchor c =
     let s = c .before .before .before .before .before .before .before in
     let a = s .args in
     c .numbers-or .ensures
-    ∙ anchor-numbers-are (a .c) (a .cl .now) (rows (widthOf tableC) (a .c) (a .t .now)) (a .keys) (s .pre .1 .1) (b .result .b .0) (b .result .at) (b .ensures .0) (b .ensures .1)
+    ∙ anchor-numbers-are (a .c) (a .cl .now) (rows (widthOf tableC) (a .c) (a .t .now)) (a .keys) (s .pre .1 .0 .1) (b .result .b .0) (b .result .at) (b .ensures .0) (b .ensures .1)
 
 returns : tie.Need-returns
 returns c =
@@ -42,7 +42,7 @@ counters-held-requires c κs =
     let o = c .before .before .before in
     let s = o .before .before .before .before .before .before .before in
     let x = o .numbers-or .result in
-    (s .pre .0, (s .pre .1 .0, ltb-false limit (x .a) (neither (ltb limit (x .a)) (ltb limit (x .n)) (good (c .before)) .0)))
+    (s .pre .0, ((s .pre .1 .0 .0, ltb-false limit (x .a) (neither (ltb limit (x .a)) (ltb limit (x .n)) (good (c .before)) .0)), s .pre .1 .1))
 
 counter : (c : tie.After-numbers-or2) →
     let a = c .before .before .before .before .before .before .before .before .before .before .before .before .before .before .before .args in
@@ -53,7 +53,7 @@ counter c =
     let s = o .before .before .before .before .before .before .before in
     let a = s .args in
     c .numbers-or2 .ensures
-    ∙ counter-numbers-are (a .c) (a .cl .now) (rows (widthOf tableC) (a .c) (a .t .now)) (a .keys) (s .pre .1 .1) (numbersOf (o .numbers-or .result)) (anchor o) (h .result .k) (h .result .at) (h .ensures .0 .0) (h .ensures .0 .1)
+    ∙ counter-numbers-are (a .c) (a .cl .now) (rows (widthOf tableC) (a .c) (a .t .now)) (a .keys) (s .pre .1 .0 .1) (numbersOf (o .numbers-or .result)) (anchor o) (h .result .k) (h .result .at) (h .ensures .0 .0) (h .ensures .0 .1)
 
 walked : (c : tie.After-counters-held) →
     let a = c .before .before .before .before .before .before .before .before .before .before .before .args in
@@ -63,18 +63,18 @@ walked c =
     let o = c .before .before .before .before in
     let s = o .before .before .before .before .before .before .before in
     let a = s .args in
-    counters-are (a .c) (a .cl .now) (rows (widthOf tableC) (a .c) (a .t .now)) (a .keys) (s .pre .1 .1) (numbersOf (o .numbers-or .result)) (anchor o) (h .result .k) (h .result .at) (h .ensures .0 .0) (h .ensures .0 .1)
+    counters-are (a .c) (a .cl .now) (rows (widthOf tableC) (a .c) (a .t .now)) (a .keys) (s .pre .1 .0 .1) (numbersOf (o .numbers-or .result)) (anchor o) (h .result .k) (h .result .at) (h .ensures .0 .0) (h .ensures .0 .1)
 
 -- what the walk noted
 noted : (c : tie.After-counters-held) →
     let a = c .before .before .before .before .before .before .before .before .before .before .before .args in
-    c .counters-held .last .1 .1 .1 .1 .0 ≡ placesNoted (a .c) (a .cl .now) (rows (widthOf tableC) (a .c) (a .t .now)) (a .places .now)
+    c .counters-held .last .1 .1 .1 .1 .1 .1 .0 ≡ placesNoted (a .c) (a .cl .now) (rows (widthOf tableC) (a .c) (a .t .now)) (a .places .now)
 noted c =
     let h = c .counters-held in
     let o = c .before .before .before .before in
     let s = o .before .before .before .before .before .before .before in
     let a = s .args in
-    places-are (a .c) (a .cl .now) (rows (widthOf tableC) (a .c) (a .t .now)) (numbersOf (o .numbers-or .result)) (anchor o) (a .places .now) (a .keys) (s .pre .1 .1) (good (c .before .before)) (h .result .k) (walked c) (h .last .1 .1 .1 .1 .0) (h .ensures .1)
+    places-are (a .c) (a .cl .now) (rows (widthOf tableC) (a .c) (a .t .now)) (numbersOf (o .numbers-or .result)) (anchor o) (a .places .now) (a .keys) (s .pre .1 .0 .1) (good (c .before .before)) (h .result .k) (walked c) (h .last .1 .1 .1 .1 .1 .1 .0) (h .ensures .1)
 
 returns-2 : tie.Need-returns-2
 returns-2 c =
@@ -98,7 +98,7 @@ returns-3 c =
     let a = s .args in
     let t = rows (widthOf tableC) (a .c) (a .t .now) in (
       counted (a .c) (a .cl .now) t (numbersOf (o .numbers-or .result)) (anchor o) (good d) (numbersOf (y .numbers-or2 .result)) (counter y) (b .result .b .0) (w .counters-held .result .k)
-          (anchors-are (a .c) (a .cl .now) t (a .keys) (s .pre .1 .1) (b .result .b .0) (b .result .at) (b .ensures .0) (b .ensures .1))
+          (anchors-are (a .c) (a .cl .now) t (a .keys) (s .pre .1 .0 .1) (b .result .b .0) (b .result .at) (b .ensures .0) (b .ensures .1))
           (walked w)
           (sym (c .before .before .counter-damaged .ensures) ∙ c .before .if2 .left),
       noted w,

@@ -1,136 +1,206 @@
--- The invariant: the rows of V gone through are freed where they are the id's, and their tags' rows of M.
-use Prim.Native.Nat.{ℕ, _+_, _*_, _-_, _≤_, _<_}
-use mathlib.Core.Path.{_≡_, refl, sym, ap, subst, subst₂, _∙_}
+-- Both tables are flagged as they stand; then M closes up, then V.
+use Prim.Native.Nat.{ℕ, _-_, _*_, _≤_}
+use mathlib.Core.Path.{_≡_, refl, sym, ap, _∙_}
+use mathlib.Core.Bool.{true}
 use mathlib.Core.List.{List}
-use mathlib.Core.Logic.{⊎-elim}
 use native.Mathlib.Omega.{arith}
-use lib.ListN.{length, take, drop}
-use Rattle.octets.specs.Part.{back}
-use Rattle.table.specs.Lists.{same}
-use Rattle.table.specs.Table.{rows, freeWhere}
-use Rattle.scheme.specs.Store.{Which, widthOf, cut, putIn}
-use Rattle.scheme.specs.Layout.{Laid}
-use Rattle.scheme.proofs.Plan.{laid-inside, laid-long}
-use Rattle.store.specs.declared.Shape.{Shape}
-use Rattle.store.specs.declared.Checked.the-variants.{Fit}
-use Rattle.store.specs.Check.{checkedOf, partIn, spanIn}
-use Rattle.store.proofs.Laws.{tableM, tableV, Fits, laid-fit, fits, fit-unique}
-use Rattle.erase.proofs.Laws.{tag-length, Erasing, laid-M, same-length, erasing-none, erasing-hit, erasing-miss, erasing-all}
+use lib.ListN.{length, take, drop, replicate, length-replicate}
+use Rattle.table.specs.Lists.{count, same}
+use Rattle.table.specs.Table.{Table, rows, used}
+use Rattle.table.specs.Order.{usedRows, inForm, reordered}
+use Rattle.table.proofs.Rows.{rows-length}
+use Rattle.closing.specs.Flags.{flagged, freeFlagged}
+use Rattle.scheme.specs.Store.{Which, widthOf, cut}
+use Rattle.store.specs.Check.{partIn}
+use Rattle.store.proofs.Laws.{tableM, tableV, Fits, fits, free-le, laid-fit, formed, used-rows, part-searchable}
+use Rattle.store.proofs.Stores.{LaidStore, part, put, put-end, part-long, part-rows, same-long}
+use Rattle.erase.specs.Tags.{erasedBy}
+use Rattle.erase.proofs.Laws.{reverse-is, closed-V, closed-M, both-closed}
 use borrow.Author.Needs.{needs}
 use Rattle.erase.proofs.erase_rows.Statement.{statement}
 use Rattle.erase.proofs.erase_rows.Tie as tie
 
-abbrev Inv-loop : tie.InvT-loop
-Inv-loop store₀ id m from to a e n freed₀ i₀ store freed i =
-    (length store ≡ length store₀) × (i ≤ n) × (freed ≤ i) × ((z : Shape) → checkedOf store₀ ≡ Fit z → Erasing store₀ id (spanIn z) i freed store)
+in-part : (s : tie.Start) (k : Which) → Fits (s .args .store .now) (s .args .z) k
+in-part s k = fits (s .args .store .now) (s .args .z) (s .pre) k
 
-abbrev μ-loop : tie.MeasureT-loop
-μ-loop store₀ id m from to a e n freed₀ i₀ store freed i = n - i
+few : (s : tie.Start) (k : Which) → length (cut (s .args .store .now) .table k) ≤ 4096
+few s k = omega (arith, in-part s k .most, ap length (in-part s k .same), rows-length (widthOf k) (partIn (s .args .z) k .rows) (take (partIn (s .args .z) k .end - partIn (s .args .z) k .start) (drop (partIn (s .args .z) k .start) (s .args .store .now))))
 
-abbrev start : tie.In-loop Inv-loop μ-loop → tie.Start Inv-loop μ-loop
-start c = c .before .before .before .before .before
+-- the store before the lendings, between them, and after them
+abbrev store₀ : (s : tie.Start) → LaidStore (s .args .z)
+store₀ s = record { bytes = s .args .store .now; store = cut (s .args .store .now); laid = laid-fit (s .args .store .now) (s .args .z) (s .pre) }
 
-inM : (s : tie.Start Inv-loop μ-loop) → Fits (s .args .store .now) (s .args .z) tableM
-inM s = fits (s .args .store .now) (s .args .z) (s .pre) tableM
+abbrev store₁ : (c : tie.After-close) → LaidStore (c .before .before .before .before .before .before .before .before .before .before .before .before .before .before .before .before .before .before .before .before .before .before .args .z)
+store₁ c = put (c .before .before .before .before .before .before .before .before .before .before .before .before .before .before .before .before .before .before .before .before .before .before .args .z) (store₀ (c .before .before .before .before .before .before .before .before .before .before .before .before .before .before .before .before .before .before .before .before .before .before)) tableM (c .close .last .0) (c .close .kept .0)
 
-inV : (s : tie.Start Inv-loop μ-loop) → Fits (s .args .store .now) (s .args .z) tableV
-inV s = fits (s .args .store .now) (s .args .z) (s .pre) tableV
+abbrev store₂ : (c : tie.After-close2) → LaidStore (c .before .before .before .before .before .before .before .before .before .before .before .before .before .before .before .before .before .before .before .before .before .before .before .before .before .before .before .args .z)
+store₂ c = put (c .before .before .before .before .before .before .before .before .before .before .before .before .before .before .before .before .before .before .before .before .before .before .before .before .before .before .before .args .z) (store₁ (c .before .before .before .before .before)) tableV (c .close2 .last .0) (c .close2 .kept .0)
 
-erasing : (c : tie.In-loop Inv-loop μ-loop) → let a = start c .args in let l = c .before .loop in Erasing (a .store .now) (a .id .now) (spanIn (a .z)) (l .i) (l .freed) (l .store)
-erasing c = c .before .loop .inv .3 (start c .args .z) (start c .pre)
+-- the flags have room for every row
+long : (s : tie.Start) (fs : List ℕ) → fs ≡ replicate 4096 0 → length fs ≡ 4096
+long s fs e = ap length e ∙ length-replicate {A = ℕ} 4096 0
 
--- the part of a table in the store as it is now
-long : (c : tie.In-loop Inv-loop μ-loop) (k : Which) →
-    let p = partIn (start c .args .z) k in
-    length (take (p .end - p .start) (drop (p .start) (c .before .loop .store))) ≡ widthOf k * p .rows
-long c k = laid-long (spanIn (start c .args .z)) (c .before .loop .store) _ (erasing c .laid) k
+-- the flags of M, and those of V
+flagsM : (c : tie.After-flag-entries) → c .flag-entries .last .1 .1 .1 .1 .1 .1 .1 .0
+    ≡ flagged (erasedBy (c .before .before .before .before .before .before .before .before .before .before .before .before .args .id .now) (cut (c .before .before .before .before .before .before .before .before .before .before .before .before .args .store .now) .table tableV)) (cut (c .before .before .before .before .before .before .before .before .before .before .before .before .args .store .now) .table tableM) (replicate 4096 0)
+flagsM c =
+    let s = c .before .before .before .before .before .before .before .before .before .before .before .before in
+    let id = s .args .id .now in
+    c .flag-entries .ensures ∙ (λ i. flagged (erasedBy id (in-part s tableV .same i)) (in-part s tableM .same i) (c .before .before .before .before .before .before .blank .ensures i))
 
-loop-holds : tie.Need-loop-holds Inv-loop μ-loop
-loop-holds c =
-    let s = c .before .before .before in
-    let a = s .args in
-    (refl, omega arith, omega arith, λ z e. erasing-none (a .store .now) (a .id .now) (spanIn z) (laid-fit (a .store .now) z e))
+longM : (c : tie.After-flag-entries) → length (c .flag-entries .last .1 .1 .1 .1 .1 .1 .1 .0) ≡ 4096
+longM c = c .flag-entries .kept .1 .1 .1 .1 .1 .1 .1 .0 ∙ long (c .before .before .before .before .before .before .before .before .before .before .before .before) (c .before .before .before .before .before .before .blank .result) (c .before .before .before .before .before .before .blank .ensures)
 
--- M has come back
-laid₁ : (c : tie.After-clear-where Inv-loop μ-loop) →
-    let i = c .before .before .before .before .before .before .before .before .before .before in
-    let a = start i .args in
-    let ys = c .clear-where .last .0 in
-    Laid (spanIn (a .z)) (back (i .before .loop .store) (a .z .m .start) (a .z .m .end) ys) (putIn tableV (erasing i .tV) (putIn tableM (rows (widthOf tableM) (a .z .m .rows) ys) (cut (a .store .now))))
-laid₁ c =
-    let i = c .before .before .before .before .before .before .before .before .before .before in
-    let a = start i .args in
-    laid-M (a .store .now) (a .id .now) (spanIn (a .z)) (i .before .loop .i) (i .before .loop .freed) (i .before .loop .store) (erasing i) (c .clear-where .last .0) (c .clear-where .kept .0)
+flagsV : (c : tie.After-flag) → c .flag .last .1 .1 .1 .1 .1 .0
+    ≡ flagged (λ b. same (take (length (c .before .before .before .before .before .before .before .before .before .before .before .before .before .before .before .before .before .before .args .id .now)) b) (c .before .before .before .before .before .before .before .before .before .before .before .before .before .before .before .before .before .before .args .id .now)) (cut (c .before .before .before .before .before .before .before .before .before .before .before .before .before .before .before .before .before .before .args .store .now) .table tableV) (replicate 4096 0)
+flagsV c =
+    let s = c .before .before .before .before .before .before .before .before .before .before .before .before .before .before .before .before .before .before in
+    let id = s .args .id .now in
+    c .flag .ensures .1 ∙ (λ i. flagged (λ b. same (take (length id) b) id) (in-part s tableV .same i) (c .before .before .before .before .before .before .before .before .before .before .before .blank2 .ensures i))
 
-loop-again : tie.Need-loop-again Inv-loop μ-loop
-loop-again c =
-    let i = c .before .before .before .before in
-    let l = i .before .loop in
-    let s = start i in
-    let a = s .args in
-    let b₀ = a .store .now in
-    let id = a .id .now in
-    let d = laid-fit b₀ (a .z) (s .pre) in
-    let h : l .i < length (cut b₀ .table tableV) = omega (arith, i .loop-test .taken, d .wide tableV .number) in
-    let hit = c .before .is-reverse in
-    let next : (k : ℕ) (b : List ℕ) → k ≤ l .freed + 1 → Erasing b₀ id (spanIn (a .z)) (l .i + 1) k b
-    → (length b ≡ length b₀) × (l .i + 1 ≤ a .z .v .rows) × (k ≤ l .i + 1) × ((z : Shape) → checkedOf b₀ ≡ Fit z → Erasing b₀ id (spanIn z) (l .i + 1) k b) = λ k b m o. (
-      same-length b₀ id (spanIn (a .z)) (l .i + 1) k b o d,
-      omega arith,
-      omega arith,
-      λ z e. subst (λ (y : Shape). Erasing b₀ id (spanIn y) (l .i + 1) k b) (fit-unique b₀ (a .z) z (s .pre) e) o,
-    ) in
-    ⊎-elim
-    (λ w.
-    let tag : List ℕ = w .3 .result in
-    let ysM : List ℕ = w .6 .last .0 in
-    let ysV : List ℕ = w .10 .last .0 in
-    next (c .if1 .freed) (c .if1 .store) (omega (arith, w .14))
-    (subst₂ (λ (k : ℕ) (b : List ℕ). Erasing b₀ id (spanIn (a .z)) (l .i + 1) k b) (sym (w .14)) (sym (w .13))
-    (erasing-hit b₀ id (spanIn (a .z)) (l .i) (l .freed) (l .store) (erasing i) h (hit .result) (hit .ensures) tag ysM ysV (w .3 .ensures) (w .6 .kept .0) (w .10 .kept .0)
-    (w .6 .ensures .1 ∙ ap (λ (n : ℕ). freeWhere (widthOf tableM) (λ x. same (take n x) tag) (rows (widthOf tableM) (a .z .m .rows) (take (a .z .m .end - a .z .m .start) (drop (a .z .m .start) (l .store))))) (ap length (w .3 .ensures) ∙ tag-length _ (a .z .v .rows) (l .i) (i .loop-test .taken) (long i tableV)))
-    (w .10 .ensures) (w .0 .taken))))
-    (λ w.
-    next (c .if1 .freed) (c .if1 .store) (omega (arith, w .2))
-    (subst₂ (λ (k : ℕ) (b : List ℕ). Erasing b₀ id (spanIn (a .z)) (l .i + 1) k b) (sym (w .2)) (sym (w .1))
-    (erasing-miss b₀ id (spanIn (a .z)) (l .i) (l .freed) (l .store) (erasing i) h (hit .result) (hit .ensures) (w .0 .left))))
-    (c .if1 .came)
+longV : (c : tie.After-flag) → length (c .flag .last .1 .1 .1 .1 .1 .0) ≡ 4096
+longV c = c .flag .kept .1 .1 .1 .1 .1 .0 ∙ long (c .before .before .before .before .before .before .before .before .before .before .before .before .before .before .before .before .before .before) (c .before .before .before .before .before .before .before .before .before .before .before .blank2 .result) (c .before .before .before .before .before .before .before .before .before .before .before .blank2 .ensures)
 
-returns : tie.Need-returns Inv-loop μ-loop
+-- a table that is lent can be closed up
+closable : (s : tie.Start) (g : LaidStore (s .args .z)) (k : Which) (fs : List ℕ) → length fs ≡ 4096
+    → g .store .table k ≡ cut (s .args .store .now) .table k
+    → ((length (part (s .args .z) g k) ≡ widthOf k * partIn (s .args .z) k .rows) × (partIn (s .args .z) k .rows ≤ length fs))
+    × ((inForm (widthOf k) (rows (widthOf k) (partIn (s .args .z) k .rows) (part (s .args .z) g k)) ≡ true) × (partIn (s .args .z) k .rows - partIn (s .args .z) k .free ≡ length (usedRows (rows (widthOf k) (partIn (s .args .z) k .rows) (part (s .args .z) g k)))))
+closable s g k fs l e =
+    let b = s .args .store .now in
+    let z = s .args .z in
+    let r : rows (widthOf k) (partIn z k .rows) (part z g k) ≡ cut b .table k = part-rows z g k ∙ e in
+    ((part-long z g k, omega (arith, l, in-part s k .most)), (ap (inForm (widthOf k)) r ∙ formed b z (s .pre) k, used-rows b z (s .pre) k ∙ ap (λ (t : Table). length (usedRows t)) (sym r)))
+
+sub-in-m : tie.Need-sub-in-m
+sub-in-m c =
+    free-le (c .before .before .before .before .args .store .now) (c .before .before .before .before .args .z) (c .before .before .before .before .pre) tableM
+
+sub-in-v : tie.Need-sub-in-v
+sub-in-v c =
+    free-le (c .before .before .before .before .before .args .store .now) (c .before .before .before .before .before .args .z) (c .before .before .before .before .before .pre) tableV
+
+sub-flag-entries : tie.Need-sub-flag-entries
+sub-flag-entries c =
+    omega (arith, in-part (c .before .before .before .before .before .before .before) tableM)
+
+part-flag-entries-start : tie.Need-part-flag-entries-start
+part-flag-entries-start c =
+    omega (arith, in-part (c .before .before .before .before .before .before .before .before) tableM)
+
+part-flag-entries-end : tie.Need-part-flag-entries-end
+part-flag-entries-end c =
+    omega (arith, in-part (c .before .before .before .before .before .before .before .before) tableM)
+
+sub-flag-entries-2 : tie.Need-sub-flag-entries-2
+sub-flag-entries-2 c =
+    omega (arith, in-part (c .before .before .before .before .before .before .before .before .before) tableV)
+
+part-flag-entries-start-2 : tie.Need-part-flag-entries-start-2
+part-flag-entries-start-2 c =
+    omega (arith, in-part (c .before .before .before .before .before .before .before .before .before) tableV)
+
+part-flag-entries-end-2 : tie.Need-part-flag-entries-end-2
+part-flag-entries-end-2 c =
+    omega (arith, in-part (c .before .before .before .before .before .before .before .before .before) tableV)
+
+slice-aggregate-flag-entries : tie.Need-slice-aggregate-flag-entries
+slice-aggregate-flag-entries c =
+    sym (long (c .before .before .before .before .before .before .before .before .before .before .before) (c .before .before .before .before .before .blank .result) (c .before .before .before .before .before .blank .ensures))
+
+flag-entries-requires : tie.Need-flag-entries-requires
+flag-entries-requires c κs =
+    let s = c .before .before .before .before .before .before .before .before .before .before .before in
+    let b = s .args .store .now in
+    let z = s .args .z in (
+      ((in-part s tableM .long, part-searchable b z (s .pre) tableM refl), (in-part s tableV .long, part-searchable b z (s .pre) tableV refl)),
+      omega (arith, in-part s tableM .most, long s (c .before .before .before .before .before .blank .result) (c .before .before .before .before .before .blank .ensures)),
+    )
+
+sub-flag : tie.Need-sub-flag
+sub-flag c =
+    omega (arith, in-part (c .before .before .before .before .before .before .before .before .before .before .before .before .before) tableV)
+
+part-flag-start : tie.Need-part-flag-start
+part-flag-start c =
+    omega (arith, in-part (c .before .before .before .before .before .before .before .before .before .before .before .before .before .before) tableV)
+
+part-flag-end : tie.Need-part-flag-end
+part-flag-end c =
+    omega (arith, in-part (c .before .before .before .before .before .before .before .before .before .before .before .before .before .before) tableV)
+
+slice-aggregate-flag : tie.Need-slice-aggregate-flag
+slice-aggregate-flag c =
+    sym (long (c .before .before .before .before .before .before .before .before .before .before .before .before .before .before .before .before .before) (c .before .before .before .before .before .before .before .before .before .before .blank2 .result) (c .before .before .before .before .before .before .before .before .before .before .blank2 .ensures))
+
+flag-requires : tie.Need-flag-requires
+flag-requires c κs =
+    let s = c .before .before .before .before .before .before .before .before .before .before .before .before .before .before .before .before .before in
+    let b = s .args .store .now in
+    let z = s .args .z in
+    let f = part-searchable b z (s .pre) tableV refl in
+    ((omega (arith, c .before .flag-arg2 .given .0), (in-part s tableV .long, omega (arith, in-part s tableV .most, long s (c .before .before .before .before .before .before .before .before .before .before .blank2 .result) (c .before .before .before .before .before .before .before .before .before .before .blank2 .ensures)))), (f .form, (f .marks, f .number)))
+
+sub-close : tie.Need-sub-close
+sub-close c =
+    omega (arith, in-part (c .before .before .before .before .before .before .before .before .before .before .before .before .before .before .before .before .before .before .before) tableM)
+
+part-close-start : tie.Need-part-close-start
+part-close-start c =
+    omega (arith, in-part (c .before .before .before .before .before .before .before .before .before .before .before .before .before .before .before .before .before .before .before) tableM)
+
+part-close-end : tie.Need-part-close-end
+part-close-end c =
+    omega (arith, in-part (c .before .before .before .before .before .before .before .before .before .before .before .before .before .before .before .before .before .before .before) tableM)
+
+slice-aggregate-close : tie.Need-slice-aggregate-close
+slice-aggregate-close c =
+    sym (longM (c .before .before .before .before .before .before .before .before .before))
+
+close-requires : tie.Need-close-requires
+close-requires c κs =
+    closable (c .before .before .before .before .before .before .before .before .before .before .before .before .before .before .before .before .before .before .before .before .before) (store₀ (c .before .before .before .before .before .before .before .before .before .before .before .before .before .before .before .before .before .before .before .before .before)) tableM (c .before .before .before .before .before .before .before .before .before .flag-entries .last .1 .1 .1 .1 .1 .1 .1 .0) (longM (c .before .before .before .before .before .before .before .before .before)) refl
+
+sub-close-2 : tie.Need-sub-close-2
+sub-close-2 c =
+    omega (arith, in-part (c .before .before .before .before .before .before .before .before .before .before .before .before .before .before .before .before .before .before .before .before .before .before .before .before) tableV)
+
+part-close-start-2 : tie.Need-part-close-start-2
+part-close-start-2 c =
+    omega (arith, in-part (c .before .before .before .before .before .before .before .before .before .before .before .before .before .before .before .before .before .before .before .before .before .before .before .before) tableV)
+
+part-close-end-2 : tie.Need-part-close-end-2
+part-close-end-2 c =
+    omega (arith, put-end _ (store₁ (c .before .before)) tableV)
+
+slice-aggregate-close-2 : tie.Need-slice-aggregate-close-2
+slice-aggregate-close-2 c =
+    sym (longV (c .before .before .before .before .before .before .before .before))
+
+close-requires-2 : tie.Need-close-requires-2
+close-requires-2 c κs =
+    closable (c .before .before .before .before .before .before .before .before .before .before .before .before .before .before .before .before .before .before .before .before .before .before .before .before .before .before) (store₁ (c .before .before .before .before)) tableV (c .before .before .before .before .before .before .before .before .flag .last .1 .1 .1 .1 .1 .0) (longV (c .before .before .before .before .before .before .before .before)) refl
+
+same-length : tie.Need-same-length
+same-length c =
+    same-long _ (store₂ (c .before .before)) (store₀ (c .before .before .before .before .before .before .before .before .before .before .before .before .before .before .before .before .before .before .before .before .before .before .before .before .before .before .before .before .before))
+
+returns : tie.Need-returns
 returns c =
-    let l = c .before .loop in
-    let s = c .before .before .before .before .before in
-    let a = s .args in
-    erasing-all (a .store .now) (a .id .now) (spanIn (a .z)) (l .i) (l .freed) (l .store) (l .inv .3 (a .z) (s .pre))
-    (omega (arith, laid-fit (a .store .now) (a .z) (s .pre) .wide tableV .number))
+    let s = c .before .before .before .before .before .before .before .before .before .before .before .before .before .before .before .before .before .before .before .before .before .before .before .before .before .before .before .before .before in
+    let b = s .args .store .now in
+    let z = s .args .z in
+    let id = s .args .id .now in
+    let e : length id ≡ 16 = omega (arith, c .before .before .before .before .before .before .before .before .before .before .before .before .before .flag-arg2 .given .0) in
+    let o = c .before .before .before .before .before .before .before in (
+      (c .before .before .before .before .before .before .before .before .before .before .before .flag .ensures .0 ∙ (λ i. count (λ x. reverse-is b id (length id) refl e x i) (used (in-part s tableV .same i)))),
+      both-closed b id _ z _ _
+          (c .before .before .before .before .before .before .before .close .ensures ∙ ap (λ (t : Table). reordered (widthOf tableM) (freeFlagged (widthOf tableM) (c .before .before .before .before .before .before .before .before .before .before .before .before .before .before .before .before .before .flag-entries .last .1 .1 .1 .1 .1 .1 .1 .0) t)) (part-rows z (store₀ s) tableM)
+          ∙ closed-M b id (cut b .table tableM) (c .before .before .before .before .before .before .before .before .before .before .before .before .before .before .before .before .before .flag-entries .last .1 .1 .1 .1 .1 .1 .1 .0) (few s tableM) (flagsM (c .before .before .before .before .before .before .before .before .before .before .before .before .before .before .before .before .before)))
+          (c .before .before .close2 .ensures ∙ ap (λ (t : Table). reordered (widthOf tableV) (freeFlagged (widthOf tableV) (c .before .before .before .before .before .before .before .before .before .before .before .flag .last .1 .1 .1 .1 .1 .0) t)) (part-rows z (store₁ o) tableV)
+          ∙ closed-V b id (cut b .table tableV) (c .before .before .before .before .before .before .before .before .before .before .before .flag .last .1 .1 .1 .1 .1 .0) e (few s tableV) (flagsV (c .before .before .before .before .before .before .before .before .before .before .before)))
+          (store₂ (c .before .before) .laid),
+    )
 
 pub erase-rows-spec : {M : Type 1} → statement M
-erase-rows-spec =
-    tie.close
-    (tie.spec
-    Inv-loop
-    μ-loop
-    loop-holds
-    (λ c. omega (arith, inV (start c)))
-    (λ c. omega (arith, inV (start (c .before)), c .before .before .loop .inv .0))
-    (λ c. omega (arith, inV (start (c .before)), c .before .before .loop .inv .0))
-    (λ c κs. (c .before .before .loop-test .taken, long (c .before .before) tableV))
-    (λ c. omega (arith, inV (start (c .before .before .before .before)), c .before .before .before .before .before .loop .inv .0))
-    (λ c. omega (arith, inV (start (c .before .before .before .before .before)), c .before .before .before .before .before .before .loop .inv .0))
-    (λ c. omega (arith, inV (start (c .before .before .before .before .before)), c .before .before .before .before .before .before .loop .inv .0))
-    (λ c κs. (omega (arith, c .before .before .before .before .before .before .loop-test .taken), long (c .before .before .before .before .before .before) tableV))
-    (λ c. omega (arith, inM (start (c .before .before .before .before .before .before .before)), c .before .before .before .before .before .before .before .before .loop .inv .0))
-    (λ c. omega (arith, inM (start (c .before .before .before .before .before .before .before)), c .before .before .before .before .before .before .before .before .loop .inv .0))
-    (λ c. omega (arith, inM (start (c .before .before .before .before .before .before .before)), c .before .before .before .before .before .before .before .before .loop .inv .0))
-    (λ c. search needs)
-    (λ c κs. (omega arith, long (c .before .before .before .before .before .before .before .before .before) tableM))
-    (λ c. omega (arith, inV (start (c .before .before .before .before .before .before .before .before .before .before .before .before)), c .before .before .before .before .before .before .before .before .before .before .before .before .before .loop .inv .0))
-    (λ c. omega (arith, inV (start (c .before .before .before .before .before .before .before .before .before .before .before .before)), c .before .before .before .before .before .before .before .before .before .before .before .before .before .loop .inv .0))
-    (λ c. omega (arith, laid-inside _ _ _ (laid₁ (c .before .before)) tableV))
-    (λ c κs. (c .before .before .before .before .before .before .before .before .before .before .before .before .before .loop-test .taken, laid-long _ _ _ (laid₁ (c .before .before .before)) tableV))
-    (λ c. omega (arith, inV (start (c .before .before .before .before .before .before .before .before .before .before .before .before .before .before .before .before))))
-    (λ c. search needs)
-    (λ c. search needs)
-    loop-again
-    (λ c. search needs)
-    returns)
+erase-rows-spec = tie.close (tie.spec sub-in-m sub-in-v (λ c κs. search needs) (λ c κs. search needs) sub-flag-entries part-flag-entries-start part-flag-entries-end sub-flag-entries-2 part-flag-entries-start-2 part-flag-entries-end-2 slice-aggregate-flag-entries flag-entries-requires sub-flag part-flag-start part-flag-end slice-aggregate-flag flag-requires sub-close part-close-start part-close-end slice-aggregate-close close-requires sub-close-2 part-close-start-2 part-close-end-2 slice-aggregate-close-2 close-requires-2 same-length returns)

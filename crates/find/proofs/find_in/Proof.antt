@@ -1,17 +1,18 @@
 -- All shares are read; then the ids are gathered in the smaller or the larger index.
 use Prim.Native.Nat.{ℕ, _+_, _-_, _≤_}
-use mathlib.Core.Path.{_≡_, ap, _∙_}
+use mathlib.Core.Path.{_≡_, refl, ap, _∙_}
 use mathlib.Core.List.{List, map}
 use native.Mathlib.Omega.{arith}
 use lib.ListN.{getD, take, drop}
 use Rattle.table.specs.Lists.{sum, upTo, distinct}
 use Rattle.table.specs.Table.{Table, rows}
+use Rattle.table.specs.Order.{Searchable}
 use Rattle.scheme.specs.Store.{widthOf}
 use Rattle.scheme.specs.Keys.{findMT, findME, findCL}
 use Rattle.scheme.specs.Find
 use Rattle.scheme.specs.Find.{shareReading, idsFound}
 use Rattle.suite.specs.Program.{program}
-use Rattle.store.proofs.Laws.{tableM, Fits, fit-range, fits}
+use Rattle.store.proofs.Laws.{tableM, Fits, fit-range, fits, free-le, part-searchable}
 use Rattle.ids.specs.declared.EntryKeys.{EntryKeys}
 use Rattle.ids.specs.Ids.{idsIn}
 use Rattle.find.specs.Given.{givenAnswer, givenOutput}
@@ -29,6 +30,9 @@ shares s = fit-range (s .args .store .now) (s .args .z) (s .pre .0) .p-most
 
 rowsM : (s : tie.Start) → s .args .z .m .rows ≤ 4096
 rowsM s = fit-range (s .args .store .now) (s .args .z) (s .pre .0) .m-most
+
+searched : (s : tie.Start) → Searchable (widthOf tableM) (s .args .z .m .rows - s .args .z .m .free) (rows (widthOf tableM) (s .args .z .m .rows) (take (s .args .z .m .end - s .args .z .m .start) (drop (s .args .z .m .start) (s .args .store .now))))
+searched s = part-searchable (s .args .store .now) (s .args .z) (s .pre .0) tableM refl
 
 sound : (c : tie.Else1) →
     let a = c .before .before .before .before .before .before .args in
@@ -94,15 +98,18 @@ part-give-few-end : tie.Need-part-give-few-end
 part-give-few-end c =
     omega (arith, inM (c .before .before .before .before .before .before .before .before .before .before .before .before .before))
 
+sub-give-few-2 : tie.Need-sub-give-few-2
+sub-give-few-2 c =
+    let s = c .before .before .before .before .before .before .before .before .before .before .before .before .before .before .before in free-le (s .args .store .now) (s .args .z) (s .pre .0) tableM
+
 give-few-requires : tie.Need-give-few-requires
 give-few-requires c κs =
-    let s = c .before .before .before .before .before .before .before .before .before .before .before .before .before .before .before in
-    (inM s .long, (rowsM s, (shares s, omega (arith, c .before .before .if2 .taken, total (c .before .before .before .before .before)))))
+    let s = c .before .before .before .before .before .before .before .before .before .before .before .before .before .before .before .before in
+    ((inM s .long, searched s), (rowsM s, (shares s, omega (arith, c .before .before .before .if2 .taken, total (c .before .before .before .before .before .before)))))
 
 returns-2 : tie.Need-returns-2
 returns-2 c =
-    let g = gives (c .before .before .before .before .before .before .before .before) in
-    (c .before .before .give-few .ensures .0 ∙ g .0, c .before .before .give-few .ensures .1 ∙ g .1)
+    let g = gives (c .before .before .before .before .before .before .before .before .before) in (c .before .before .give-few .ensures .0 ∙ g .0, c .before .before .give-few .ensures .1 ∙ g .1)
 
 sub-give-many : tie.Need-sub-give-many
 sub-give-many c =
@@ -116,15 +123,17 @@ part-give-many-end : tie.Need-part-give-many-end
 part-give-many-end c =
     omega (arith, inM (c .before .before .before .before .before .before .before .before .before .before .before .before .before))
 
+sub-give-many-2 : tie.Need-sub-give-many-2
+sub-give-many-2 c =
+    let s = c .before .before .before .before .before .before .before .before .before .before .before .before .before .before .before in free-le (s .args .store .now) (s .args .z) (s .pre .0) tableM
+
 give-many-requires : tie.Need-give-many-requires
 give-many-requires c κs =
-    let s = c .before .before .before .before .before .before .before .before .before .before .before .before .before .before .before in
-    (inM s .long, (rowsM s, shares s))
+    let s = c .before .before .before .before .before .before .before .before .before .before .before .before .before .before .before .before in ((inM s .long, searched s), (rowsM s, shares s))
 
 returns-3 : tie.Need-returns-3
 returns-3 c =
-    let g = gives (c .before .before .before .before .before .before .before .before) in
-    (c .before .before .give-many .ensures .0 ∙ g .0, c .before .before .give-many .ensures .1 ∙ g .1)
+    let g = gives (c .before .before .before .before .before .before .before .before .before) in (c .before .before .give-many .ensures .0 ∙ g .0, c .before .before .give-many .ensures .1 ∙ g .1)
 
 pub find-in-spec : {M : Type 1} → statement M
-find-in-spec = tie.close (tie.spec (λ c κs. search needs) returns (λ c. search needs) (λ c. search needs) (λ c. search needs) (λ c κs. search needs) (λ c. search needs) (λ c. search needs) (λ c. search needs) (λ c κs. search needs) sub-give-few part-give-few-start part-give-few-end give-few-requires (λ c. search needs) returns-2 sub-give-many part-give-many-start part-give-many-end give-many-requires (λ c. search needs) returns-3)
+find-in-spec = tie.close (tie.spec (λ c κs. search needs) returns (λ c. search needs) (λ c. search needs) (λ c. search needs) (λ c κs. search needs) (λ c. search needs) (λ c. search needs) (λ c. search needs) (λ c κs. search needs) sub-give-few part-give-few-start part-give-few-end sub-give-few-2 give-few-requires (λ c. search needs) returns-2 sub-give-many part-give-many-start part-give-many-end sub-give-many-2 give-many-requires (λ c. search needs) returns-3)

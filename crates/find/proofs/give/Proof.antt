@@ -24,7 +24,7 @@ few : (s : tie.Start) → length (tableAt s) ≤ 4096
 few s = omega (arith, rows-length (widthOf tableM) (s .args .m) (s .args .t .now), s .pre .1 .0)
 
 wide : (s : tie.Start) → RowsM (tableAt s)
-wide s = rows-wide (widthOf tableM) (s .args .m) (s .args .t .now) (omega (arith, s .pre .0))
+wide s = rows-wide (widthOf tableM) (s .args .m) (s .args .t .now) (omega (arith, s .pre .0 .0))
 
 abbrev found : tie.Start → List (List ℕ)
 found s = distinct (idsIn (s .args .keys) (tableAt s) (s .args .of) (s .args .p + 1))
@@ -54,7 +54,7 @@ returns c =
     let g = c .before .before .before .before .gather in
     let r = no-room (found s) (a .output .now) (g .result)
     (gathered-number (a .keys) (tableAt s) (few s) (wide s) (a .of) (a .p + 1) (a .index .now) (replicate 65536 0) (s .pre .1 .1 .1) (length-replicate {A = ℕ} 65536 0)
-    (kept (g .last .1 .1 .1 .1 .1 .0) (g .last .1 .1 .1 .1 .1 .1 .0) (g .result)) (g .ensures))
+    (kept (g .last .1 .1 .1 .1 .1 .1 .0) (g .last .1 .1 .1 .1 .1 .1 .1 .0) (g .result)) (g .ensures))
     (omega (arith, c .if1 .taken)) in
     (r .0, (r .1, ap (λ (k : Kept). k .index) (g .ensures)))
 
@@ -63,10 +63,10 @@ write-requires c κs =
     let s = c .before .before .before .before .before .before .before .before .before .before .before .before .before in
     let a = s .args in
     let g = c .before .before .before .before .before .before .before .gather in (
-      s .pre .0,
+      s .pre .0 .0,
       (
         gathered-chained (a .keys) (tableAt s) (few s) (wide s) (a .of) (a .p + 1) (a .index .now) (replicate 65536 0) (s .pre .1 .1 .1) (length-replicate {A = ℕ} 65536 0)
-            (kept (g .last .1 .1 .1 .1 .1 .0) (g .last .1 .1 .1 .1 .1 .1 .0) (g .result)) (g .ensures),
+            (kept (g .last .1 .1 .1 .1 .1 .1 .0) (g .last .1 .1 .1 .1 .1 .1 .1 .0) (g .result)) (g .ensures),
         omega (arith, c .before .before .before .if1 .left),
       ),
     )
@@ -76,7 +76,7 @@ returns-2 c =
     let s = c .before .before .before .before .before .before .before .before .before .before .before .before .before .before .before .before in
     let a = s .args in
     let g = c .before .before .before .before .before .before .before .before .before .before .gather in
-    let k = kept (g .last .1 .1 .1 .1 .1 .0) (g .last .1 .1 .1 .1 .1 .1 .0) (g .result) in
+    let k = kept (g .last .1 .1 .1 .1 .1 .1 .0) (g .last .1 .1 .1 .1 .1 .1 .1 .0) (g .result) in
     let l = length-replicate {A = ℕ} 65536 0 in
     let w = c .before .before .write in
     let r = all-written (found s) (a .output .now) (g .result)

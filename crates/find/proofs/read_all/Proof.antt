@@ -19,11 +19,11 @@ use Rattle.find.proofs.read_all.Statement.{statement}
 use Rattle.find.proofs.read_all.Tie as tie
 
 abbrev Inv-loop : tie.InvT-loop
-Inv-loop t c clx p of₀ sum₀ u₀ of sum u =
+Inv-loop t c used clx p of₀ sum₀ u₀ of sum u =
     (u ≤ p + 1) × Summed (shareRead clx c (rows (widthOf tableC) c t)) u sum × (of ≡ filled (λ u. countOf (shareRead clx c (rows (widthOf tableC) c t) u)) u (replicate 16 0))
 
 abbrev μ-loop : tie.MeasureT-loop
-μ-loop t c clx p of₀ sum₀ u₀ of sum u = p + 1 - u
+μ-loop t c used clx p of₀ sum₀ u₀ of sum u = p + 1 - u
 
 loop-holds : tie.Need-loop-holds Inv-loop μ-loop
 loop-holds c = let a = c .before .args in (search needs, summed-none (shareRead (a .clx) (a .c) (rows (widthOf tableC) (a .c) (a .t .now))), refl)

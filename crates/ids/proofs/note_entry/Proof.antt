@@ -33,7 +33,7 @@ note-requires c κs =
     let i = c .before .before .before .before .before .before .before .place .result in
     let h : i < length (tableAt s) = omega (arith, c .before .before .before .before .before .before .if1 .taken, rows-length (widthOf tableM) (a .m) (a .t .now)) in
     let e = ap (λ (k : Kept). k .n) (noted-hit (a .keys) (tableAt s) (a .s .u) (a .a .0) i (found (c .before .before .before .before .before .before .before)) h (kept (a .index .now) (a .ids .now) (a .n))) in (
-      s .pre .0,
+      s .pre .0 .0,
       (
         s .pre .1 .1 .1 .1 .0,
         (

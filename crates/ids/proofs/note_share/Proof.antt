@@ -15,12 +15,12 @@ use Rattle.ids.proofs.note_share.Statement.{statement}
 use Rattle.ids.proofs.note_share.Tie as tie
 
 abbrev Inv-loop : tie.InvT-loop
-Inv-loop t m s keys count index₀ ids₀ n next₀ a₀ index ids next a =
+Inv-loop t m used s keys count index₀ ids₀ n next₀ a₀ index ids next a =
     (a ≤ count) × ((length index ≡ length index₀) × ((length ids ≡ length ids₀)
     × (kept index ids next ≡ notedTo keys (rows (widthOf tableM) m t) (s .u) a (kept index₀ ids₀ n))))
 
 abbrev μ-loop : tie.MeasureT-loop
-μ-loop t m s keys count index₀ ids₀ n next₀ a₀ index ids next a = count - a
+μ-loop t m used s keys count index₀ ids₀ n next₀ a₀ index ids next a = count - a
 
 abbrev tableAt : tie.Start Inv-loop μ-loop → Table
 tableAt s = rows (widthOf tableM) (s .args .m) (s .args .t .now)
@@ -32,7 +32,7 @@ few : (s : tie.Start Inv-loop μ-loop) → length (tableAt s) ≤ 4096
 few s = omega (arith, rows-length (widthOf tableM) (s .args .m) (s .args .t .now), s .pre .1 .0)
 
 wide : (s : tie.Start Inv-loop μ-loop) → RowsM (tableAt s)
-wide s = rows-wide (widthOf tableM) (s .args .m) (s .args .t .now) (omega (arith, s .pre .0))
+wide s = rows-wide (widthOf tableM) (s .args .m) (s .args .t .now) (omega (arith, s .pre .0 .0))
 
 loop-holds : tie.Need-loop-holds Inv-loop μ-loop
 loop-holds c =
@@ -73,9 +73,9 @@ loop-again c =
     let w = c .before .before .before .before .note-entry in (
       omega (arith, c .before .before .before .before .before .before .before .loop-test .taken),
       (
-        w .kept .1 .1 .1 .1 .1 .0 ∙ l .inv .1 .0,
+        w .kept .1 .1 .1 .1 .1 .1 .0 ∙ l .inv .1 .0,
         (
-          w .kept .1 .1 .1 .1 .1 .1 .0 ∙ l .inv .1 .1 .0,
+          w .kept .1 .1 .1 .1 .1 .1 .1 .0 ∙ l .inv .1 .1 .0,
           w .ensures ∙ ap (notedAt (p .keys) (tableAt s) (p .s .u) (l .a + 1)) (l .inv .1 .1 .1) ∙ sym (to-next (p .keys) (tableAt s) (few s) (wide s) (p .s .u) (l .a) (atStart s)),
         ),
       ),
