@@ -1,8 +1,8 @@
 /* Mazhkuri: a stateless encrypted multi-map, proved. The C interface of the static library.
  *
  * A client holds one key of 32 bytes, remembers nothing, and makes tokens. A server holds a store
- * and no key: it inserts, erases, finds, counts and compacts. docs/API.md tells each call at length,
- * docs/FORMAT.md the bytes of stores and tokens.
+ * and no key: it inserts, erases, finds, counts, compacts and orders. docs/API.md tells each call at
+ * length, docs/FORMAT.md the bytes of stores and tokens.
  *
  * What a call returns
  *   0 or more   the call was done, and this is its answer; 0 where a call has none.
@@ -29,8 +29,8 @@
  *   Calls that share no written memory may run at the same time. A store that one call writes must
  *   not be lent to another call at that time.
  *
- * The refusals, each call's in the order in which it tests them: 1 to 9 by number, then 10, 11, 12,
- * 19, 13, 14, 15, 16, 17, 18.
+ * The refusals, each call's in the order in which it tests them: 1 to 9 by number, then 10, 11, 20,
+ * 12, 19, 13, 14, 15, 16, 17, 18.
  */
 #ifndef MAZHKURI_H
 #define MAZHKURI_H
@@ -61,7 +61,8 @@ enum {
   MAZHKURI_COUNTER_ROWS = 16,  /* no free counter row: compact, or make a larger store */
   MAZHKURI_LOG_ROWS = 17,      /* no free log row: compact */
   MAZHKURI_OUTPUT_LENGTH = 18, /* the output is too short for the different ids; carries how many */
-  MAZHKURI_NONCE_COUNT = 19    /* a compaction has fewer nonces than used log rows */
+  MAZHKURI_NONCE_COUNT = 19,   /* a compaction has fewer nonces than used log rows */
+  MAZHKURI_ROW_ORDER = 20      /* rows are not in byte order: mazhkuri_order puts the store in form */
 };
 
 enum {
@@ -134,36 +135,41 @@ int64_t mazhkuri_make(uint64_t p, uint64_t m, uint64_t c, uint64_t s, uint8_t *s
 /* Inserts 1 to 64 ids of 16 bytes each, one after the other, with a nonce of 12 bytes for each id
  * and one more. An id may be inserted again: it gets another entry, and a find gives it once.
  * Returns how many ids were ever inserted under the token's field and share, the new ones and repeats
- * included, 1 to 4,294,967,295; or -4, -5, -6, -10, -11, -12, -13, -14, -15, -16, -17. */
+ * included, 1 to 4,294,967,295; or -4, -5, -6, -10, -11, -20, -12, -13, -14, -15, -16, -17. */
 int64_t mazhkuri_insert(uint8_t *store, size_t store_length, const uint8_t *ids, size_t ids_length,
                         const uint8_t *nonces, size_t nonces_length, const uint8_t *token,
                         size_t token_length);
 
 /* Erases the id of 16 bytes from every field and share. Returns how many entries were freed, each
- * repeat counted, 0 to 4,096; or -5, -10, -11. */
+ * repeat counted, 0 to 4,096; or -5, -10, -11, -20. */
 int64_t mazhkuri_erase(uint8_t *store, size_t store_length, const uint8_t *id, size_t id_length);
 
 /* Finds the ids under the token's field, in all shares, and writes them to the start of the output,
  * each once, at the first place where it would have come; bytes after them stay. Returns how many;
- * or -6, -10, -11, -13, or -(18 + 256 * how many) where the output is shorter than 16 times that. The
- * output may be empty. The time grows with how many ids were ever inserted under the field. It needs
- * some 350 KiB of stack. */
+ * or -6, -10, -11, -20, -13, or -(18 + 256 * how many) where the output is shorter than 16 times
+ * that. The output may be empty. The time grows with how many ids were ever inserted under the field.
+ * It needs some 350 KiB of stack. */
 int64_t mazhkuri_find(const uint8_t *store, size_t store_length, const uint8_t *token,
                       size_t token_length, uint8_t *output, size_t output_length);
 
 /* Counts the ids ever inserted under the token's field, erased ones and repeats included, in all
- * shares. Returns 0 to 68,719,476,720; or -6, -10, -11, -13. */
+ * shares. Returns 0 to 68,719,476,720; or -6, -10, -11, -20, -13. */
 int64_t mazhkuri_count(const uint8_t *store, size_t store_length, const uint8_t *token,
                        size_t token_length);
 
 /* Compacts: for every field and share inserted under since the last compaction, frees its counter
  * rows and writes one anchor row in their place; then frees the log rows. At least as many nonces of
  * 12 bytes as the log has used rows. Returns anchors written * 2^32 + counters freed; or -4, -6,
- * -10, -11, -19, or -(13 + 256 * (anchors * 2^32 + counters)): a counter is damaged, and what was
+ * -10, -11, -20, -19, or -(13 + 256 * (anchors * 2^32 + counters)): a counter is damaged, and what was
  * compacted before it stays compacted, as both numbers tell. This is the one refusal after which
  * bytes of the store have changed. mazhkuri_anchors and mazhkuri_counters take the numbers apart. */
 int64_t mazhkuri_compact(uint8_t *store, size_t store_length, const uint8_t *nonces,
                          size_t nonces_length, const uint8_t *token, size_t token_length);
+
+/* Puts a store in form: in each table the used rows first, ascending by their bytes, then free rows
+ * that are all zero. Every used row is kept. For stores of a version before this one, which every
+ * other call refuses by 20. Returns how many used rows there are in all tables; or -10, -11. */
+int64_t mazhkuri_order(uint8_t *store, size_t store_length);
 
 #ifdef __cplusplus
 }

@@ -14,8 +14,7 @@ use Rattle.scheme.specs.Suite.{number8}
 use Rattle.scheme.specs.Labels.{Field, label, fieldLengthsBad}
 use Rattle.scheme.specs.Keys.{KM, KC, KS, MTof, MEof, CLof, findToken, countToken, compactionToken}
 use Rattle.scheme.specs.Refusals.{Result, lengthNot, insertTokenTests}
-use Rattle.scheme.specs.Call.{Told}
-use Rattle.scheme.specs.Run.{madeOr, Gives}
+use Rattle.scheme.specs.Run.{madeOr}
 use Rattle.scheme.proofs.Verdicts.{passed, length-passed}
 use Rattle.suite.specs.Program.{program}
 
@@ -40,14 +39,13 @@ unmade ts r e = go (verdict ts) e
 pub token-made : (ts : List Test) (token lent now : List ℕ) → verdict ts ≡ none → now ≡ unlessRefused (verdict ts) token lent → now ≡ token
 token-made ts token lent now e f = f ∙ ap (λ (o : Option Answer). unlessRefused o token lent) e
 
--- a call that is a function
+-- a call whose token was not made, and one whose token was
 module _ (o : Option Answer) (result : Result) (before output : List ℕ) where
-  pub gives-unmade : (a : Answer) → o ≡ some a → Gives (madeOr o result before output) (record { answer = a; output = output }) before
-  gives-unmade a e = rw e (record { answer = refl; output = refl; store = refl })
+  pub call-unmade : (a : Answer) → o ≡ some a → madeOr o result before output ≡ record { answer = a; store = before; output = output }
+  call-unmade a e = ap (λ (x : Option Answer). madeOr x result before output) e
 
-  pub gives-made : (told : Told) (after : List ℕ) → o ≡ none → told .answer ≡ result .answer → told .output ≡ result .output → after ≡ result .store
-      → Gives (madeOr o result before output) told after
-  gives-made told after e a b c = rw e (record { answer = a; output = b; store = c })
+  pub call-made : o ≡ none → madeOr o result before output ≡ result
+  call-made e = ap (λ (x : Option Answer). madeOr x result before output) e
 
 -- the tokens' lengths [01:KT8 KT9 KT10]
 module _ (K : List ℕ) where
@@ -67,15 +65,6 @@ module _ (K : List ℕ) where
   pub compaction-length : length (compactionToken program K) ≡ 32
   unfolding compactionToken KS
   compaction-length = program .F-length K (number8 3)
-
--- a test's outcome is one
-pub one-refusal : (o : Option Answer) (a b : Answer) → o ≡ some a → o ≡ some b → a ≡ b
-one-refusal none a b e f = absurd (let z : _≡_ {A = ℕ} 0 1 = cc in omega arith)
-one-refusal (some x) a b e f = let p : x ≡ a = cc in let q : x ≡ b = cc in sym p ∙ q
-
-pub not-both : (o : Option Answer) (a : Answer) → o ≡ some a → o ≡ none → ⊥
-not-both none a e f = let z : _≡_ {A = ℕ} 0 1 = cc in omega arith
-not-both (some x) a e f = let z : _≡_ {A = ℕ} 0 1 = cc in omega arith
 
 -- an insert token is made with a nonce of 12 bytes
 pub nonce-length : (K : List ℕ) (f : Field) (p u : ℕ) (nonce : List ℕ) → verdict (insertTokenTests K f p u nonce) ≡ none → length nonce ≡ 12

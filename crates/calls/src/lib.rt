@@ -1,9 +1,9 @@
 // A call of a list, on its raw arguments: the making of its token, where it takes one, then the operation
 // with it (document 01, "The ledger", last paragraph). Each contract is the step of the claim. [01:LG16 OP16 SC6]
-ghost use mathlib.Core.List.{[]};
+ghost use mathlib.Core.Path.{_≡_};
 ghost use Rattle.answer.specs.Answer.{counted};
 ghost use Rattle.scheme.specs.Call.{Call};
-ghost use Rattle.scheme.specs.Run.{Step};
+ghost use Rattle.scheme.specs.Run.{perform};
 ghost use Rattle.suite.specs.Program.{program};
 ghost use Rattle.client.specs.Making.{fieldOf};
 ghost use Rattle.compact.specs.Outcome.{compactionAnswer};
@@ -27,7 +27,8 @@ pub fn insert(
     ids: &[u8],
     nonces: &[u8],
 ) -> Counted
-    ensures { λ r. ⌜ Step program (Call.insert (now (key .entry)) (fieldOf (now (name .entry)) (now (value .entry))) p u (now (nonce .entry)) (now (ids .entry)) (now (nonces .entry))) (now (store .entry)) (record { answer = counted r; output = [] }) (now (store .exit)) ⌝ }
+    ensures { λ r. ⌜ counted r ≡ perform program (Call.insert (now (key .entry)) (fieldOf (now (name .entry)) (now (value .entry))) p u (now (nonce .entry)) (now (ids .entry)) (now (nonces .entry))) (now (store .entry)) .answer ⌝ }
+    ensures { λ _. ⌜ now (store .exit) ≡ perform program (Call.insert (now (key .entry)) (fieldOf (now (name .entry)) (now (value .entry))) p u (now (nonce .entry)) (now (ids .entry)) (now (nonces .entry))) (now (store .entry)) .store ⌝ }
 {
     let mut token = [0u8; INSERT_TOKEN];
     match client::insert_token(key, name, value, p, u, nonce, &mut token) {
@@ -38,14 +39,16 @@ pub fn insert(
 
 // Erases an id from every field. [01:OP4]
 pub fn erase(store: &mut [u8], id: &[u8]) -> Counted
-    ensures { λ r. ⌜ Step program (Call.erase (now (id .entry))) (now (store .entry)) (record { answer = counted r; output = [] }) (now (store .exit)) ⌝ }
+    ensures { λ r. ⌜ counted r ≡ perform program (Call.erase (now (id .entry))) (now (store .entry)) .answer ⌝ }
+    ensures { λ _. ⌜ now (store .exit) ≡ perform program (Call.erase (now (id .entry))) (now (store .entry)) .store ⌝ }
 {
     erase::erase(store, id)
 }
 
 // Finds the ids under a field, to the start of the output. [01:OP6 OP7]
 pub fn find(store: &[u8], key: &[u8], name: &[u8], value: &[u8], output: &mut [u8]) -> Counted
-    ensures { λ r. ⌜ Step program (Call.find (now (key .entry)) (fieldOf (now (name .entry)) (now (value .entry))) (now (output .entry))) (now (store .entry)) (record { answer = counted r; output = now (output .exit) }) (now (store .entry)) ⌝ }
+    ensures { λ r. ⌜ counted r ≡ perform program (Call.find (now (key .entry)) (fieldOf (now (name .entry)) (now (value .entry))) (now (output .entry))) (now (store .entry)) .answer ⌝ }
+    ensures { λ _. ⌜ now (output .exit) ≡ perform program (Call.find (now (key .entry)) (fieldOf (now (name .entry)) (now (value .entry))) (now (output .entry))) (now (store .entry)) .output ⌝ }
 {
     let mut token = [0u8; FIND_TOKEN];
     match client::find_token(key, name, value, &mut token) {
@@ -56,7 +59,7 @@ pub fn find(store: &[u8], key: &[u8], name: &[u8], value: &[u8], output: &mut [u
 
 // Counts the ids ever inserted under a field. [01:OP9]
 pub fn count(store: &[u8], key: &[u8], name: &[u8], value: &[u8]) -> Counted
-    ensures { λ r. ⌜ Step program (Call.count (now (key .entry)) (fieldOf (now (name .entry)) (now (value .entry)))) (now (store .entry)) (record { answer = counted r; output = [] }) (now (store .entry)) ⌝ }
+    ensures { λ r. ⌜ counted r ≡ perform program (Call.count (now (key .entry)) (fieldOf (now (name .entry)) (now (value .entry)))) (now (store .entry)) .answer ⌝ }
 {
     let mut token = [0u8; COUNT_TOKEN];
     match client::count_token(key, name, value, &mut token) {
@@ -67,11 +70,20 @@ pub fn count(store: &[u8], key: &[u8], name: &[u8], value: &[u8]) -> Counted
 
 // Compacts the counters of every field inserted under since the last compaction. [01:OP10]
 pub fn compact(store: &mut [u8], key: &[u8], nonces: &[u8]) -> Compaction
-    ensures { λ r. ⌜ Step program (Call.compact (now (key .entry)) (now (nonces .entry))) (now (store .entry)) (record { answer = compactionAnswer r; output = [] }) (now (store .exit)) ⌝ }
+    ensures { λ r. ⌜ compactionAnswer r ≡ perform program (Call.compact (now (key .entry)) (now (nonces .entry))) (now (store .entry)) .answer ⌝ }
+    ensures { λ _. ⌜ now (store .exit) ≡ perform program (Call.compact (now (key .entry)) (now (nonces .entry))) (now (store .entry)) .store ⌝ }
 {
     let mut token = [0u8; COMPACTION_TOKEN];
     match client::compaction_token(key, &mut token) {
         Completion::Refused(r) => Compaction::Refused(r),
         Completion::Done => compact::compact(store, nonces, &token),
     }
+}
+
+// Puts a store in form. [02:W2.6]
+pub fn order(store: &mut [u8]) -> Counted
+    ensures { λ r. ⌜ counted r ≡ perform program Call.order (now (store .entry)) .answer ⌝ }
+    ensures { λ _. ⌜ now (store .exit) ≡ perform program Call.order (now (store .entry)) .store ⌝ }
+{
+    order::order(store)
 }

@@ -3,7 +3,6 @@
 use Prim.Native.Nat.{ℕ, _+_, _*_, _^_, _<_}
 use mathlib.Core.Bool.{cond, _&&_}
 use lib.Dec.{eqb}
-use mathlib.Core.Path.{_≡_}
 use mathlib.Core.List.{List, [], _∷_}
 use lib.IntN.{ℤ, pos, negℤ}
 use Rattle.answer.specs.Answer.{Answer, done, refused}
@@ -47,9 +46,3 @@ pub record Fits (n : ℕ) (a : Answer) : Type 0 where
 abbrev pub answering : ℕ → Answer → Answer
 answering n (done l) = done (n ∷ [])
 answering n (refused k l) = refused k l
-
--- a call whose contract is a relation: the number is that of an answer that the relation holds of
-pub record Told (P : Answer → Type 0) (r : ℤ) : Type 0 where
-  pub answer : Answer
-  pub answered : P answer
-  pub number : r ≡ encoded answer

@@ -1,6 +1,6 @@
 -- Every answer fits its number: what the definitions answer is below 2 ^ 63, with 256 times what a refusal carries, and each call
 -- answers always as many values, and its refusals carry as many as their numbers say.
-use Prim.Native.Nat.{ℕ, zero, suc, _+_, _*_, _/_, _%_, _^_, _≤_, _<_}
+use Prim.Native.Nat.{ℕ, zero, suc, _+_, _*_, _/_, _^_, _≤_, _<_}
 use native.Mathlib.Omega.{arith}
 use native.Mathlib.Nat.{le-trans}
 use mathlib.Core.Path.{_≡_, refl, sym, subst}
@@ -11,7 +11,7 @@ use lib.Dec.{T, ltb, eqb, lit<, eqb→eq}
 use lib.ListN.{length, drop, length-append, length-map}
 use Rattle.answer.specs.Answer.{Answer, done, refused}
 use Rattle.answer.specs.Verdict.{Test, _⇒_, _⇒_carrying_, verdict, answerOr}
-use Rattle.table.specs.Lists.{anyOf, sum, upTo, distinct}
+use Rattle.table.specs.Lists.{anyOf, sum, upTo}
 use Rattle.table.specs.Table.{Table, used, lookup}
 use Rattle.table.proofs.Counting.{count-le}
 use Rattle.table.proofs.Distinct.{distinct-few}
@@ -23,14 +23,15 @@ use Rattle.chacha20.specs.Call.{cipherTests, cipherAnswer}
 use Rattle.client.specs.Making.{makingAnswer}
 use Rattle.scheme.specs.Labels.{Field}
 use Rattle.scheme.specs.Keys.{insertTokenLength, findTokenLength, countTokenLength, compactionTokenLength, tokenCL, findCL}
-use Rattle.scheme.specs.Store.{Sizes, Which, tableV, tableC, tableS, widthOf, rowsOf, startOf, makeTests, make, cut, sizesOf, headerBad, marksBad, stateTests, entryTag, clIn}
+use Rattle.scheme.specs.Store.{Sizes, Which, tableM, tableV, tableC, tableS, widthOf, rowsOf, startOf, makeTests, make, cut, sizesOf, headerBad, markTests, stateTests, entryTag, clIn}
 use Rattle.scheme.specs.Reading.{Reading, damage, counter, limit, countOf, damaged, reading}
-use Rattle.scheme.specs.Refusals.{lengthNot, tokenTests, eraseInputTests, insertInputTests, compactionInputTests, insertTokenTests, fieldTokenTests, keyTests}
-use Rattle.scheme.specs.Insert.{insertReading, newCount, insertStateTests, insertVerdict}
+use Rattle.scheme.specs.Refusals.{tokenTests, eraseInputTests, insertInputTests, compactionInputTests, insertTokenTests, fieldTokenTests, keyTests}
+use Rattle.scheme.specs.Insert.{insertReading, newCount, insertStateTests, insertVerdict, insert}
 use Rattle.scheme.specs.Erase.{isReverse, eraseVerdict, erase}
 use Rattle.scheme.specs.Find.{idOf, idsTo, shareReading, idsOfShare, idsHeld, idsFound, findVerdict, find}
 use Rattle.scheme.specs.Count.{countVerdict, sumOfCounts, count}
-use Rattle.scheme.specs.Compaction.{Treats, finished, stopped, skipped, anchored, logOf, logged, compactVerdict, Compact}
+use Rattle.scheme.specs.Compaction.{Treated, byReading, treatAll, logOf, logged, compactVerdict, treated, compact}
+use Rattle.scheme.specs.Order.{usedInAll, orderVerdict, order}
 use Rattle.suite.specs.Program.{program}
 use Rattle.store.proofs.Laws.{good-header}
 use Rattle.counter.proofs.Readings.{reading-bounds}
@@ -92,19 +93,18 @@ used-most before k =
     omega (arith, free-used (cut before .table k), rows-length (widthOf k) (rowsOf z k) (drop (startOf z k) before))
 
 -- the calls' answers
-pub insert-fits : (before ids nonces token : List ℕ) → length ids < 2 ^ 64
-    → Fits 1 (answerOr (insertVerdict program before ids nonces token) (done (newCount program before ids token ∷ [])))
-unfolding insertVerdict insertInputTests tokenTests stateTests insertStateTests newCount insertReading
+pub insert-fits : (before ids nonces token : List ℕ) → length ids < 2 ^ 64 → Fits 1 (insert program before ids nonces token .answer)
+unfolding insert insertVerdict insertInputTests tokenTests stateTests insertStateTests newCount insertReading
 insert-fits before ids nonces token h =
     let n = count-small (sizesOf before .c) (tokenCL token) (cut before .table tableC) in
     bounded (insertInputTests ids nonces ++ (tokenTests insertTokenLength token ++ (stateTests before ++ insertStateTests program before ids nonces token))) (done (newCount program before ids token ∷ []))
-    (tt, λ _. (tt, λ _. (tt, λ _. (tt, λ _. (tt, λ _. (tt, λ _. (tt, λ _. (tt, λ _. (tt, λ _. (tt, λ _. (tt, λ _. record { small = omega (arith, n, h); gives = one })))))))))))
+    (tt, λ _. (tt, λ _. (tt, λ _. (tt, λ _. (tt, λ _. (tt, λ _. (tt, λ _. (tt, λ _. (tt, λ _. (tt, λ _. (tt, λ _. (tt, λ _. record { small = omega (arith, n, h); gives = one }))))))))))))
 
 pub erase-fits : (before id : List ℕ) → Fits 1 (erase before id .answer)
 unfolding erase eraseVerdict eraseInputTests stateTests
 erase-fits before id =
     bounded (eraseInputTests id ++ stateTests before) _
-    (tt, λ _. (tt, λ h. (tt, λ _. record { small = omega (arith, good-header before h .range .m-most, used-most before tableV, count-le (isReverse before id) (used (cut before .table tableV))); gives = one })))
+    (tt, λ _. (tt, λ h. (tt, λ _. (tt, λ _. record { small = omega (arith, good-header before h .range .m-most, used-most before tableV, count-le (isReverse before id) (used (cut before .table tableV))); gives = one }))))
 
 pub count-answer-fits : (before token : List ℕ) → Fits 1 (count program before token .answer)
 unfolding count countVerdict tokenTests stateTests sumOfCounts
@@ -117,10 +117,13 @@ count-answer-fits before token =
           tt,
           λ _. (
             tt,
-            λ _. record {
-              small = omega (arith, good-header before h .range .p-most, length-up-to (sizesOf before .p), sum-few (λ u. countOf (shareReading program before token u)) (share-small before token) (upTo (sizesOf before .p)));
-              gives = one;
-            },
+            λ _. (
+              tt,
+              λ _. record {
+                small = omega (arith, good-header before h .range .p-most, length-up-to (sizesOf before .p), sum-few (λ u. countOf (shareReading program before token u)) (share-small before token) (upTo (sizesOf before .p)));
+                gives = one;
+              },
+            ),
           ),
         ),
       ),
@@ -158,60 +161,66 @@ unfolding find findVerdict tokenTests stateTests
 find-fits before token output =
     let n = length (idsFound program before token) in
     bounded (tokenTests findTokenLength token ++ (stateTests before ++ ((anyOf (λ u. damaged (shareReading program before (findCL token) u)) (upTo (sizesOf before .p)) ⇒ 13) ∷ (ltb (length output) (16 * n) ⇒ 18 carrying (n ∷ [])) ∷ []))) _
-    (tt, λ _. (tt, λ h. (tt, λ _. (tt, λ _. (record { small = omega (arith, found-few before token h); gives = (omega arith, omega arith, one) }, λ _. record { small = omega (arith, found-few before token h); gives = one })))))
+    (tt, λ _. (tt, λ h. (tt, λ _. (tt, λ _. (tt, λ _. (record { small = omega (arith, found-few before token h); gives = (omega arith, omega arith, one) }, λ _. record { small = omega (arith, found-few before token h); gives = one }))))))
 
-treats-few : {c : ℕ} {ks : List ℕ} {cls : List (List ℕ)} {tC tS : Table} {nonces : List ℕ} {anchors counters : ℕ} {answer : Answer} {tC′ tS′ : Table} → c ≤ 4096
-    → Treats program c ks cls tC tS nonces anchors counters answer tC′ tS′
-    → magnitude answer ≤ 13 + 256 * packed ((anchors + length cls) ∷ (counters + 4096 * length cls) ∷ [])
-treats-few h finished = omega arith
-treats-few h (stopped e) = omega arith
-treats-few h (skipped e r) = omega (arith, treats-few h r)
-treats-few {c} h (anchored {cl} {cls} {tC} {B = B} {start} {k} {n} e a r) = omega (arith, treats-few h r, reading-bounds c cl tC B start (suc k) n (sym e) .counters)
+-- what a treatment of CL after CL answers, from a anchors and w counters
+pub record Few (n a w : ℕ) (x : Answer) : Type 0 where
+  pub most : magnitude x ≤ 13 + 256 * packed ((a + n) ∷ (w + 4096 * n) ∷ [])
+  pub values : w + 4096 * n < 2 ^ 32 → Gives 2 x
 
-treats-give : {c : ℕ} {ks : List ℕ} {cls : List (List ℕ)} {tC tS : Table} {nonces : List ℕ} {anchors counters : ℕ} {answer : Answer} {tC′ tS′ : Table} → c ≤ 4096
-    → counters + 4096 * length cls < 2 ^ 32 → Treats program c ks cls tC tS nonces anchors counters answer tC′ tS′ → Gives 2 answer
-treats-give {counters = counters} h b finished = let s : counters < 2 ^ 32 = omega arith in two s
-treats-give {counters = counters} h b (stopped e) = let s : counters < 2 ^ 32 = omega arith in (omega arith, omega arith, two s)
-treats-give h b (skipped e r) = treats-give h (omega arith) r
-treats-give {c} h b (anchored {cl} {cls} {tC} {B = B} {start} {k} {n} e a r) =
-    treats-give h (omega (arith, reading-bounds c cl tC B start (suc k) n (sym e) .counters)) r
+few-more : (n a w : ℕ) (x : Answer) → Few n a w x → Few (suc n) a w x
+few-more n a w x h = record { most = omega (arith, h .most); values = λ b. h .values (omega arith) }
 
--- the third condition does not hold where nothing refuses
-third : (x y z : Bool) (n m k : ℕ) (ts : List Test) → verdict ((x ⇒ n) ∷ (y ⇒ m) ∷ (z ⇒ k) ∷ ts) ≡ none → z ≡ false
-third true y z n m k ts e = let c : _≡_ {A = ℕ} 0 1 = cc in absurd (omega arith)
-third false true z n m k ts e = let c : _≡_ {A = ℕ} 0 1 = cc in absurd (omega arith)
-third false false true n m k ts e = let c : _≡_ {A = ℕ} 0 1 = cc in absurd (omega arith)
-third false false false n m k ts e = refl
+few-anchored : (n a w k : ℕ) (x : Answer) → k ≤ 4096 → Few n (a + 1) (w + k) x → Few (suc n) a w x
+few-anchored n a w k x l h = record { most = omega (arith, h .most); values = λ b. h .values (omega arith) }
+
+few-by : (c : ℕ) → c ≤ 4096 → (ks cl : List ℕ) (tC tS : Table) (nonces : List ℕ) (a w n : ℕ) (rest : Table → Table → List ℕ → ℕ → ℕ → Treated)
+    → ((t s : Table) (l : List ℕ) (b v : ℕ) → Few n b v (rest t s l b v .answer))
+    → (r : Reading) → r ≡ reading program c cl tC → Few (suc n) a w (byReading program ks cl tC tS nonces a w r rest .answer)
+few-by c h ks cl tC tS nonces a w n rest f damage e = record { most = omega arith; values = λ b. let s : w < 2 ^ 32 = omega arith in (omega arith, omega arith, two s) }
+few-by c h ks cl tC tS nonces a w n rest f (counter B s zero m) e = few-more n a w _ (f _ _ _ _ _)
+few-by c h ks cl tC tS nonces a w n rest f (counter B s (suc k) m) e =
+    few-anchored n a w (suc k) _ (omega (arith, reading-bounds c cl tC B s (suc k) m e .counters)) (f _ _ _ _ _)
+
+all-few : (c : ℕ) → c ≤ 4096 → (ks : List ℕ) (cls : List (List ℕ)) (tC tS : Table) (nonces : List ℕ) (a w : ℕ)
+    → Few (length cls) a w (treatAll program c ks cls tC tS nonces a w .answer)
+all-few c h ks [] tC tS nonces a w = record { most = omega arith; values = λ b. let s : w < 2 ^ 32 = omega arith in two s }
+all-few c h ks (cl ∷ cls) tC tS nonces a w =
+    few-by c h ks cl tC tS nonces a w (length cls) _ (λ t s l b v. all-few c h ks cls t s l b v) (reading program c cl tC) refl
 
 module _ (before nonces token : List ℕ) where
-  header-good : compactVerdict program before nonces token ≡ none → headerBad before ≡ false
-  unfolding compactVerdict compactionInputTests tokenTests stateTests
-  header-good e =
-      third (not (eqb (length nonces % 12) 0)) (lengthNot compactionTokenLength token) (headerBad before) 4 6 10
-      ((marksBad (cut before) ⇒ 11) ∷ (ltb (length nonces / 12) (length (used (cut before .table tableS))) ⇒ 19) ∷ []) e
-
-  compact-refused : (r : Answer) → compactVerdict program before nonces token ≡ some r → Fits 2 r
-  unfolding compactVerdict compactionInputTests tokenTests stateTests
-  compact-refused r e =
-      subst (λ (o : Option Answer). Fits 2 (answerOr o (done (0 ∷ 0 ∷ [])))) e
-      (bounded (compactionInputTests nonces ++ (tokenTests compactionTokenLength token ++ (stateTests before ++
-      ((ltb (length nonces / 12) (length (used (cut before .table tableS))) ⇒ 19) ∷ [])))) (done (0 ∷ 0 ∷ []))
-      (tt, λ _. (tt, λ _. (tt, λ _. (tt, λ _. (tt, λ _. record { small = omega arith; gives = two (omega arith) }))))))
-
   logged-few : length (logged program before token) ≤ sizesOf before .s
   unfolding logged logOf
   logged-few = omega (arith, distinct-few (map (clIn program token) (used (cut before .table tableS))), length-map (used (cut before .table tableS)) (clIn program token), used-most before tableS)
 
-  pub compact-fits : (a : Answer) (after : List ℕ) → Compact program before nonces token a after → Fits 2 a
-  compact-fits a after k = go (compactVerdict program before nonces token) refl
-    where
-      go : (v : Option Answer) → compactVerdict program before nonces token ≡ v → Fits 2 a
-      go none e =
-          let z = good-header before (header-good e) .range in record {
-            small = omega (arith, treats-few (z .c-most) (k .wrote e .treats), logged-few, z .s-most);
-            gives = treats-give (z .c-most) (omega (arith, logged-few, z .s-most)) (k .wrote e .treats);
-          }
-      go (some r) e = subst (Fits 2) (sym (k .kept r e .0)) (compact-refused r e)
+  treated-fits : headerBad before ≡ false → Fits 2 (treated program before nonces token .answer)
+  unfolding treated
+  treated-fits h =
+      let z = good-header before h .range in
+      let f = all-few (sizesOf before .c) (z .c-most) token (logged program before token) (cut before .table tableC) (cut before .table tableS) nonces 0 0 in
+      record { small = omega (arith, f .most, logged-few, z .s-most); gives = f .values (omega (arith, logged-few, z .s-most)) }
+
+  pub compact-fits : Fits 2 (compact program before nonces token .answer)
+  unfolding compact compactVerdict compactionInputTests tokenTests stateTests
+  compact-fits =
+      bounded (compactionInputTests nonces ++ (tokenTests compactionTokenLength token ++ (stateTests before ++
+      ((ltb (length nonces / 12) (length (used (cut before .table tableS))) ⇒ 19) ∷ [])))) _
+      (tt, λ _. (tt, λ _. (tt, λ h. (tt, λ _. (tt, λ _. (tt, λ _. treated-fits h))))))
+
+-- the used rows of all tables are at most their rows
+pub order-fits : (before : List ℕ) → Fits 1 (order before .answer)
+unfolding order orderVerdict markTests usedInAll
+order-fits before =
+    bounded (markTests before) _ (
+      tt,
+      λ h. let z = good-header before h .range in (
+        tt,
+        λ _. record {
+          small = omega (arith, z .m-most, z .c-most, z .s-most, used-most before tableM, used-most before tableV, used-most before tableC, used-most before tableS);
+          gives = one;
+        },
+      ),
+    )
 
 -- the calls that answer no value
 pub hash-fits : (m : List ℕ) → Fits 0 (hashAnswer m)

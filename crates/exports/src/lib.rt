@@ -10,15 +10,16 @@ ghost use Rattle.chacha20.specs.Call.{cipherAnswer, cipherText};
 ghost use Rattle.scheme.specs.Keys.{insertToken, findToken, countToken, compactionToken};
 ghost use Rattle.scheme.specs.Refusals.{insertTokenTests, fieldTokenTests, keyTests};
 ghost use Rattle.scheme.specs.Store.{make as makeOf};
-ghost use Rattle.scheme.specs.Insert.{Insert};
+ghost use Rattle.scheme.specs.Insert.{insert as insertOf};
 ghost use Rattle.scheme.specs.Erase.{erase as eraseOf};
 ghost use Rattle.scheme.specs.Find.{find as findOf};
 ghost use Rattle.scheme.specs.Count.{count as countOf};
-ghost use Rattle.scheme.specs.Compaction.{Compact};
+ghost use Rattle.scheme.specs.Compaction.{compact as compactOf};
+ghost use Rattle.scheme.specs.Order.{order as orderOf};
 ghost use Rattle.suite.specs.Program.{program};
 ghost use Rattle.client.specs.Making.{makingAnswer, makingToken, fieldOf};
 ghost use Rattle.compact.specs.Outcome.{compactionAnswer};
-ghost use Rattle.encoding.specs.Encoding.{packed, magnitude, encoded, answering, Told};
+ghost use Rattle.encoding.specs.Encoding.{packed, magnitude, encoded, answering};
 use answer::Completion;
 use answer::Counted;
 use answer::Refusal;
@@ -200,7 +201,8 @@ pub extern "C" fn mazhkuri_make(p: u64, m: u64, c: u64, s: u64, store: &mut [u8]
 // Inserts 1 to 64 ids. [01:OP1 OP3]
 #[no_mangle]
 pub extern "C" fn mazhkuri_insert(store: &mut [u8], ids: &[u8], nonces: &[u8], token: &[u8]) -> i64
-    ensures { λ r. ⌜ Told (λ a. Insert program (now (store .entry)) (now (ids .entry)) (now (nonces .entry)) (now (token .entry)) a (now (store .exit))) r ⌝ }
+    ensures { λ r. ⌜ r ≡ encoded (insertOf program (now (store .entry)) (now (ids .entry)) (now (nonces .entry)) (now (token .entry)) .answer) ⌝ }
+    ensures { λ _. ⌜ now (store .exit) ≡ insertOf program (now (store .entry)) (now (ids .entry)) (now (nonces .entry)) (now (token .entry)) .store ⌝ }
 {
     counted(insert::insert(store, ids, nonces, token))
 }
@@ -234,7 +236,17 @@ pub extern "C" fn mazhkuri_count(store: &[u8], token: &[u8]) -> i64
 // Compacts the counters of every field inserted under since the last compaction. [01:OP10 OP13]
 #[no_mangle]
 pub extern "C" fn mazhkuri_compact(store: &mut [u8], nonces: &[u8], token: &[u8]) -> i64
-    ensures { λ r. ⌜ Told (λ a. Compact program (now (store .entry)) (now (nonces .entry)) (now (token .entry)) a (now (store .exit))) r ⌝ }
+    ensures { λ r. ⌜ r ≡ encoded (compactOf program (now (store .entry)) (now (nonces .entry)) (now (token .entry)) .answer) ⌝ }
+    ensures { λ _. ⌜ now (store .exit) ≡ compactOf program (now (store .entry)) (now (nonces .entry)) (now (token .entry)) .store ⌝ }
 {
     compacted(compact::compact(store, nonces, token))
+}
+
+// Puts a store in form. [02:W2.6 W2.8]
+#[no_mangle]
+pub extern "C" fn mazhkuri_order(store: &mut [u8]) -> i64
+    ensures { λ r. ⌜ r ≡ encoded (orderOf (now (store .entry)) .answer) ⌝ }
+    ensures { λ _. ⌜ now (store .exit) ≡ orderOf (now (store .entry)) .store ⌝ }
+{
+    counted(order::order(store))
 }

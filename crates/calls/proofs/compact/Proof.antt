@@ -1,17 +1,16 @@
 -- The token is made or its making refused; then the operation's contract.
-use Prim.Native.Nat.{ℕ}
-use mathlib.Core.Path.{_≡_, refl, sym, ap, subst, _∙_}
+use mathlib.Core.Path.{_≡_, sym, ap, _∙_}
 use mathlib.Core.Option.{none}
-use mathlib.Core.List.{List}
+use mathlib.Core.List.{[]}
 use lib.ListN.{length}
-use Rattle.answer.specs.Answer.{completion}
+use Rattle.answer.specs.Answer.{refusal, completion}
 use Rattle.answer.specs.Verdict.{verdict}
 use Rattle.scheme.specs.Keys.{compactionToken}
 use Rattle.scheme.specs.Refusals.{keyTests}
-use Rattle.scheme.specs.Compaction.{Compact}
-use Rattle.compact.specs.Outcome.{compactionAnswer}
+use Rattle.scheme.specs.Compaction.{compact}
+use Rattle.scheme.specs.Run.{compactCall}
 use Rattle.suite.specs.Program.{program}
-use Rattle.calls.proofs.Making.{made, unmade, token-made, one-refusal, not-both, compaction-length}
+use Rattle.calls.proofs.Making.{made, unmade, token-made, call-unmade, call-made, compaction-length}
 use borrow.Author.Needs.{needs}
 use Rattle.calls.proofs.compact.Statement.{statement}
 use Rattle.calls.proofs.compact.Tie as tie
@@ -40,23 +39,22 @@ slice-aggregate-compact c =
     sym (ap length (token e) ∙ compaction-length (a .key .now))
 
 returns : tie.Need-returns
+unfolding compactCall
 returns c =
     let t = c .before .before .before in
     let a = t .before .before .before .before .before .args in
     let e = unmade (keyTests (a .key .now)) (c .before .r .given .0 .0) (sym (ap completion (c .before .r .given .1)) ∙ t .compaction-token .ensures .0) in
-    (record { unmade = λ r f. (one-refusal _ _ r e f, refl); made = λ f. absurd (not-both _ _ e f) }, refl)
+    let g = call-unmade _ (compact program (a .store .now) (a .nonces .now) (compactionToken program (a .key .now))) (a .store .now) [] (refusal (c .before .r .given .0 .0)) e in
+    (sym (ap (λ r. r .answer) g), sym (ap (λ r. r .store) g))
 
 returns-2 : tie.Need-returns-2
+unfolding compactCall
 returns-2 c =
     let n = c .before .before .compact in
     let e = c .before .before .before .before .before in
-    let a = e .before .before .before .before .before .before .before .args in (
-      record {
-        unmade = λ r f. absurd (not-both _ r f (passed e));
-        made = λ f. subst (λ (t : List ℕ). Compact program (a .store .now) (a .nonces .now) t (compactionAnswer (n .result)) (n .last .0)) (token e) (n .ensures);
-      },
-      refl,
-    )
+    let a = e .before .before .before .before .before .before .before .args in
+    let g = ap (compact program (a .store .now) (a .nonces .now)) (token e) ∙ sym (call-made _ (compact program (a .store .now) (a .nonces .now) (compactionToken program (a .key .now))) (a .store .now) [] (passed e)) in
+    (n .ensures .0 ∙ ap (λ r. r .answer) g, n .ensures .1 ∙ ap (λ r. r .store) g)
 
 pub compact-spec : {M : Type 1} → statement M
 compact-spec =

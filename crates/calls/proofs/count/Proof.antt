@@ -1,8 +1,7 @@
 -- The token is made or its making refused; then the operation's contract.
-use Prim.Native.Nat.{ℕ}
-use mathlib.Core.Path.{_≡_, refl, sym, ap, _∙_}
+use mathlib.Core.Path.{_≡_, sym, ap, _∙_}
 use mathlib.Core.Option.{none}
-use mathlib.Core.List.{List, []}
+use mathlib.Core.List.{[]}
 use lib.ListN.{length}
 use Rattle.answer.specs.Answer.{refusal, completion}
 use Rattle.answer.specs.Verdict.{verdict}
@@ -12,7 +11,7 @@ use Rattle.scheme.specs.Keys.{countToken}
 use Rattle.scheme.specs.Count
 use Rattle.suite.specs.Program.{program}
 use Rattle.client.specs.Making.{fieldOf}
-use Rattle.calls.proofs.Making.{made, unmade, token-made, gives-unmade, gives-made, count-length}
+use Rattle.calls.proofs.Making.{made, unmade, token-made, call-unmade, call-made, count-length}
 use borrow.Author.Needs.{needs}
 use Rattle.calls.proofs.count.Statement.{statement}
 use Rattle.calls.proofs.count.Tie as tie
@@ -46,16 +45,15 @@ unfolding countCall
 returns c =
     let t = c .before .before .before in
     let a = t .before .before .before .before .before .before .args in
-    gives-unmade _ (Count.count program (a .store .now) (countToken program (a .key .now) (fieldOf (a .name .now) (a .value .now)))) (a .store .now) [] (refusal (c .before .r .given .0 .0)) (unmade (fieldTokenTests (a .key .now) (fieldOf (a .name .now) (a .value .now))) (c .before .r .given .0 .0) (sym (ap completion (c .before .r .given .1)) ∙ t .count-token .ensures .0))
+    let f = fieldOf (a .name .now) (a .value .now) in
+    sym (ap (λ r. r .answer) (call-unmade _ (Count.count program (a .store .now) (countToken program (a .key .now) f)) (a .store .now) [] (refusal (c .before .r .given .0 .0)) (unmade (fieldTokenTests (a .key .now) f) (c .before .r .given .0 .0) (sym (ap completion (c .before .r .given .1)) ∙ t .count-token .ensures .0))))
 
 returns-2 : tie.Need-returns-2
-unfolding countCall Count.count
+unfolding countCall
 returns-2 c =
     let e = c .before .before in
     let a = e .before .before .before .before .before .before .before .before .args in
-    let f = fieldOf (a .name .now) (a .value .now) in
-    gives-made _ (Count.count program (a .store .now) (countToken program (a .key .now) f)) (a .store .now) [] _ (a .store .now) (passed e)
-    (c .count .ensures ∙ ap (λ (t : List ℕ). Count.count program (a .store .now) t .answer) (token e)) refl refl
+    c .count .ensures ∙ ap (λ r. r .answer) (ap (Count.count program (a .store .now)) (token e) ∙ sym (call-made _ (Count.count program (a .store .now) (countToken program (a .key .now) (fieldOf (a .name .now) (a .value .now)))) (a .store .now) [] (passed e)))
 
 pub count-spec : {M : Type 1} → statement M
 count-spec =

@@ -1,6 +1,6 @@
 -- The token is made or its making refused; then the operation's contract.
 use Prim.Native.Nat.{ℕ}
-use mathlib.Core.Path.{_≡_, refl, sym, ap, _∙_}
+use mathlib.Core.Path.{_≡_, sym, ap, _∙_}
 use mathlib.Core.Option.{none}
 use mathlib.Core.List.{List}
 use lib.ListN.{length}
@@ -12,7 +12,7 @@ use Rattle.scheme.specs.Find
 use Rattle.scheme.specs.Run.{findCall}
 use Rattle.suite.specs.Program.{program}
 use Rattle.client.specs.Making.{fieldOf}
-use Rattle.calls.proofs.Making.{made, unmade, token-made, gives-unmade, gives-made, find-length}
+use Rattle.calls.proofs.Making.{made, unmade, token-made, call-unmade, call-made, find-length}
 use borrow.Author.Needs.{needs}
 use Rattle.calls.proofs.find.Statement.{statement}
 use Rattle.calls.proofs.find.Tie as tie
@@ -44,18 +44,19 @@ unfolding findCall
 returns c =
     let t = c .before .before .before in
     let a = t .before .before .before .before .before .before .before .args in
-    gives-unmade _ (Find.find program (a .store .now) (findToken program (a .key .now) (fieldOf (a .name .now) (a .value .now))) (a .output .now)) (a .store .now) (a .output .now) (refusal (c .before .r .given .0 .0))
-    (unmade (fieldTokenTests (a .key .now) (fieldOf (a .name .now) (a .value .now))) (c .before .r .given .0 .0) (sym (ap completion (c .before .r .given .1)) ∙ t .find-token .ensures .0))
+    let f = fieldOf (a .name .now) (a .value .now) in
+    let e = unmade (fieldTokenTests (a .key .now) f) (c .before .r .given .0 .0) (sym (ap completion (c .before .r .given .1)) ∙ t .find-token .ensures .0) in
+    let g = call-unmade _ (Find.find program (a .store .now) (findToken program (a .key .now) f) (a .output .now)) (a .store .now) (a .output .now) (refusal (c .before .r .given .0 .0)) e in
+    (sym (ap (λ r. r .answer) g), sym (ap (λ r. r .output) g))
 
 returns-2 : tie.Need-returns-2
-unfolding findCall Find.find
+unfolding findCall
 returns-2 c =
     let n = c .before .before .find in
     let e = c .before .before .before .before .before in
     let a = e .before .before .before .before .before .before .before .before .before .args in
-    gives-made _ (Find.find program (a .store .now) (findToken program (a .key .now) (fieldOf (a .name .now) (a .value .now))) (a .output .now)) (a .store .now) (a .output .now) _ (a .store .now) (passed e)
-    (n .ensures .0 ∙ ap (λ (t : List ℕ). Find.find program (a .store .now) t (a .output .now) .answer) (token e))
-    (n .ensures .1 ∙ ap (λ (t : List ℕ). Find.find program (a .store .now) t (a .output .now) .output) (token e)) refl
+    let g = ap (λ (t : List ℕ). Find.find program (a .store .now) t (a .output .now)) (token e) ∙ sym (call-made _ (Find.find program (a .store .now) (findToken program (a .key .now) (fieldOf (a .name .now) (a .value .now))) (a .output .now)) (a .store .now) (a .output .now) (passed e)) in
+    (n .ensures .0 ∙ ap (λ r. r .answer) g, n .ensures .1 ∙ ap (λ r. r .output) g)
 
 pub find-spec : {M : Type 1} → statement M
 find-spec =
