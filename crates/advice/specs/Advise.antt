@@ -1,15 +1,15 @@
 -- What the tool tells of a store and of a refusal.
 use Prim.Native.Nat.{ℕ, _-_, min}
-use mathlib.Core.Bool.{Bool, true, false, cond, _||_, _&&_}
-use lib.Dec.{ltb, eqb}
+use mathlib.Core.Bool.{Bool, true, false, cond}
+use lib.Dec.{ltb}
 use Rattle.scheme.specs.Store.{lengthFor}
 use Rattle.answer.specs.declared.Refusal.{Refusal}
-use Rattle.answer.specs.declared.Refusal.the-variants.{KeyLength, FieldLength, ShareRange, NonceLength, IdLength, TokenLength, SizeRange, SliceLength, TextLength, Header, Mark, TokenShares, Damage, CountRange, EntryRows, CounterRows, LogRows, OutputLength, NonceCount}
+use Rattle.answer.specs.declared.Refusal.the-variants.{KeyLength, FieldLength, ShareRange, NonceLength, IdLength, TokenLength, SizeRange, SliceLength, TextLength, Header, Mark, TokenShares, Damage, CountRange, EntryRows, CounterRows, LogRows, OutputLength, NonceCount, Form}
 use Rattle.store.specs.declared.Checked.{Checked}
 use Rattle.store.specs.declared.Checked.the-variants.{Fit, Refused}
 use Rattle.advice.specs.declared.Room.{Room}
 use Rattle.advice.specs.declared.Advice.{Advice}
-use Rattle.advice.specs.declared.Advice.the-variants.{Key, Field, Share, Shares, Ids, Token, Sizes, NoStore, Marks, Count, Entries, Compact, Larger, Log, Output, Fault}
+use Rattle.advice.specs.declared.Advice.the-variants.{Key, Field, Share, Shares, Ids, Token, Sizes, NoStore, Marks, Order, Count, Entries, Compact, Larger, Log, Output, Fault}
 use Rattle.advice.specs.declared.Advice.the-variants.{Damage as Damage₀, TokenShares as TokenShares₀}
 
 -- of no store, where p is given
@@ -51,6 +51,7 @@ adviceOf CounterRows p e l = pickAdvice (ltb 0 l) Compact Larger
 adviceOf LogRows p e l = Log
 adviceOf (OutputLength n) p e l = Output n
 adviceOf NonceCount p e l = Fault
+adviceOf Form p e l = Order
 
 -- the length that the rules give a store of these sizes; 0 where one is above 4,096
 abbrev pub lengthOf : ℕ → ℕ → ℕ → ℕ

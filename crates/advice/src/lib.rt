@@ -24,6 +24,7 @@ pub enum Advice {
     Sizes,
     NoStore,
     Marks,
+    Order,
     TokenShares(u64),
     Damage,
     Count,
@@ -102,6 +103,7 @@ pub fn advise(r: Refusal, p: u64, entries: usize, logged: usize) -> Advice
         Refusal::LogRows => Advice::Log,
         Refusal::OutputLength(n) => Advice::Output(n),
         Refusal::NonceCount => Advice::Fault,
+        Refusal::Form => Advice::Order,
     }
 }
 

@@ -2,16 +2,15 @@
 // of it. The answers are the calls' own; p of an insert is the store's. A call is also there in two
 // halves: crates/office makes a token, crates/server takes one.
 ghost use mathlib.Core.Path.{_≡_};
-ghost use mathlib.Core.List.{[]};
 ghost use Rattle.scheme.specs.Call.{Call};
-ghost use Rattle.scheme.specs.Run.{Step};
+ghost use Rattle.scheme.specs.Run.{perform};
 ghost use Rattle.scheme.specs.Store.{make as makeOf};
 ghost use Rattle.suite.specs.Program.{program};
 ghost use Rattle.client.specs.Making.{fieldOf};
 ghost use Rattle.store.specs.Check.{checkedOf};
 ghost use Rattle.advice.specs.Advise.{noRoom};
 ghost use Rattle.outcome.specs.Told.{told, withRoom, Roomed};
-ghost use Rattle.commands.specs.Told.{insertTold};
+ghost use Rattle.commands.specs.Insert.{insertResult};
 use advice::Room;
 use outcome::Outcome;
 use outcome::of_compaction;
@@ -44,7 +43,8 @@ fn insert_fit(
     ids: &[u8],
     nonces: &[u8],
 ) -> Outcome
-    ensures { λ o. ⌜ Step program (Call.insert (now (key .entry)) (fieldOf (now (name .entry)) (now (value .entry))) p u (now (nonce .entry)) (now (ids .entry)) (now (nonces .entry))) (now (store .entry)) (record { answer = told o; output = [] }) (now (store .exit)) ⌝ }
+    ensures { λ o. ⌜ told o ≡ perform program (Call.insert (now (key .entry)) (fieldOf (now (name .entry)) (now (value .entry))) p u (now (nonce .entry)) (now (ids .entry)) (now (nonces .entry))) (now (store .entry)) .answer ⌝ }
+    ensures { λ _. ⌜ now (store .exit) ≡ perform program (Call.insert (now (key .entry)) (fieldOf (now (name .entry)) (now (value .entry))) p u (now (nonce .entry)) (now (ids .entry)) (now (nonces .entry))) (now (store .entry)) .store ⌝ }
     ensures { λ o. ⌜ Roomed (now (store .entry)) o ⌝ }
 {
     let room = advice::room_in(store);
@@ -54,7 +54,7 @@ fn insert_fit(
     )
 }
 
-// Inserts ids into what must be a store: 10 and 11 come first, since p is the store's.
+// Inserts ids into what must be a store: 10, 11 and 20 come first, since p is the store's.
 pub fn insert(
     store: &mut [u8],
     key: &[u8],
@@ -65,7 +65,8 @@ pub fn insert(
     ids: &[u8],
     nonces: &[u8],
 ) -> Outcome
-    ensures { λ o. ⌜ insertTold (checkedOf (now (store .entry))) (now (store .entry)) (now (key .entry)) (fieldOf (now (name .entry)) (now (value .entry))) u (now (nonce .entry)) (now (ids .entry)) (now (nonces .entry)) (told o) (now (store .exit)) ⌝ }
+    ensures { λ o. ⌜ told o ≡ insertResult (checkedOf (now (store .entry))) (now (store .entry)) (now (key .entry)) (fieldOf (now (name .entry)) (now (value .entry))) u (now (nonce .entry)) (now (ids .entry)) (now (nonces .entry)) .answer ⌝ }
+    ensures { λ _. ⌜ now (store .exit) ≡ insertResult (checkedOf (now (store .entry))) (now (store .entry)) (now (key .entry)) (fieldOf (now (name .entry)) (now (value .entry))) u (now (nonce .entry)) (now (ids .entry)) (now (nonces .entry)) .store ⌝ }
     ensures { λ o. ⌜ Roomed (now (store .entry)) o ⌝ }
 {
     match store::sizes(store) {
@@ -85,7 +86,8 @@ pub fn insert(
 }
 
 pub fn erase(store: &mut [u8], id: &[u8]) -> Outcome
-    ensures { λ o. ⌜ Step program (Call.erase (now (id .entry))) (now (store .entry)) (record { answer = told o; output = [] }) (now (store .exit)) ⌝ }
+    ensures { λ o. ⌜ told o ≡ perform program (Call.erase (now (id .entry))) (now (store .entry)) .answer ⌝ }
+    ensures { λ _. ⌜ now (store .exit) ≡ perform program (Call.erase (now (id .entry))) (now (store .entry)) .store ⌝ }
     ensures { λ o. ⌜ Roomed (now (store .entry)) o ⌝ }
 {
     let room = advice::room_in(store);
@@ -93,7 +95,8 @@ pub fn erase(store: &mut [u8], id: &[u8]) -> Outcome
 }
 
 pub fn find(store: &[u8], key: &[u8], name: &[u8], value: &[u8], output: &mut [u8]) -> Outcome
-    ensures { λ o. ⌜ Step program (Call.find (now (key .entry)) (fieldOf (now (name .entry)) (now (value .entry))) (now (output .entry))) (now (store .entry)) (record { answer = told o; output = now (output .exit) }) (now (store .entry)) ⌝ }
+    ensures { λ o. ⌜ told o ≡ perform program (Call.find (now (key .entry)) (fieldOf (now (name .entry)) (now (value .entry))) (now (output .entry))) (now (store .entry)) .answer ⌝ }
+    ensures { λ _. ⌜ now (output .exit) ≡ perform program (Call.find (now (key .entry)) (fieldOf (now (name .entry)) (now (value .entry))) (now (output .entry))) (now (store .entry)) .output ⌝ }
     ensures { λ o. ⌜ Roomed (now (store .entry)) o ⌝ }
 {
     let room = advice::room_in(store);
@@ -101,7 +104,7 @@ pub fn find(store: &[u8], key: &[u8], name: &[u8], value: &[u8], output: &mut [u
 }
 
 pub fn count(store: &[u8], key: &[u8], name: &[u8], value: &[u8]) -> Outcome
-    ensures { λ o. ⌜ Step program (Call.count (now (key .entry)) (fieldOf (now (name .entry)) (now (value .entry)))) (now (store .entry)) (record { answer = told o; output = [] }) (now (store .entry)) ⌝ }
+    ensures { λ o. ⌜ told o ≡ perform program (Call.count (now (key .entry)) (fieldOf (now (name .entry)) (now (value .entry)))) (now (store .entry)) .answer ⌝ }
     ensures { λ o. ⌜ Roomed (now (store .entry)) o ⌝ }
 {
     let room = advice::room_in(store);
@@ -109,9 +112,20 @@ pub fn count(store: &[u8], key: &[u8], name: &[u8], value: &[u8]) -> Outcome
 }
 
 pub fn compact(store: &mut [u8], key: &[u8], nonces: &[u8]) -> Outcome
-    ensures { λ o. ⌜ Step program (Call.compact (now (key .entry)) (now (nonces .entry))) (now (store .entry)) (record { answer = told o; output = [] }) (now (store .exit)) ⌝ }
+    ensures { λ o. ⌜ told o ≡ perform program (Call.compact (now (key .entry)) (now (nonces .entry))) (now (store .entry)) .answer ⌝ }
+    ensures { λ _. ⌜ now (store .exit) ≡ perform program (Call.compact (now (key .entry)) (now (nonces .entry))) (now (store .entry)) .store ⌝ }
     ensures { λ o. ⌜ Roomed (now (store .entry)) o ⌝ }
 {
     let room = advice::room_in(store);
     of_compaction(calls::compact(store, key, nonces), room)
+}
+
+// Puts a store in form, whatever the order of its rows. [02:W2.6]
+pub fn order(store: &mut [u8]) -> Outcome
+    ensures { λ o. ⌜ told o ≡ perform program Call.order (now (store .entry)) .answer ⌝ }
+    ensures { λ _. ⌜ now (store .exit) ≡ perform program Call.order (now (store .entry)) .store ⌝ }
+    ensures { λ o. ⌜ Roomed (now (store .entry)) o ⌝ }
+{
+    let room = advice::room_in(store);
+    of_counted(calls::order(store), room)
 }

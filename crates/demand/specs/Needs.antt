@@ -1,10 +1,10 @@
 -- What a request needs of the system, and when the store's file is written.
-use Prim.Native.Nat.{ℕ, _+_, _*_, min}
+use Prim.Native.Nat.{ℕ, _+_, _*_}
 use mathlib.Core.Bool.{Bool, true, false}
 use Rattle.store.specs.declared.Checked.{Checked}
 use Rattle.advice.specs.Advise.{lengthOf, roomOf}
 use Rattle.request.specs.declared.Request.{Request}
-use Rattle.request.specs.declared.Request.the-variants.{Help, Misused, NotNumber, NotId, New, Key, Insert, Find, Count, Erase, Compact, Show, InsertToken, FindToken, CountToken, CompactionToken, InsertBy, FindBy, CountBy, CompactBy}
+use Rattle.request.specs.declared.Request.the-variants.{Help, Misused, NotNumber, NotId, New, Key, Insert, Find, Count, Erase, Compact, Order, Show, InsertToken, FindToken, CountToken, CompactionToken, InsertBy, FindBy, CountBy, CompactBy}
 use Rattle.outcome.specs.declared.Outcome.{Outcome}
 use Rattle.outcome.specs.declared.Outcome.the-variants.{Number, Compacted, Damaged, WrongKey, Refused, Done, BadWords}
 use Rattle.demand.specs.declared.Needs.{Needs}
@@ -22,6 +22,7 @@ needsOf Find = Store
 needsOf Count = Store
 needsOf Erase = Lock
 needsOf Compact = Lock
+needsOf Order = Lock
 needsOf Show = Store
 needsOf (InsertToken p u) = KeyAlone
 needsOf FindToken = KeyAlone
@@ -44,6 +45,7 @@ takesKey Find = true
 takesKey Count = true
 takesKey Erase = false
 takesKey Compact = true
+takesKey Order = false
 takesKey Show = false
 takesKey (InsertToken p u) = true
 takesKey FindToken = true
@@ -67,6 +69,7 @@ takesToken Find = false
 takesToken Count = false
 takesToken Erase = false
 takesToken Compact = false
+takesToken Order = false
 takesToken Show = false
 takesToken (InsertToken p u) = false
 takesToken FindToken = false
@@ -91,6 +94,7 @@ randomOf Find x = 0
 randomOf Count x = 0
 randomOf Erase x = 0
 randomOf Compact x = 12 * roomOf x .logged
+randomOf Order x = 0
 randomOf Show x = 0
 randomOf (InsertToken p u) x = 12
 randomOf FindToken x = 0
@@ -124,6 +128,7 @@ changes Find o = false
 changes Count o = false
 changes Erase o = made o
 changes Compact o = made o
+changes Order o = made o
 changes Show o = false
 changes (InsertToken p u) o = false
 changes FindToken o = false

@@ -1,6 +1,6 @@
 -- What a run with a key gives, put together from what its pieces give.
 use Prim.Native.Nat.{ℕ, zero, suc, _-_, min}
-use mathlib.Core.Path.{_≡_, refl, sym, ap, ap₂, subst, _∙_}
+use mathlib.Core.Path.{_≡_, refl, sym, ap, ap₂, _∙_}
 use mathlib.Core.List.{List}
 use native.Mathlib.Omega.{arith}
 use lib.ListN.{length, take, drop, length-drop, drop-of-length-le}
@@ -8,7 +8,7 @@ use lib.Seq.{take-all}
 use Rattle.answer.specs.declared.Refusal.{Refusal}
 use Rattle.scheme.specs.Call.{Call}
 use Rattle.scheme.specs.Labels.{Field}
-use Rattle.scheme.specs.Run.{Step, findCall}
+use Rattle.scheme.specs.Run.{perform}
 use Rattle.suite.specs.Program.{program}
 use Rattle.client.specs.Making.{fieldOf}
 use Rattle.store.specs.declared.Checked.{Checked}
@@ -16,9 +16,7 @@ use Rattle.store.specs.declared.Checked.the-variants.{Refused as Refused₀}
 use Rattle.words.specs.Line.{wordAt}
 use Rattle.advice.specs.Advise.{roomOf}
 use Rattle.advice.specs.declared.Room.{Room}
-use Rattle.outcome.specs.Told.{told}
-use Rattle.commands.specs.Told.{insertTold}
-use Rattle.outcome.specs.declared.Outcome.{Outcome}
+use Rattle.commands.specs.Insert.{insertResult}
 use Rattle.outcome.specs.declared.Outcome.the-variants.{Refused}
 use Rattle.lines.specs.Answer.{answerLine}
 use Rattle.report.specs.Run.{fieldIn, lent, showOf, shownText}
@@ -40,31 +38,19 @@ rest random a e =
     go (suc k) h = ap (λ (n : ℕ). drop n random) (let n : a ≡ 12 = omega arith in n)
 
 -- an insert with the line's words
-pub inserted : (x : Checked) (before key after : List ℕ) (u : ℕ) (o : Outcome) (line name value nonce ids nonces n k d : List ℕ)
+pub inserted : (x : Checked) (before key : List ℕ) (u : ℕ) (line name value nonce ids nonces n k d : List ℕ)
     → name ≡ wordAt 3 line → value ≡ wordAt 4 line → nonce ≡ n → ids ≡ k → nonces ≡ d
-    → insertTold x before key (fieldOf name value) u nonce ids nonces (told o) after → insertTold x before key (fieldIn line) u n k d (told o) after
-inserted x before key after u o line name value nonce ids nonces n k d e f g h i m =
-    subst (λ (z : List ℕ). insertTold x before key (fieldIn line) u n k z (told o) after) i
-    (subst (λ (z : List ℕ). insertTold x before key (fieldIn line) u n z nonces (told o) after) h
-    (subst (λ (z : List ℕ). insertTold x before key (fieldIn line) u z ids nonces (told o) after) g
-    (subst (λ (z : Field). insertTold x before key z u nonce ids nonces (told o) after) (ap₂ fieldOf e f) m)))
+    → insertResult x before key (fieldOf name value) u nonce ids nonces ≡ insertResult x before key (fieldIn line) u n k d
+inserted x before key u line name value nonce ids nonces n k d e f g h i =
+    ap (λ (z : Field). insertResult x before key z u nonce ids nonces) (ap₂ fieldOf e f)
+    ∙ ap (λ (z : List ℕ). insertResult x before key (fieldIn line) u z ids nonces) g
+    ∙ ap₂ (λ (y z : List ℕ). insertResult x before key (fieldIn line) u n y z) h i
 
--- a find with the line's words, whose output is that of the definition
-module _ (line before key name value given ids : List ℕ) (o : Outcome) (e : name ≡ wordAt 3 line) (f : value ≡ wordAt 4 line) (g : given ≡ lent)
-    (m : Step program (Call.find key (fieldOf name value) given) before (record { answer = told o; output = ids }) before) where
-  named : Step program (Call.find key (fieldIn line) lent) before (record { answer = told o; output = ids }) before
-  named =
-      subst (λ (z : List ℕ). Step program (Call.find key (fieldIn line) z) before (record { answer = told o; output = ids }) before) g
-      (subst (λ (z : Field). Step program (Call.find key z given) before (record { answer = told o; output = ids }) before) (ap₂ fieldOf e f) m)
-
-  pub found-output : ids ≡ findCall program before key (fieldIn line) lent .output
-  found-output = named .output
-
-  pub found-answer : told o ≡ findCall program before key (fieldIn line) lent .answer
-  found-answer = named .answer
-
-  pub found : Step program (Call.find key (fieldIn line) lent) before (record { answer = told o; output = findCall program before key (fieldIn line) lent .output }) before
-  found = record { answer = named .answer; output = refl; store = named .store }
+-- a find with the line's words
+pub found : (line before key name value given : List ℕ) → name ≡ wordAt 3 line → value ≡ wordAt 4 line → given ≡ lent
+    → perform program (Call.find key (fieldOf name value) given) before ≡ perform program (Call.find key (fieldIn line) lent) before
+found line before key name value given e f g =
+    ap₂ (λ (x : Field) (y : List ℕ). perform program (Call.find key x y) before) (ap₂ fieldOf e f) g
 
 -- a file that is no store, and one that is
 pub shown-refused : (x : Checked) (e : Refusal) (room : Room) → x ≡ Refused₀ e → room ≡ roomOf x → Refused e room ≡ showOf x

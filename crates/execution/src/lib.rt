@@ -97,6 +97,14 @@ pub fn erase(line: &[u8], store: &mut [u8], out: &mut [u8], err: &mut [u8]) -> R
     answered(o, 0, out, err)
 }
 
+pub fn order(store: &mut [u8], out: &mut [u8], err: &mut [u8]) -> Ran
+    requires { ⌜ (256 ≤ length (now out)) × (256 ≤ length (now err)) ⌝ }
+    ensures { λ r. ⌜ Ends Request.Order [] (now (store .entry)) [] [] (now (out .entry)) (now (err .entry)) r (now (store .exit)) (now (out .exit)) (now (err .exit)) ⌝ }
+{
+    let o = commands::order(store);
+    answered(o, 0, out, err)
+}
+
 pub fn show(store: &[u8], out: &mut [u8], err: &mut [u8]) -> Ran
     requires { ⌜ (1024 ≤ length (now out)) × (256 ≤ length (now err)) ⌝ }
     ensures { λ r. ⌜ Ends Request.Show [] (now (store .entry)) [] [] (now (out .entry)) (now (err .entry)) r (now (store .entry)) (now (out .exit)) (now (err .exit)) ⌝ }

@@ -7,7 +7,7 @@ use Rattle.answer.specs.Answer.{numberOf}
 use Rattle.text.specs.Ascii.{ascii}
 use Rattle.advice.specs.Advise.{adviceOf}
 use Rattle.advice.specs.declared.Advice.{Advice}
-use Rattle.advice.specs.declared.Advice.the-variants.{Key, Field, Share, Shares, Ids, Token, Sizes, NoStore, Marks, TokenShares, Damage, Count, Entries, Compact, Larger, Log, Output, Fault}
+use Rattle.advice.specs.declared.Advice.the-variants.{Key, Field, Share, Shares, Ids, Token, Sizes, NoStore, Marks, Order, TokenShares, Damage, Count, Entries, Compact, Larger, Log, Output, Fault}
 use Rattle.outcome.specs.declared.Outcome.{Outcome}
 use Rattle.outcome.specs.declared.Outcome.the-variants.{Number, Compacted, Damaged, WrongKey, Refused, Done, BadWords}
 use Rattle.buffer.specs.Decimal.{counted}
@@ -37,6 +37,7 @@ sentenceOf Sizes given = ascii "P must be 0 to 15, and M, C and S 1 to 4096 each
 sentenceOf NoStore given =
     ascii "the file is no store, or not whole: its header or its length is wrong: check the name, or take a copy that is whole\n"
 sentenceOf Marks given = ascii "a row of the file is marked neither free nor used: it was damaged: take a copy that is whole\n"
+sentenceOf Order given = ascii "a table of the store is not in byte order: an earlier version wrote it, or it was changed: copy it, then run mazhkuri order STORE\n"
 sentenceOf (TokenShares p) given = ascii "the token was made for another P than the store's, which is " ++ counted p (ascii ": make one for this P\n")
 sentenceOf Damage given = ascii "a counter in the file does not hold what was written: it was damaged: take a copy that is whole\n"
 sentenceOf Count given = ascii "the count of this share would pass 4294967295: use another share\n"

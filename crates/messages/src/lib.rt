@@ -1,5 +1,4 @@
 // What standard error gets of an outcome: of a refusal, its number and what to do.
-ghost use mathlib.Core.Path.{_≡_};
 ghost use Prim.Native.Nat.{_+_, _≤_};
 ghost use lib.ListN.{length};
 ghost use Rattle.buffer.specs.Put.{Put};
@@ -30,6 +29,9 @@ const NO_STORE: [u8; 116] =
 
 const MARKS: [u8; 93] =
     *b"a row of the file is marked neither free nor used: it was damaged: take a copy that is whole\n";
+
+const ORDER: [u8; 130] =
+    *b"a table of the store is not in byte order: an earlier version wrote it, or it was changed: copy it, then run mazhkuri order STORE\n";
 
 const DAMAGE: [u8; 96] =
     *b"a counter in the file does not hold what was written: it was damaged: take a copy that is whole\n";
@@ -127,6 +129,7 @@ fn put_sentence(to: &mut [u8], at: usize, a: Advice, given: u64) -> usize
         Advice::Sizes => put(to, at, &SIZES),
         Advice::NoStore => put(to, at, &NO_STORE),
         Advice::Marks => put(to, at, &MARKS),
+        Advice::Order => put(to, at, &ORDER),
         Advice::TokenShares(p) => put_token_shares(to, at, p),
         Advice::Damage => put(to, at, &DAMAGE),
         Advice::Count => put(to, at, &COUNT),

@@ -9,7 +9,7 @@ use Rattle.text.specs.Ascii.{ascii}
 use Rattle.words.specs.Line.{wordAt}
 use Rattle.words.specs.declared.Command.{Command}
 use Rattle.request.specs.declared.Request.{Request}
-use Rattle.request.specs.declared.Request.the-variants.{Help, Misused, NotNumber, NotId, Find, Count, Erase, Show, InsertToken, FindToken, CountToken, CompactionToken, FindBy, CountBy}
+use Rattle.request.specs.declared.Request.the-variants.{Help, Misused, NotNumber, NotId, Find, Count, Erase, Order, Show, InsertToken, FindToken, CountToken, CompactionToken, FindBy, CountBy}
 use Rattle.outcome.proofs.Outcome.{the-type as outcome}
 use Rattle.outcome.specs.declared.Outcome.{Outcome}
 use Rattle.outcome.specs.declared.Outcome.the-variants.{Number, Compacted, Damaged, WrongKey, Refused, Done, BadWords}
@@ -50,6 +50,9 @@ module _ {line before key out err after outAfter errAfter : List ℕ} {r : Ran} 
 
   pub erased-any : Ends Erase line before [] [] out err r after outAfter errAfter → Ends Erase line before key random out err r after outAfter errAfter
   erased-any x = record { performed = x .performed; output = x .output; errors = x .errors }
+
+  pub ordered-any : Ends Order [] before [] [] out err r after outAfter errAfter → Ends Order line before key random out err r after outAfter errAfter
+  ordered-any x = record { performed = x .performed; output = x .output; errors = x .errors }
 
   pub found-by-any : Ends FindBy line before key [] out err r after outAfter errAfter → Ends FindBy line before key random out err r after outAfter errAfter
   found-by-any x = record { performed = x .performed; output = x .output; errors = x .errors }

@@ -1,12 +1,11 @@
 -- A run of the tool on bytes: what it makes of a command line, a store, a key and random bytes, and what it prints.
 use Prim.Native.Nat.{ℕ, _*_, _+_, _≤_}
 use mathlib.Core.Path.{_≡_}
-use mathlib.Core.Bool.{Bool, true, false}
 use mathlib.Core.List.{List, [], _++_}
 use lib.ListN.{take, drop, replicate}
 use Rattle.scheme.specs.Labels.{Field}
 use Rattle.scheme.specs.Call.{Call}
-use Rattle.scheme.specs.Run.{Step, findCall}
+use Rattle.scheme.specs.Run.{perform}
 use Rattle.scheme.specs.Store.{make}
 use Rattle.scheme.specs.Keys.{insertTokenLength, findTokenLength, countTokenLength, compactionTokenLength, insertToken, findToken, countToken, compactionToken}
 use Rattle.scheme.specs.Refusals.{insertTokenTests, fieldTokenTests, keyTests}
@@ -21,15 +20,13 @@ use Rattle.store.specs.declared.Checked.{Checked}
 use Rattle.store.specs.declared.Checked.the-variants.{Fit, Refused as Refused₀}
 use Rattle.text.specs.Ascii.{ascii}
 use Rattle.words.specs.Line.{wordAt}
-use Rattle.words.specs.declared.Command.{Command}
 use Rattle.request.specs.Ids.{idOf, idsOf}
-use Rattle.request.specs.Request.{requestOf}
 use Rattle.request.specs.Token.{tokenOf, tokenText}
 use Rattle.request.specs.declared.Request.{Request}
-use Rattle.request.specs.declared.Request.the-variants.{Help, Misused, NotNumber, NotId, New, Key, Insert, Find, Count, Erase, Compact, Show, InsertToken, FindToken, CountToken, CompactionToken, InsertBy, FindBy, CountBy, CompactBy}
+use Rattle.request.specs.declared.Request.the-variants.{Help, Misused, NotNumber, NotId, New, Key, Insert, Find, Count, Erase, Compact, Order, Show, InsertToken, FindToken, CountToken, CompactionToken, InsertBy, FindBy, CountBy, CompactBy}
 use Rattle.advice.specs.Advise.{noRoom, roomFor, roomOf}
 use Rattle.outcome.specs.Told.{told, withRoom, Roomed}
-use Rattle.commands.specs.Told.{insertTold}
+use Rattle.commands.specs.Insert.{insertResult}
 use Rattle.outcome.specs.declared.Outcome.{Outcome}
 use Rattle.outcome.specs.declared.Outcome.the-variants.{Number, Compacted, Damaged, WrongKey, Refused, Done, BadWords}
 use Rattle.buffer.specs.Put.{Put}
@@ -70,17 +67,21 @@ module _ (line before key random : List ℕ) where
       × ((o ≡ withRoom noRoom o) × (after ≡ make (record { p = p; m = m; c = c; s = s }) before .store))
   Performed Key o after = (o ≡ Done) × (after ≡ before)
   Performed (Insert u n) o after =
-      insertTold (checkedOf before) before key (fieldIn line) u (take 12 random) (idsOf 6 n line) (drop 12 random) (told o) after
-      × Roomed before o
+      (told o ≡ insertResult (checkedOf before) before key (fieldIn line) u (take 12 random) (idsOf 6 n line) (drop 12 random) .answer)
+      × ((after ≡ insertResult (checkedOf before) before key (fieldIn line) u (take 12 random) (idsOf 6 n line) (drop 12 random) .store)
+      × Roomed before o)
   Performed Find o after =
-      Step program (Call.find key (fieldIn line) lent) before (record { answer = told o; output = findCall program before key (fieldIn line) lent .output }) after
-      × Roomed before o
+      (told o ≡ perform program (Call.find key (fieldIn line) lent) before .answer) × ((after ≡ before) × Roomed before o)
   Performed Count o after =
-      Step program (Call.count key (fieldIn line)) before (record { answer = told o; output = [] }) after × Roomed before o
+      (told o ≡ perform program (Call.count key (fieldIn line)) before .answer) × ((after ≡ before) × Roomed before o)
   Performed Erase o after =
-      Step program (Call.erase (idOf (wordAt 2 line))) before (record { answer = told o; output = [] }) after × Roomed before o
+      (told o ≡ perform program (Call.erase (idOf (wordAt 2 line))) before .answer)
+      × ((after ≡ perform program (Call.erase (idOf (wordAt 2 line))) before .store) × Roomed before o)
   Performed Compact o after =
-      Step program (Call.compact key random) before (record { answer = told o; output = [] }) after × Roomed before o
+      (told o ≡ perform program (Call.compact key random) before .answer)
+      × ((after ≡ perform program (Call.compact key random) before .store) × Roomed before o)
+  Performed Order o after =
+      (told o ≡ perform program Call.order before .answer) × ((after ≡ perform program Call.order before .store) × Roomed before o)
   Performed Show o after = (o ≡ showOf (checkedOf before)) × (after ≡ before)
   Performed (InsertToken p u) o after =
       (told o ≡ makingAnswer (insertTokenTests key (fieldIn line) p u random)) × ((o ≡ withRoom (roomFor p) o) × (after ≡ before))
@@ -90,13 +91,15 @@ module _ (line before key random : List ℕ) where
       (told o ≡ makingAnswer (fieldTokenTests key (fieldIn line))) × ((o ≡ withRoom noRoom o) × (after ≡ before))
   Performed CompactionToken o after = (told o ≡ makingAnswer (keyTests key)) × ((o ≡ withRoom noRoom o) × (after ≡ before))
   Performed (InsertBy n) o after =
-      Insert.Insert program before (idsOf 4 n line) random (tokenIn insertTokenLength line key) (told o) after × Roomed before o
+      (told o ≡ Insert.insert program before (idsOf 4 n line) random (tokenIn insertTokenLength line key) .answer)
+      × ((after ≡ Insert.insert program before (idsOf 4 n line) random (tokenIn insertTokenLength line key) .store) × Roomed before o)
   Performed FindBy o after =
       (told o ≡ Find.find program before (tokenIn findTokenLength line key) lent .answer) × ((after ≡ before) × Roomed before o)
   Performed CountBy o after =
       (told o ≡ Count.count program before (tokenIn countTokenLength line key) .answer) × ((after ≡ before) × Roomed before o)
   Performed CompactBy o after =
-      Compaction.Compact program before random (tokenIn compactionTokenLength line key) (told o) after × Roomed before o
+      (told o ≡ Compaction.compact program before random (tokenIn compactionTokenLength line key) .answer)
+      × ((after ≡ Compaction.compact program before random (tokenIn compactionTokenLength line key) .store) × Roomed before o)
 
 -- a find's ids, each on a line; or its refusal
 abbrev pub foundText : Outcome → List ℕ → List ℕ
@@ -142,10 +145,11 @@ outText (NotId i) line before key random o = answerLine o
 outText (New p m c s) line before key random o = answerLine o
 outText Key line before key random o = answerLine o
 outText (Insert u n) line before key random o = answerLine o
-outText Find line before key random o = foundText o (findCall program before key (fieldIn line) lent .output)
+outText Find line before key random o = foundText o (perform program (Call.find key (fieldIn line) lent) before .output)
 outText Count line before key random o = answerLine o
 outText Erase line before key random o = answerLine o
 outText Compact line before key random o = answerLine o
+outText Order line before key random o = answerLine o
 outText Show line before key random o = shownText (checkedOf before)
 outText (InsertToken p u) line before key random o = madeText o (insertToken program key (fieldIn line) p u random)
 outText FindToken line before key random o = madeText o (findToken program key (fieldIn line))
@@ -173,6 +177,7 @@ errText Find line o = messageLine o 0
 errText Count line o = messageLine o 0
 errText Erase line o = messageLine o 0
 errText Compact line o = messageLine o 0
+errText Order line o = messageLine o 0
 errText Show line o = messageLine o 0
 errText (InsertToken p u) line o = messageLine o 0
 errText FindToken line o = messageLine o 0

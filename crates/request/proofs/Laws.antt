@@ -1,13 +1,13 @@
 -- Laws of what a line asks for: an id that a word is or is not, ids one after the other, the first word that is none, numbers, a token
 -- that was printed.
-use Prim.Native.Nat.{ℕ, zero, suc, _+_, _*_, _-_, _<_, _≤_, min}
+use Prim.Native.Nat.{ℕ, zero, suc, _+_, _*_, _-_, _<_, _≤_}
 use mathlib.Core.Path.{_≡_, refl, sym, ap, ap₂, subst, _∙_}
 use mathlib.Core.Bool.{Bool, true, false, cond}
 use mathlib.Core.List.{List, [], _++_}
 use native.Mathlib.Numerals.{add-one}
 use native.Mathlib.Omega.{arith}
 use lib.Dec.{ltb, eqb}
-use lib.ListN.{length, getD, take, drop, replicate}
+use lib.ListN.{length, getD, take, replicate}
 use lib.Seq.{take-add}
 use Rattle.octets.specs.Part.{back}
 use Rattle.octets.proofs.Parts.{take-back, part-back}
@@ -19,7 +19,7 @@ use Rattle.words.specs.Decimal.{decimalOf}
 use Rattle.words.specs.declared.Parsed.{Parsed}
 use Rattle.words.specs.declared.Parsed.the-variants.{Number, Bad}
 use Rattle.words.specs.declared.Command.{Command}
-use Rattle.words.specs.declared.Command.the-variants.{New as New₀, Key as Key₀, Insert as Insert₀, Find as Find₀, Count as Count₀, Erase as Erase₀, Compact as Compact₀, Token as Token₀, Show as Show₀, Help as Help₀, Unknown}
+use Rattle.words.specs.declared.Command.the-variants.{New as New₀, Key as Key₀, Insert as Insert₀, Find as Find₀, Count as Count₀, Erase as Erase₀, Compact as Compact₀, Order as Order₀, Token as Token₀, Show as Show₀, Help as Help₀, Unknown}
 use Rattle.request.specs.Ids.{idOf, idsOf}
 use Rattle.request.specs.Token.{tokenOf}
 use Rattle.request.specs.Request.{withNumber, withIds, idsFrom, firstBad, idsGiven, newOf, insertOf, insertByOf, eraseOf, insertTokenOf, makingBy, makingOf, pickRequest, hasToken, requestBy, requestWith, requestOf, idsIn}
@@ -115,6 +115,7 @@ few-making Find₀ n line = few-pick (eqb n 5) FindToken (Misused Token₀) (ome
 few-making Count₀ n line = few-pick (eqb n 5) CountToken (Misused Token₀) (omega arith) (omega arith)
 few-making Erase₀ n line = omega arith
 few-making Compact₀ n line = few-pick (eqb n 3) CompactionToken (Misused Token₀) (omega arith) (omega arith)
+few-making Order₀ n line = omega arith
 few-making Token₀ n line = omega arith
 few-making Show₀ n line = omega arith
 few-making Help₀ n line = omega arith
@@ -135,6 +136,7 @@ few-by Find₀ b line = few-pick b FindBy Find (omega arith) (omega arith)
 few-by Count₀ b line = few-pick b CountBy Count (omega arith) (omega arith)
 few-by Erase₀ b line = few-pick (isIdOf (wordAt 2 line)) Erase (NotId 2) (omega arith) (omega arith)
 few-by Compact₀ b line = few-pick b CompactBy Compact (omega arith) (omega arith)
+few-by Order₀ b line = omega arith
 few-by Token₀ b line = few-making (commandOf (wordAt 1 line)) (wordCount line) line
 few-by Show₀ b line = omega arith
 few-by Help₀ b line = omega arith

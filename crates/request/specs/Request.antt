@@ -12,9 +12,9 @@ use Rattle.words.specs.Line.{wordAt, wordCount}
 use Rattle.words.specs.declared.Parsed.{Parsed}
 use Rattle.words.specs.declared.Parsed.the-variants.{Number, Bad}
 use Rattle.words.specs.declared.Command.{Command}
-use Rattle.words.specs.declared.Command.the-variants.{New as New₀, Key as Key₀, Insert as Insert₀, Find as Find₀, Count as Count₀, Erase as Erase₀, Compact as Compact₀, Token as Token₀, Show as Show₀, Help as Help₀, Unknown}
+use Rattle.words.specs.declared.Command.the-variants.{New as New₀, Key as Key₀, Insert as Insert₀, Find as Find₀, Count as Count₀, Erase as Erase₀, Compact as Compact₀, Order as Order₀, Token as Token₀, Show as Show₀, Help as Help₀, Unknown}
 use Rattle.request.specs.declared.Request.{Request}
-use Rattle.request.specs.declared.Request.the-variants.{Help, Misused, NotNumber, NotId, New, Key, Insert, Find, Count, Erase, Compact, Show, InsertToken, FindToken, CountToken, CompactionToken, InsertBy, FindBy, CountBy, CompactBy}
+use Rattle.request.specs.declared.Request.the-variants.{Help, Misused, NotNumber, NotId, New, Key, Insert, Find, Count, Erase, Compact, Order, Show, InsertToken, FindToken, CountToken, CompactionToken, InsertBy, FindBy, CountBy, CompactBy}
 
 abbrev pub pickRequest : Bool → Request → Request → Request
 pickRequest true a b = a
@@ -73,6 +73,7 @@ makingBy Find₀ n line = pickRequest (eqb n 5) FindToken (Misused Token₀)
 makingBy Count₀ n line = pickRequest (eqb n 5) CountToken (Misused Token₀)
 makingBy Erase₀ n line = Misused Token₀
 makingBy Compact₀ n line = pickRequest (eqb n 3) CompactionToken (Misused Token₀)
+makingBy Order₀ n line = Misused Token₀
 makingBy Token₀ n line = Misused Token₀
 makingBy Show₀ n line = Misused Token₀
 makingBy Help₀ n line = Misused Token₀
@@ -90,6 +91,7 @@ requestBy Find₀ b line = pickRequest b FindBy Find
 requestBy Count₀ b line = pickRequest b CountBy Count
 requestBy Erase₀ b line = eraseOf line
 requestBy Compact₀ b line = pickRequest b CompactBy Compact
+requestBy Order₀ b line = Order
 requestBy Token₀ b line = makingOf line
 requestBy Show₀ b line = Show
 requestBy Help₀ b line = Help (commandOf (wordAt 1 line))
@@ -118,6 +120,7 @@ idsIn Find = 0
 idsIn Count = 0
 idsIn Erase = 0
 idsIn Compact = 0
+idsIn Order = 0
 idsIn Show = 0
 idsIn (InsertToken p u) = 0
 idsIn FindToken = 0

@@ -30,6 +30,7 @@ pub enum Request {
     Count,
     Erase,
     Compact,
+    Order,
     Show,
     // The making of a token: of an insert's for shares 0 to p, at share u.
     InsertToken { p: u64, u: u64 },
@@ -184,6 +185,7 @@ fn making(line: &[u8]) -> Request
         } else {
             misused
         },
+        Command::Order => misused,
         Command::Token => misused,
         Command::Show => misused,
         Command::Help => misused,
@@ -215,6 +217,7 @@ fn by_command(c: Command, token: bool, line: &[u8]) -> Request
         } else {
             Request::Compact
         },
+        Command::Order => Request::Order,
         Command::Token => making(line),
         Command::Show => Request::Show,
         Command::Help => Request::Help(words::command_of(line::word(line, 1))),

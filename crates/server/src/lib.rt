@@ -1,10 +1,10 @@
 // The server's half of a call: what it runs with a token (document 01, "Operations"), on the bytes of a store and with
 // no key, with what the tool tells of it.
 ghost use mathlib.Core.Path.{_≡_};
-ghost use Rattle.scheme.specs.Insert.{Insert};
+ghost use Rattle.scheme.specs.Insert.{insert as insertOf};
 ghost use Rattle.scheme.specs.Find.{find as findOf};
 ghost use Rattle.scheme.specs.Count.{count as countOf};
-ghost use Rattle.scheme.specs.Compaction.{Compact};
+ghost use Rattle.scheme.specs.Compaction.{compact as compactOf};
 ghost use Rattle.suite.specs.Program.{program};
 ghost use Rattle.outcome.specs.Told.{told, Roomed};
 use outcome::Outcome;
@@ -12,7 +12,8 @@ use outcome::of_compaction;
 use outcome::of_counted;
 
 pub fn insert(store: &mut [u8], ids: &[u8], nonces: &[u8], token: &[u8]) -> Outcome
-    ensures { λ o. ⌜ Insert program (now (store .entry)) (now (ids .entry)) (now (nonces .entry)) (now (token .entry)) (told o) (now (store .exit)) ⌝ }
+    ensures { λ o. ⌜ told o ≡ insertOf program (now (store .entry)) (now (ids .entry)) (now (nonces .entry)) (now (token .entry)) .answer ⌝ }
+    ensures { λ _. ⌜ now (store .exit) ≡ insertOf program (now (store .entry)) (now (ids .entry)) (now (nonces .entry)) (now (token .entry)) .store ⌝ }
     ensures { λ o. ⌜ Roomed (now (store .entry)) o ⌝ }
 {
     let room = advice::room_in(store);
@@ -37,7 +38,8 @@ pub fn count(store: &[u8], token: &[u8]) -> Outcome
 }
 
 pub fn compact(store: &mut [u8], nonces: &[u8], token: &[u8]) -> Outcome
-    ensures { λ o. ⌜ Compact program (now (store .entry)) (now (nonces .entry)) (now (token .entry)) (told o) (now (store .exit)) ⌝ }
+    ensures { λ o. ⌜ told o ≡ compactOf program (now (store .entry)) (now (nonces .entry)) (now (token .entry)) .answer ⌝ }
+    ensures { λ _. ⌜ now (store .exit) ≡ compactOf program (now (store .entry)) (now (nonces .entry)) (now (token .entry)) .store ⌝ }
     ensures { λ o. ⌜ Roomed (now (store .entry)) o ⌝ }
 {
     let room = advice::room_in(store);

@@ -109,6 +109,7 @@ pub fn run(
         Request::Count => execution::count(line, store, key, out, err),
         Request::Erase => execution::erase(line, store, out, err),
         Request::Compact => { report::answered(commands::compact(store, key, random), 0, out, err) }
+        Request::Order => execution::order(store, out, err),
         Request::Show => execution::show(store, out, err),
         Request::InsertToken { p, u } => token_issuance::insert_token(
             line,

@@ -3,7 +3,7 @@ use Prim.Native.Nat.{ℕ}
 use mathlib.Core.List.{List, _++_}
 use Rattle.text.specs.Ascii.{ascii}
 use Rattle.words.specs.declared.Command.{Command}
-use Rattle.words.specs.declared.Command.the-variants.{New, Key, Insert, Find, Count, Erase, Compact, Token, Show, Help, Unknown}
+use Rattle.words.specs.declared.Command.the-variants.{New, Key, Insert, Find, Count, Erase, Compact, Order, Token, Show, Help, Unknown}
 
 unfoldable pub usageLine : Command → List ℕ
 usageLine New = ascii "mazhkuri new STORE P M C S: makes a store for shares 0 to P (at most 15) with M entries, C counters and S log rows (1 to 4096 each)\n"
@@ -13,14 +13,15 @@ usageLine Find = ascii "mazhkuri find STORE KEYFILE FIELD VALUE, or find STORE -
 usageLine Count = ascii "mazhkuri count STORE KEYFILE FIELD VALUE, or count STORE --token TOKEN: prints how many ids were ever inserted, erased ones among them\n"
 usageLine Erase = ascii "mazhkuri erase STORE ID: erases an id from every field; prints how many entries it had\n"
 usageLine Compact = ascii "mazhkuri compact STORE KEYFILE, or compact STORE --token TOKEN: frees counter and log rows; prints the anchors written and the counters freed\n"
+usageLine Order = ascii "mazhkuri order STORE: puts the rows of a store in byte order, as 20 asks for; prints how many rows are used; takes no key\n"
 usageLine Token = ascii "mazhkuri token insert KEYFILE FIELD VALUE P SHARE, token find KEYFILE FIELD VALUE, token count KEYFILE FIELD VALUE, token compact KEYFILE: prints a TOKEN; @FILE stands for what a file holds\n"
 usageLine Show = ascii "mazhkuri show STORE: prints the sizes of a store and how full it is; takes no key\n"
 usageLine Help = ascii "mazhkuri help [COMMAND]: prints what a command takes\n"
-usageLine Unknown = ascii "a command of: new key insert find count erase compact token show help\n"
+usageLine Unknown = ascii "a command of: new key insert find count erase compact order token show help\n"
 
--- the commands that make files, and those that take a field
+-- the commands that make files, those that take a field, and erase
 unfoldable pub firstLines : List ℕ
-firstLines = usageLine New ++ (usageLine Key ++ (usageLine Insert ++ (usageLine Find ++ usageLine Count)))
+firstLines = usageLine New ++ (usageLine Key ++ (usageLine Insert ++ (usageLine Find ++ (usageLine Count ++ usageLine Erase))))
 
 -- a command's line; every command's where none is named
 unfoldable pub helpText : Command → List ℕ
@@ -31,8 +32,9 @@ helpText Find = usageLine Find
 helpText Count = usageLine Count
 helpText Erase = usageLine Erase
 helpText Compact = usageLine Compact
+helpText Order = usageLine Order
 helpText Token = usageLine Token
 helpText Show = usageLine Show
 helpText Help = usageLine Help
 helpText Unknown =
-    firstLines ++ (usageLine Erase ++ (usageLine Compact ++ (usageLine Token ++ (usageLine Show ++ (usageLine Help ++ ascii "a command that is not done prints `refused` and a rule's number, `misused` or `failed` to standard output, and what to do to standard error\n")))))
+    firstLines ++ (usageLine Compact ++ (usageLine Order ++ (usageLine Token ++ (usageLine Show ++ (usageLine Help ++ ascii "a command that is not done prints `refused` and a rule's number, `misused` or `failed` to standard output, and what to do to standard error\n")))))

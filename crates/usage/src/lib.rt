@@ -27,6 +27,9 @@ const ERASE: [u8; 87] =
 const COMPACT: [u8; 142] =
     *b"mazhkuri compact STORE KEYFILE, or compact STORE --token TOKEN: frees counter and log rows; prints the anchors written and the counters freed\n";
 
+const ORDER: [u8; 122] =
+    *b"mazhkuri order STORE: puts the rows of a store in byte order, as 20 asks for; prints how many rows are used; takes no key\n";
+
 const TOKEN: [u8; 190] =
     *b"mazhkuri token insert KEYFILE FIELD VALUE P SHARE, token find KEYFILE FIELD VALUE, token count KEYFILE FIELD VALUE, token compact KEYFILE: prints a TOKEN; @FILE stands for what a file holds\n";
 
@@ -35,8 +38,8 @@ const SHOW: [u8; 82] =
 
 const HELP: [u8; 53] = *b"mazhkuri help [COMMAND]: prints what a command takes\n";
 
-const UNKNOWN: [u8; 70] =
-    *b"a command of: new key insert find count erase compact token show help\n";
+const UNKNOWN: [u8; 76] =
+    *b"a command of: new key insert find count erase compact order token show help\n";
 
 const REFUSED: [u8; 140] =
     *b"a command that is not done prints `refused` and a rule's number, `misused` or `failed` to standard output, and what to do to standard error\n";
@@ -54,6 +57,7 @@ pub fn put_usage(to: &mut [u8], at: usize, c: Command) -> usize
         Command::Count => put(to, at, &COUNT),
         Command::Erase => put(to, at, &ERASE),
         Command::Compact => put(to, at, &COMPACT),
+        Command::Order => put(to, at, &ORDER),
         Command::Token => put(to, at, &TOKEN),
         Command::Show => put(to, at, &SHOW),
         Command::Help => put(to, at, &HELP),
@@ -61,7 +65,7 @@ pub fn put_usage(to: &mut [u8], at: usize, c: Command) -> usize
     }
 }
 
-// What the commands that make files, and those that take a field, take.
+// What the commands that make files, those that take a field, and erase take.
 fn put_first(to: &mut [u8]) -> usize
     requires { ⌜ 765 ≤ length (now to) ⌝ }
     ensures { λ r. ⌜ (Put (now (to .entry)) 0 firstLines (now (to .exit)) r) × (r ≤ 765) ⌝ }
@@ -70,7 +74,8 @@ fn put_first(to: &mut [u8]) -> usize
     let b = put(to, a, &KEY);
     let c = put(to, b, &INSERT);
     let d = put(to, c, &FIND);
-    put(to, d, &COUNT)
+    let e = put(to, d, &COUNT);
+    put(to, e, &ERASE)
 }
 
 // What every command takes.
@@ -79,8 +84,8 @@ fn put_all(to: &mut [u8]) -> usize
     ensures { λ r. ⌜ Put (now (to .entry)) 0 (helpText Command.Unknown) (now (to .exit)) r ⌝ }
 {
     let a = put_first(to);
-    let b = put(to, a, &ERASE);
-    let c = put(to, b, &COMPACT);
+    let b = put(to, a, &COMPACT);
+    let c = put(to, b, &ORDER);
     let d = put(to, c, &TOKEN);
     let e = put(to, d, &SHOW);
     let f = put(to, e, &HELP);

@@ -6,7 +6,7 @@ use lib.Dec.{eqb, leb}
 use Rattle.octets.specs.Compare.{same}
 use Rattle.text.specs.Ascii.{ascii}
 use Rattle.words.specs.declared.Command.{Command}
-use Rattle.words.specs.declared.Command.the-variants.{New, Key, Insert, Find, Count, Erase, Compact, Token, Show, Help, Unknown}
+use Rattle.words.specs.declared.Command.the-variants.{New, Key, Insert, Find, Count, Erase, Compact, Order, Token, Show, Help, Unknown}
 
 abbrev pub pickCommand : Bool → Command → Command → Command
 pickCommand true a b = a
@@ -26,10 +26,11 @@ commandOf w =
     pickCommand (same w (ascii "new")) New
     (pickCommand (same w (ascii "key")) Key
     (pickCommand (same w (ascii "insert")) Insert
-    (pickCommand (same w (ascii "erase")) Erase (pickCommand (same w (ascii "compact")) Compact (readerOf w)))))
+    (pickCommand (same w (ascii "erase")) Erase
+    (pickCommand (same w (ascii "compact")) Compact (pickCommand (same w (ascii "order")) Order (readerOf w))))))
 
 -- new takes STORE P M C S, key KEYFILE, insert STORE KEYFILE FIELD VALUE SHARE and the ids, find and count STORE KEYFILE FIELD
--- VALUE, erase STORE ID, compact STORE KEYFILE, show STORE; insert, find, count and compact with a token take STORE --token TOKEN
+-- VALUE, erase STORE ID, compact STORE KEYFILE, order and show STORE; insert, find, count and compact with a token take STORE --token TOKEN
 -- in place of what comes before the ids; token takes a command and KEYFILE at least
 abbrev pub wordsFit : Command → Bool → ℕ → Bool
 wordsFit New b n = eqb n 6
@@ -39,6 +40,7 @@ wordsFit Find b n = cond b (eqb n 4) (eqb n 5)
 wordsFit Count b n = cond b (eqb n 4) (eqb n 5)
 wordsFit Erase b n = eqb n 3
 wordsFit Compact b n = cond b (eqb n 4) (eqb n 3)
+wordsFit Order b n = eqb n 2
 wordsFit Token b n = leb 3 n
 wordsFit Show b n = eqb n 2
 wordsFit Help b n = true

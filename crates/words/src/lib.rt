@@ -21,6 +21,7 @@ pub enum Command {
     Count,
     Erase,
     Compact,
+    Order,
     Token,
     Show,
     Help,
@@ -113,6 +114,9 @@ pub fn command_of(word: &[u8]) -> Command
     if is(word, b"compact") {
         return Command::Compact;
     }
+    if is(word, b"order") {
+        return Command::Order;
+    }
     reader_of(word)
 }
 
@@ -128,6 +132,7 @@ pub fn fit(c: Command, token: bool, n: usize) -> bool
         Command::Count => if token { n == 4 } else { n == 5 },
         Command::Erase => n == 3,
         Command::Compact => if token { n == 4 } else { n == 3 },
+        Command::Order => n == 2,
         Command::Token => 3 <= n,
         Command::Show => n == 2,
         Command::Help => true,

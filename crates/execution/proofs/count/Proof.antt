@@ -1,13 +1,12 @@
 -- The call with the line's words.
-use mathlib.Core.Path.{ap₂, subst}
+use mathlib.Core.Path.{refl, ap, ap₂, _∙_}
 use mathlib.Core.List.{[]}
 use Rattle.scheme.specs.Call.{Call}
 use Rattle.scheme.specs.Labels.{Field}
-use Rattle.scheme.specs.Run.{Step}
+use Rattle.scheme.specs.Run.{perform}
 use Rattle.suite.specs.Program.{program}
 use Rattle.client.specs.Making.{fieldOf}
 use Rattle.request.specs.declared.Request.the-variants.{Count}
-use Rattle.outcome.specs.Told.{told}
 use Rattle.report.proofs.Arms.{ended}
 use borrow.Author.Needs.{needs}
 use Rattle.execution.proofs.count.Statement.{statement}
@@ -19,8 +18,8 @@ returns c =
     let a = c .before .before .before .before .answered in
     let o = c .before .before .before .before .before .before .before .count in
     ended Count (s .line .now) (s .store .now) (s .key .now) [] (s .store .now) (o .result) (a .result) (a .ensures .0) (
-      subst (λ (f : Field). Step program (Call.count (s .key .now) f) (s .store .now) (record { answer = told (o .result); output = [] }) (s .store .now)) (ap₂ fieldOf (c .before .before .before .before .before .before .before .before .before .word .ensures) (c .before .before .before .before .before .before .before .before .word2 .ensures)) (o .ensures .0),
-      o .ensures .1,
+      o .ensures .0 ∙ ap (λ (f : Field). perform program (Call.count (s .key .now) f) (s .store .now) .answer) (ap₂ fieldOf (c .before .before .before .before .before .before .before .before .before .word .ensures) (c .before .before .before .before .before .before .before .before .word2 .ensures)),
+      (refl, o .ensures .1),
     ) (a .ensures .1 .0) (a .ensures .1 .1)
 
 pub count-spec : {M : Type 1} → statement M

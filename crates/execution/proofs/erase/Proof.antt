@@ -1,13 +1,12 @@
 -- The call with the line's id.
 use Prim.Native.Nat.{ℕ}
-use mathlib.Core.Path.{ap, subst, _∙_}
+use mathlib.Core.Path.{ap, _∙_}
 use mathlib.Core.List.{List, []}
 use Rattle.scheme.specs.Call.{Call}
-use Rattle.scheme.specs.Run.{Step}
+use Rattle.scheme.specs.Run.{perform}
 use Rattle.suite.specs.Program.{program}
 use Rattle.request.specs.Ids.{idOf}
 use Rattle.request.specs.declared.Request.the-variants.{Erase}
-use Rattle.outcome.specs.Told.{told}
 use Rattle.report.proofs.Arms.{ended}
 use borrow.Author.Needs.{needs}
 use Rattle.execution.proofs.erase.Statement.{statement}
@@ -18,9 +17,10 @@ returns c =
     let s = c .before .before .before .before .before .before .before .before .before .before .before .before .before .before .before .before .before .before .before .before .args in
     let a = c .before .before .before .before .answered in
     let o = c .before .before .before .before .before .before .before .before .before .erase in
+    let e = c .before .before .before .before .before .before .before .before .before .before .before .before .before .id2 .ensures ∙ ap idOf (c .before .before .before .before .before .before .before .before .before .before .before .before .before .before .before .word .ensures) in
     ended Erase (s .line .now) (s .store .now) [] [] (o .last .0) (o .result) (a .result) (a .ensures .0) (
-      subst (λ (i : List ℕ). Step program (Call.erase i) (s .store .now) (record { answer = told (o .result); output = [] }) (o .last .0)) (c .before .before .before .before .before .before .before .before .before .before .before .before .before .id2 .ensures ∙ ap idOf (c .before .before .before .before .before .before .before .before .before .before .before .before .before .before .before .word .ensures)) (o .ensures .0),
-      o .ensures .1,
+      o .ensures .0 ∙ ap (λ (i : List ℕ). perform program (Call.erase i) (s .store .now) .answer) e,
+      (o .ensures .1 .0 ∙ ap (λ (i : List ℕ). perform program (Call.erase i) (s .store .now) .store) e, o .ensures .1 .1),
     ) (a .ensures .1 .0) (a .ensures .1 .1)
 
 pub erase-spec : {M : Type 1} → statement M

@@ -1,8 +1,7 @@
 -- The call with the line's words and ids, and the random bytes parted.
-use Prim.Native.Nat.{ℕ, _≤_}
-use mathlib.Core.Path.{sym}
+use mathlib.Core.Path.{sym, ap, _∙_}
 use native.Mathlib.Omega.{arith}
-use lib.ListN.{length, take, drop}
+use lib.ListN.{take, drop}
 use lib.Seq.{length-take-le}
 use Rattle.store.specs.Check.{checkedOf}
 use Rattle.request.specs.Ids.{idsOf}
@@ -22,12 +21,14 @@ slice-aggregate-insert c = sym (length-take-le (c .before .before .before .befor
 returns : tie.Need-returns
 returns c =
     let s = c .before .before .before .before .before .before .before .before .before .before .before .before .before .before .before .before .before .before .before .before .before .before .before .before .before .before .before .before .args in
-    let random = s .random .now in (
-      ended (Insert (s .u) (s .n)) (s .line .now) (s .store .now) (s .key .now) random (c .before .before .before .before .before .before .before .before .before .insert .last .0) (c .before .before .before .before .before .before .before .before .before .insert .result) (c .before .before .before .before .answered .result) (c .before .before .before .before .answered .ensures .0) (
-        inserted (checkedOf (s .store .now)) (s .store .now) (s .key .now) (c .before .before .before .before .before .before .before .before .before .insert .last .0) (s .u) (c .before .before .before .before .before .before .before .before .before .insert .result) (s .line .now) _ _ _ _ _ (take 12 random) (idsOf 6 (s .n) (s .line .now)) (drop 12 random) (c .before .before .before .before .before .before .before .before .before .before .before .before .before .before .word .ensures) (c .before .before .before .before .before .before .before .before .before .before .before .before .before .word2 .ensures) (clipped random (c .before .before .before .before .before .before .before .before .before .before .before .before .before .before .before .before .least .result) (c .before .before .before .before .before .before .before .before .before .before .before .before .before .before .before .before .least .ensures)) (c .before .before .before .before .before .before .before .before .before .before .before .before .before .before .before .before .before .before .before .ids .ensures) (rest random (c .before .before .before .before .before .before .before .before .before .before .before .before .before .before .before .before .least .result) (c .before .before .before .before .before .before .before .before .before .before .before .before .before .before .before .before .least .ensures)) (c .before .before .before .before .before .before .before .before .before .insert .ensures .0),
-        c .before .before .before .before .before .before .before .before .before .insert .ensures .1,
-      ) (c .before .before .before .before .answered .ensures .1 .0) (c .before .before .before .before .answered .ensures .1 .1),
-      c .before .before .before .before .before .before .before .before .before .before .before .before .before .before .before .before .before .before .before .ids .ensures,
+    let random = s .random .now in
+    let a = c .before .before .before .before .answered in
+    let o = c .before .before .before .before .before .before .before .before .before .insert in
+    let n = c .before .before .before .before .before .before .before .before .before .before .before .before .before .before .before .before .least in
+    let ids = c .before .before .before .before .before .before .before .before .before .before .before .before .before .before .before .before .before .before .before .ids .ensures in
+    let e = inserted (checkedOf (s .store .now)) (s .store .now) (s .key .now) (s .u) (s .line .now) _ _ _ _ _ (take 12 random) (idsOf 6 (s .n) (s .line .now)) (drop 12 random) (c .before .before .before .before .before .before .before .before .before .before .before .before .before .before .word .ensures) (c .before .before .before .before .before .before .before .before .before .before .before .before .before .word2 .ensures) (clipped random (n .result) (n .ensures)) ids (rest random (n .result) (n .ensures)) in (
+      ended (Insert (s .u) (s .n)) (s .line .now) (s .store .now) (s .key .now) random (o .last .0) (o .result) (a .result) (a .ensures .0) (o .ensures .0 ∙ ap (λ r. r .answer) e, (o .ensures .1 .0 ∙ ap (λ r. r .store) e, o .ensures .1 .1)) (a .ensures .1 .0) (a .ensures .1 .1),
+      ids,
     )
 
 pub insert-ids-spec : {M : Type 1} → statement M

@@ -44,11 +44,11 @@ returns-9 c = said (sym (ap (λ x. sentenceOf x (c .before .before .before .befo
 
 returns-10 : tie.Need-returns-10
 unfolding sentenceOf
-returns-10 c = said (sym (ap (λ x. sentenceOf x (c .before .before .before .before .before .before .before .before .args .given)) (c .before .before .before .before .before .a2 .given .1))) (c .before .before .put-token-shares .ensures)
+returns-10 c = said (sym (ap (λ x. sentenceOf x (c .before .before .before .before .before .before .before .before .args .given)) (c .before .before .before .before .before .enum-told9 .given .1))) (c .before .before .put9 .ensures)
 
 returns-11 : tie.Need-returns-11
 unfolding sentenceOf
-returns-11 c = said (sym (ap (λ x. sentenceOf x (c .before .before .before .before .before .before .before .before .args .given)) (c .before .before .before .before .before .enum-told9 .given .1))) (c .before .before .put9 .ensures)
+returns-11 c = said (sym (ap (λ x. sentenceOf x (c .before .before .before .before .before .before .before .before .args .given)) (c .before .before .before .before .before .a2 .given .1))) (c .before .before .put-token-shares .ensures)
 
 returns-12 : tie.Need-returns-12
 unfolding sentenceOf
@@ -56,11 +56,11 @@ returns-12 c = said (sym (ap (λ x. sentenceOf x (c .before .before .before .bef
 
 returns-13 : tie.Need-returns-13
 unfolding sentenceOf
-returns-13 c = said (sym (ap (λ x. sentenceOf x (c .before .before .before .before .before .before .before .before .args .given)) (c .before .before .before .before .before .a3 .given .1))) (c .before .before .put-entries .ensures)
+returns-13 c = said (sym (ap (λ x. sentenceOf x (c .before .before .before .before .before .before .before .before .args .given)) (c .before .before .before .before .before .enum-told11 .given .1))) (c .before .before .put11 .ensures)
 
 returns-14 : tie.Need-returns-14
 unfolding sentenceOf
-returns-14 c = said (sym (ap (λ x. sentenceOf x (c .before .before .before .before .before .before .before .before .args .given)) (c .before .before .before .before .before .enum-told11 .given .1))) (c .before .before .put11 .ensures)
+returns-14 c = said (sym (ap (λ x. sentenceOf x (c .before .before .before .before .before .before .before .before .args .given)) (c .before .before .before .before .before .a3 .given .1))) (c .before .before .put-entries .ensures)
 
 returns-15 : tie.Need-returns-15
 unfolding sentenceOf
@@ -72,13 +72,17 @@ returns-16 c = said (sym (ap (λ x. sentenceOf x (c .before .before .before .bef
 
 returns-17 : tie.Need-returns-17
 unfolding sentenceOf
-returns-17 c = said (sym (ap (λ x. sentenceOf x (c .before .before .before .before .before .before .before .before .args .given)) (c .before .before .before .before .before .a4 .given .1))) (c .before .before .put-output .ensures)
+returns-17 c = said (sym (ap (λ x. sentenceOf x (c .before .before .before .before .before .before .before .before .args .given)) (c .before .before .before .before .before .enum-told14 .given .1))) (c .before .before .put14 .ensures)
 
 returns-18 : tie.Need-returns-18
 unfolding sentenceOf
-returns-18 c = said (sym (ap (λ x. sentenceOf x (c .before .before .before .before .before .before .before .before .args .given)) (c .before .before .before .before .before .enum-told14 .given .1))) (c .before .before .put14 .ensures)
+returns-18 c = said (sym (ap (λ x. sentenceOf x (c .before .before .before .before .before .before .before .before .args .given)) (c .before .before .before .before .before .a4 .given .1))) (c .before .before .put-output .ensures)
+
+returns-19 : tie.Need-returns-19
+unfolding sentenceOf
+returns-19 c = said (sym (ap (λ x. sentenceOf x (c .before .before .before .before .before .before .before .before .args .given)) (c .before .before .before .before .before .enum-told15 .given .1))) (c .before .before .put15 .ensures)
 
 pub put-sentence-spec : {M : Type 1} → statement M
 put-sentence-spec =
     tie.close
-    (tie.spec (λ c. search needs) (λ c. search needs) (λ c κs. search needs) (λ c. search needs) (λ c. search needs) (λ c κs. search needs) (λ c. search needs) (λ c κs. search needs) (λ c. search needs) (λ c. search needs) (λ c κs. search needs) (λ c. search needs) (λ c. search needs) (λ c κs. search needs) (λ c. search needs) (λ c. search needs) (λ c κs. search needs) (λ c. search needs) (λ c. search needs) (λ c κs. search needs) (λ c. search needs) (λ c. search needs) (λ c κs. search needs) (λ c. search needs) (λ c. search needs) (λ c κs. search needs) (λ c. search needs) (λ c κs. search needs) (λ c. search needs) (λ c. search needs) (λ c κs. search needs) (λ c. search needs) (λ c. search needs) (λ c κs. search needs) (λ c. search needs) (λ c κs. search needs) (λ c. search needs) (λ c. search needs) (λ c κs. search needs) (λ c. search needs) (λ c. search needs) (λ c κs. search needs) (λ c. search needs) (λ c. search needs) (λ c κs. search needs) (λ c. search needs) (λ c κs. search needs) (λ c. search needs) (λ c. search needs) (λ c κs. search needs) (λ c. search needs) returns (λ c. search needs) returns-2 (λ c. search needs) returns-3 (λ c. search needs) returns-4 (λ c. search needs) returns-5 (λ c. search needs) returns-6 (λ c. search needs) returns-7 (λ c. search needs) returns-8 (λ c. search needs) returns-9 (λ c. search needs) returns-10 (λ c. search needs) returns-11 (λ c. search needs) returns-12 (λ c. search needs) returns-13 (λ c. search needs) returns-14 (λ c. search needs) returns-15 (λ c. search needs) returns-16 (λ c. search needs) returns-17 (λ c. search needs) returns-18)
+    (tie.spec (λ c. search needs) (λ c. search needs) (λ c κs. search needs) (λ c. search needs) (λ c. search needs) (λ c κs. search needs) (λ c. search needs) (λ c κs. search needs) (λ c. search needs) (λ c. search needs) (λ c κs. search needs) (λ c. search needs) (λ c. search needs) (λ c κs. search needs) (λ c. search needs) (λ c. search needs) (λ c κs. search needs) (λ c. search needs) (λ c. search needs) (λ c κs. search needs) (λ c. search needs) (λ c. search needs) (λ c κs. search needs) (λ c. search needs) (λ c. search needs) (λ c κs. search needs) (λ c. search needs) (λ c. search needs) (λ c κs. search needs) (λ c. search needs) (λ c κs. search needs) (λ c. search needs) (λ c. search needs) (λ c κs. search needs) (λ c. search needs) (λ c. search needs) (λ c κs. search needs) (λ c. search needs) (λ c κs. search needs) (λ c. search needs) (λ c. search needs) (λ c κs. search needs) (λ c. search needs) (λ c. search needs) (λ c κs. search needs) (λ c. search needs) (λ c. search needs) (λ c κs. search needs) (λ c. search needs) (λ c κs. search needs) (λ c. search needs) (λ c. search needs) (λ c κs. search needs) (λ c. search needs) returns (λ c. search needs) returns-2 (λ c. search needs) returns-3 (λ c. search needs) returns-4 (λ c. search needs) returns-5 (λ c. search needs) returns-6 (λ c. search needs) returns-7 (λ c. search needs) returns-8 (λ c. search needs) returns-9 (λ c. search needs) returns-10 (λ c. search needs) returns-11 (λ c. search needs) returns-12 (λ c. search needs) returns-13 (λ c. search needs) returns-14 (λ c. search needs) returns-15 (λ c. search needs) returns-16 (λ c. search needs) returns-17 (λ c. search needs) returns-18 (λ c. search needs) returns-19)

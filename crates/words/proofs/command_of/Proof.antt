@@ -5,75 +5,28 @@ use Rattle.words.proofs.Laws.{chosen, passed}
 use Rattle.words.proofs.command_of.Statement.{statement}
 use Rattle.words.proofs.command_of.Tie as tie
 
-slice-aggregate-is : tie.Need-slice-aggregate-is
-slice-aggregate-is c = search needs
-
-is-requires : tie.Need-is-requires
-is-requires c κs = search needs
-
 returns : tie.Need-returns
 returns c = chosen _ _ _ (sym (c .before .is .ensures) ∙ c .if1 .taken)
-
-slice-aggregate-is-2 : tie.Need-slice-aggregate-is-2
-slice-aggregate-is-2 c = search needs
-
-is-requires-2 : tie.Need-is-requires-2
-is-requires-2 c κs = search needs
 
 returns-2 : tie.Need-returns-2
 returns-2 c = passed _ _ _ _ (sym (c .before .before .before .before .is .ensures) ∙ c .before .before .before .if1 .left) (chosen _ _ _ (sym (c .before .is2 .ensures) ∙ c .if2 .taken))
 
-slice-aggregate-is-3 : tie.Need-slice-aggregate-is-3
-slice-aggregate-is-3 c = search needs
-
-is-requires-3 : tie.Need-is-requires-3
-is-requires-3 c κs = search needs
-
 returns-3 : tie.Need-returns-3
 returns-3 c = passed _ _ _ _ (sym (c .before .before .before .before .before .before .before .is .ensures) ∙ c .before .before .before .before .before .before .if1 .left) (passed _ _ _ _ (sym (c .before .before .before .before .is2 .ensures) ∙ c .before .before .before .if2 .left) (chosen _ _ _ (sym (c .before .is3 .ensures) ∙ c .if3 .taken)))
-
-slice-aggregate-is-4 : tie.Need-slice-aggregate-is-4
-slice-aggregate-is-4 c = search needs
-
-is-requires-4 : tie.Need-is-requires-4
-is-requires-4 c κs = search needs
 
 returns-4 : tie.Need-returns-4
 returns-4 c = passed _ _ _ _ (sym (c .before .before .before .before .before .before .before .before .before .before .is .ensures) ∙ c .before .before .before .before .before .before .before .before .before .if1 .left) (passed _ _ _ _ (sym (c .before .before .before .before .before .before .before .is2 .ensures) ∙ c .before .before .before .before .before .before .if2 .left) (passed _ _ _ _ (sym (c .before .before .before .before .is3 .ensures) ∙ c .before .before .before .if3 .left) (chosen _ _ _ (sym (c .before .is4 .ensures) ∙ c .if4 .taken))))
 
-slice-aggregate-is-5 : tie.Need-slice-aggregate-is-5
-slice-aggregate-is-5 c = search needs
-
-is-requires-5 : tie.Need-is-requires-5
-is-requires-5 c κs = search needs
-
 returns-5 : tie.Need-returns-5
 returns-5 c = passed _ _ _ _ (sym (c .before .before .before .before .before .before .before .before .before .before .before .before .before .is .ensures) ∙ c .before .before .before .before .before .before .before .before .before .before .before .before .if1 .left) (passed _ _ _ _ (sym (c .before .before .before .before .before .before .before .before .before .before .is2 .ensures) ∙ c .before .before .before .before .before .before .before .before .before .if2 .left) (passed _ _ _ _ (sym (c .before .before .before .before .before .before .before .is3 .ensures) ∙ c .before .before .before .before .before .before .if3 .left) (passed _ _ _ _ (sym (c .before .before .before .before .is4 .ensures) ∙ c .before .before .before .if4 .left) (chosen _ _ _ (sym (c .before .is5 .ensures) ∙ c .if5 .taken)))))
 
-reader-of-requires : tie.Need-reader-of-requires
-reader-of-requires c κs = search needs
-
 returns-6 : tie.Need-returns-6
-returns-6 c = passed _ _ _ _ (sym (c .before .before .before .before .before .before .before .before .before .before .before .before .before .before .is .ensures) ∙ c .before .before .before .before .before .before .before .before .before .before .before .before .before .if1 .left) (passed _ _ _ _ (sym (c .before .before .before .before .before .before .before .before .before .before .before .is2 .ensures) ∙ c .before .before .before .before .before .before .before .before .before .before .if2 .left) (passed _ _ _ _ (sym (c .before .before .before .before .before .before .before .before .is3 .ensures) ∙ c .before .before .before .before .before .before .before .if3 .left) (passed _ _ _ _ (sym (c .before .before .before .before .before .is4 .ensures) ∙ c .before .before .before .before .if4 .left) (passed _ _ _ _ (sym (c .before .before .is5 .ensures) ∙ c .before .if5 .left) (c .reader-of .ensures)))))
+returns-6 c = passed _ _ _ _ (sym (c .before .before .before .before .before .before .before .before .before .before .before .before .before .before .before .before .is .ensures) ∙ c .before .before .before .before .before .before .before .before .before .before .before .before .before .before .before .if1 .left) (passed _ _ _ _ (sym (c .before .before .before .before .before .before .before .before .before .before .before .before .before .is2 .ensures) ∙ c .before .before .before .before .before .before .before .before .before .before .before .before .if2 .left) (passed _ _ _ _ (sym (c .before .before .before .before .before .before .before .before .before .before .is3 .ensures) ∙ c .before .before .before .before .before .before .before .before .before .if3 .left) (passed _ _ _ _ (sym (c .before .before .before .before .before .before .before .is4 .ensures) ∙ c .before .before .before .before .before .before .if4 .left) (passed _ _ _ _ (sym (c .before .before .before .before .is5 .ensures) ∙ c .before .before .before .if5 .left) (chosen _ _ _ (sym (c .before .is6 .ensures) ∙ c .if6 .taken))))))
+
+returns-7 : tie.Need-returns-7
+returns-7 c = passed _ _ _ _ (sym (c .before .before .before .before .before .before .before .before .before .before .before .before .before .before .before .before .before .is .ensures) ∙ c .before .before .before .before .before .before .before .before .before .before .before .before .before .before .before .before .if1 .left) (passed _ _ _ _ (sym (c .before .before .before .before .before .before .before .before .before .before .before .before .before .before .is2 .ensures) ∙ c .before .before .before .before .before .before .before .before .before .before .before .before .before .if2 .left) (passed _ _ _ _ (sym (c .before .before .before .before .before .before .before .before .before .before .before .is3 .ensures) ∙ c .before .before .before .before .before .before .before .before .before .before .if3 .left) (passed _ _ _ _ (sym (c .before .before .before .before .before .before .before .before .is4 .ensures) ∙ c .before .before .before .before .before .before .before .if4 .left) (passed _ _ _ _ (sym (c .before .before .before .before .before .is5 .ensures) ∙ c .before .before .before .before .if5 .left) (passed _ _ _ _ (sym (c .before .before .is6 .ensures) ∙ c .before .if6 .left) (c .reader-of .ensures))))))
 
 pub command-of-spec : {M : Type 1} → statement M
 command-of-spec =
     tie.close
-    (tie.spec
-    slice-aggregate-is
-    is-requires
-    returns
-    slice-aggregate-is-2
-    is-requires-2
-    returns-2
-    slice-aggregate-is-3
-    is-requires-3
-    returns-3
-    slice-aggregate-is-4
-    is-requires-4
-    returns-4
-    slice-aggregate-is-5
-    is-requires-5
-    returns-5
-    reader-of-requires
-    returns-6)
+    (tie.spec (λ c. search needs) (λ c κs. search needs) returns (λ c. search needs) (λ c κs. search needs) returns-2 (λ c. search needs) (λ c κs. search needs) returns-3 (λ c. search needs) (λ c κs. search needs) returns-4 (λ c. search needs) (λ c κs. search needs) returns-5 (λ c. search needs) (λ c κs. search needs) returns-6 (λ c κs. search needs) returns-7)
