@@ -9,9 +9,9 @@
 #include <stdio.h>
 #include <stdlib.h>
 #include <string.h>
-#include <time.h>
 
 #include "mazhkuri.h"
+#include "measure.h"
 #include "reference.h"
 
 static uint8_t base[884744], work[884744], other[884744], out1[65536], out2[65536];
@@ -21,20 +21,6 @@ static double compression;
 static const uint8_t key[32] = {1, 2, 3, 4, 5, 6, 7, 8, 9};
 /* The value of every field here is empty; its pointer is still one that can be read. */
 static const uint8_t empty[1];
-
-static double now(void) {
-  struct timespec t;
-  clock_gettime(CLOCK_MONOTONIC, &t);
-  return t.tv_sec * 1e6 + t.tv_nsec * 1e-3;
-}
-
-static uint64_t seed = 1;
-static void fill(uint8_t *to, size_t n) {
-  for (size_t i = 0; i < n; i++) {
-    seed = seed * 6364136223846793005ull + 1442695040888963407ull;
-    to[i] = (uint8_t)(seed >> 56);
-  }
-}
 
 static void check(int ok, const char *what) {
   if (!ok) {
@@ -166,6 +152,67 @@ static void bench_erase(const char *name, const uint8_t id[16], int64_t wanted) 
   line(name, ours, theirs, 0);
 }
 
+/* The check of header, marks and form alone: an insert with a token of another p is refused by 12, right after it. */
+static void bench_form(const char *name) {
+  uint8_t token[141], id[16] = {1}, nonces[24] = {1};
+  double ours = 1e18, theirs = 1e18;
+  int64_t a = 0, b = 0;
+  insert_token(7, base[1] + 1u, 0, token);
+  for (int r = 0; r < 10 * rounds; r++) {
+    MEASURE(ours, a = mazhkuri_insert(base, size, id, 16, nonces, 24, token, 141));
+    MEASURE(theirs, b = reference_insert(base, size, id, 16, nonces, 24, token));
+    check(a == -12 && b == -1, name);
+  }
+  line(name, ours, theirs, 0);
+}
+
+/* A store of 4,096 rows with a row in all of them: as many inserts of one id, of so many fields. */
+static void fill_all(unsigned fields) {
+  fresh(0, 4096);
+  for (unsigned i = 0; i < 4096; i++) add(i % fields, 0, 0, 1);
+}
+
+/* The rows of each table in any order. */
+static void shuffle(uint8_t *store) {
+  static const size_t width[4] = {61, 49, 61, 45};
+  uint8_t *at = store + 8, row[61];
+  for (int t = 0; t < 4; t++) {
+    size_t w = width[t];
+    for (size_t i = 4095; i > 0; i--) {
+      seed = seed * 6364136223846793005ull + 1442695040888963407ull;
+      size_t k = (seed >> 33) % (i + 1);
+      memcpy(row, at + w * i, w), memcpy(at + w * i, at + w * k, w), memcpy(at + w * k, row, w);
+    }
+    at += w * 4096;
+  }
+}
+
+static void bench_order(const char *name, int64_t wanted) {
+  double ours = 1e18, theirs = 1e18;
+  int64_t a = 0, b = 0;
+  for (int r = 0; r < rounds; r++) {
+    memcpy(work, base, size);
+    MEASURE(ours, a = mazhkuri_order(work, size));
+    memcpy(other, base, size);
+    MEASURE(theirs, b = reference_order(other, size));
+    check(a == b && a == wanted && memcmp(work, other, size) == 0, name);
+  }
+  line(name, ours, theirs, 0);
+}
+
+/* The check of form, and the new call. */
+static void bench_forms(void) {
+  fresh(0, 4096);
+  bench_form("check of form, all rows free");
+  fill_entries(0, 0, 2048);
+  bench_form("check of form, M and V half full");
+  fill_all(64);
+  bench_form("check of form, all rows used");
+  bench_order("order of a full store in form", 4 * 4096);
+  shuffle(base);
+  bench_order("order of a full store in random order", 4 * 4096);
+}
+
 static void bench_compact(const char *name, double floor) {
   uint8_t token[32];
   static uint8_t nonces[12 * 4096];
@@ -269,6 +316,7 @@ int main(int count, char **arguments) {
   printf("one compression of OpenSSL: %.3f us; library, reference, ratio, floor by compressions\n", compression);
   bench_token();
   bench_prepared();
+  bench_forms();
   for (int full = 0; full < 3; full++) {
     static const char *title[3][2] = {{"insert of 1, empty", "insert of 64, empty"},
                                       {"insert of 1, half full", "insert of 64, half full"},
@@ -305,6 +353,11 @@ int main(int count, char **arguments) {
   fill_entries(0, 0, 4000);
   memcpy(id, base + 8 + 61 * 4096 + 49 * 2000 + 1, 16);
   bench_erase("erase of one entry of 4,000", id, 1);
+  fresh(0, 4096);
+  fill(id, 16);
+  fill_of(0, 0, 1000, id, 1);
+  fill_entries(0, 0, 3000);
+  bench_erase("erase of an id held 1,000 times, of 4,000", id, 1000);
   for (int i = 0; i < 4; i++) {
     static const unsigned rows[4] = {1000, 4000, 1000, 4000}, labels[4] = {4, 4, 1000, 4000};
     char name[64];

@@ -14,4 +14,5 @@ int64_t reference_find(uint8_t *store, size_t n, const uint8_t token[96], uint8_
 int64_t reference_count(uint8_t *store, size_t n, const uint8_t token[32]);
 int64_t reference_compact(uint8_t *store, size_t n, const uint8_t *nonces, size_t nonce_bytes,
                           const uint8_t token[32]);
+int64_t reference_order(uint8_t *store, size_t n);
 #endif

@@ -1,12 +1,13 @@
 """The static library against the model, through the C interface: hash, F and E, on published vectors too;
 random lists of calls against the model store and the model ledger; ids with thousands of entries against the
-ledger; calls on hostile stores against the model store. Expected values come from tests/model, Python's hashlib
-and hmac, OpenSSL's libcrypto and published files, never from our own code. Exit status 1 at the first difference.
+ledger; calls on hostile stores against the model store; stores that the version before filled. Expected values come from
+tests/model, Python's hashlib and hmac, OpenSSL's libcrypto and published files, never from our own code. Exit status 1 at the
+first difference.
 
   archive.py LIBRARY [--lists N] [--hostile N] [--seed N] [--long]
 
 LIBRARY is the archive linked as a shared object (tests/run makes it). --long runs ten times as many.
-The row placing is read off the store that the library left, so that stores are compared byte for byte.
+A table's rows fix its bytes [02:W2.5], so whole stores are compared byte for byte.
 """
 import argparse
 import collections
@@ -25,7 +26,9 @@ sys.path.insert(0, str(HERE / "model"))
 
 import calls  # noqa: E402
 import compare  # noqa: E402
+import form  # noqa: E402
 import hostile  # noqa: E402
+import older  # noqa: E402
 import scheme  # noqa: E402
 import vectors  # noqa: E402
 from calls import Done, Refused  # noqa: E402
@@ -109,7 +112,7 @@ class Library:
     CALLS = {  # r: bytes that are read; w: bytes that are written; a: an array; n: a number
         "sha256": "ra", "hmac": "rra", "chacha20": "rrw", "insert_token": "rrrnnra",
         "find_token": "rrra", "count_token": "rrra", "compaction_token": "ra", "make": "nnnnw",
-        "insert": "wrrr", "erase": "wr", "find": "rrw", "count": "rr", "compact": "wrr"}
+        "insert": "wrrr", "erase": "wr", "find": "rrw", "count": "rr", "compact": "wrr", "order": "w"}
 
     def __init__(self, path):
         self.library = ctypes.CDLL(str(path))
@@ -248,6 +251,8 @@ def by_library(library, store, kind, token, call):
         told, after = library.insert(store, call.ids, call.nonces, token)
     elif kind == "Erase":
         told, after = library.erase(store, call.id)
+    elif kind == "Order":
+        told, after = library.order(store)
     else:
         told, after = library.compact(store, call.nonces, token)
     return told, None, after
@@ -266,16 +271,17 @@ def by_model(model, store, kind, token, call):
         answer = model.insert(store, token, call.nonces, call.ids)
     elif kind == "Erase":
         answer = model.erase(store, call.id)
+    elif kind == "Order":
+        answer = model.order(store)
     else:
         answer = model.compact(store, token, call.nonces)
     return answer, output, bytes(store)
 
 
 def operate(library, model, store, kind, token, call):
-    """One operation by the library, then by the model with the library's row placing: the answer, the
-    output and the store after it, which are alike."""
+    """One operation by the library and by the model: the answer, the output and the whole store after it, which are
+    alike."""
     told, output, after = by_library(library, store, kind, token, call)
-    model.place = scheme.follow(after)
     answer, wanted_output, wanted = by_model(model, store, kind, token, call)
     same(kind, told, encoded(answer))
     same(kind + ", output", output, wanted_output)
@@ -323,8 +329,9 @@ def one_list(library, model, drawn, listed, tally, repeats):
         for at, call in enumerate(listed):
             kind = type(call).__name__
             wanted, wanted_output = ledger.call(call)
-            token = None if kind == "Erase" else token_of(library, model, call, drawn.r)
-            if kind != "Erase" and token is None:
+            takes_token = kind not in ("Erase", "Order")
+            token = token_of(library, model, call, drawn.r) if takes_token else None
+            if takes_token and token is None:
                 answer, output = model.token(call), call.output if kind == "Find" else None
             else:
                 answer, output, store = operate(library, model, store, kind, token, call)
@@ -370,6 +377,7 @@ def large(library, seed):
         listed += [calls.Find(drawn.key, *field, bytes(16 * n)) for n in (10, 4096)]
         listed += [calls.Count(drawn.key, *field)]
         listed += [calls.Compact(drawn.key, nonces(12 * n)) for n in (3, 4)]
+        listed += [calls.Order()]
     one_list(library, scheme.Scheme(Other), drawn, listed, tally, Repeats())
     return "%d calls, told %s" % (sum(tally.values()), numbers_told(tally))
 
@@ -394,10 +402,11 @@ class Filled:
 
     def call(self, call):
         wanted, wanted_output = self.ledger.call(call)
-        kind, token = type(call).__name__, None if isinstance(call, calls.Erase) else self.model.token(call)
+        kind, token = type(call).__name__, self.model.token(call)
         told, output, self.store = by_library(self.library, self.store, kind, token, call)
         same(kind, told, encoded(wanted))
         same(kind + ", output", output, wanted_output)
+        same(kind + ", in form", form.in_form(self.store), True)
         self.repeats.call(self.ledger, call, wanted)
         self.calls += 1
         return wanted
@@ -432,6 +441,23 @@ class Filled:
             self.insert(u, [gone[-1]] * 2)
         self.finds()
         self.call(calls.Compact(self.key, self.r.randbytes(12 * 4096)))
+        self.finds()
+        self.older()
+
+    def older(self):
+        """The same rows as the version before might have left them: 20, and after an order the same bytes as before it, and
+        the ledger's answers [02:W2.5 W2.6 W2.10]."""
+        store = bytearray(self.store)
+        for t in scheme.tables(store).values():
+            rows = [scheme.row(store, t, i) for i in range(t.rows)]
+            self.r.shuffle(rows)
+            form.written(store, t, rows)
+        token = self.model.find_token(self.key, *self.field)
+        same("20", self.library.find(bytes(store), token, b""), (-20, b""))
+        mixed, kept = bytes(store), self.store
+        self.store = mixed
+        self.call(calls.Order())
+        same("order of rows in any order", self.store, kept)
         self.finds()
 
 
@@ -499,19 +525,9 @@ class Stores(Hostile):
         self.counts = [0, 1, 2, 5, scheme.GREATEST + 1, 2 ** 64 - 1]
         if r.random() < 0.3:
             self.counts += [scheme.GREATEST - 2, scheme.GREATEST - 1, scheme.GREATEST]
-        for _ in range(r.choice((1, 1, 2, 3, 5))):
-            r.choices((self.forge, self.repeat, self.damage, self.swap, self.free_bytes, self.mark,
-                       self.header, self.length, self.noise, self.rows, self.entry),
-                      (10, 4, 4, 3, 2, 1, 1, 1, 1, 1, 6))[0](model, store)
-            if scheme.header(store) is None:
-                break
+        self.break_contents(model, store, r.choice((1, 1, 2, 3, 5, 8)))
+        self.settle(model, store)
         return bytes(store)
-
-    def rows(self, model, store):
-        """Any bytes behind good marks."""
-        for t in scheme.tables(store).values():
-            for i in range(t.rows):
-                scheme.set_row(store, t, i, bytes([self.r.randrange(2)]) + self.bytes(t.width - 1))
 
     def other(self, right):
         """Mostly the right token; now and then damaged, random or of another length."""
@@ -523,16 +539,19 @@ class Stores(Hostile):
             return right[:at] + bytes([right[at] ^ self.r.randint(1, 255)]) + right[at + 1:]
         return self.bytes(len(right)) if kind < 0.97 else right[:-1] if kind < 0.985 else right + b"\0"
 
-    def five(self, store):
+    def six(self, store):
         """A call of each kind, with its token."""
         r, model = self.r, scheme.Scheme(self.suite)
         field, u = r.choice(FIELDS), r.randint(0, self.p)
         id, j = self.id(), r.choice((1, 1, 2, 3))
-        insert = calls.Insert(KEY, *field, self.p, u, self.bytes(12), self.bytes(12 * (j + 1)), id * j)
+        p = self.p if r.random() < 0.95 else self.p + 1
+        insert = calls.Insert(KEY, *field, p, u, self.bytes(12), self.bytes(12 * (j + 1)), id * j)
         nonces = r.choice((self.sizes[2], self.sizes[2], r.randint(0, self.sizes[2])))
-        for call in (insert, calls.Erase(id), calls.Count(KEY, *field),
+        # Wrong lengths are told before the store is looked at.
+        wrong = r.random() < 0.03
+        for call in (insert._replace(ids=id * j + b"\0" * wrong), calls.Erase(id[:15] if wrong else id), calls.Count(KEY, *field),
                      calls.Find(KEY, *field, self.bytes(self.room(model, store, field))),
-                     calls.Compact(KEY, self.bytes(12 * nonces))):
+                     calls.Compact(KEY, self.bytes(12 * nonces + wrong)), calls.Order()):
             token = model.token(call)
             yield type(call).__name__, token and self.other(token), call
 
@@ -555,7 +574,7 @@ def found(model, store, token, most=1000):
 
 def walks_far(model, store, token, most=1000):
     """Whether a find would walk a forged count, for which there is no time."""
-    if len(token) != 96 or scheme.header(store) is None or scheme.marks_wrong(store):
+    if len(token) != 96 or calls.first(model.state_conditions(store)):
         return False
     counts = model.counts(store, token[64:])
     return counts is not None and sum(counts) > most
@@ -563,11 +582,14 @@ def walks_far(model, store, token, most=1000):
 
 def hostile_stores(library, number, seed):
     drawn, tally, left_out, repeats = Stores(seed, Other, 400), {}, 0, Repeats()
+    forms, orders = form.Forms(), hostile.Orders()
     model = scheme.Scheme(Other)
     began = shown = time.time()
     for i in range(number):
         store = drawn.broken()
-        for kind, token, call in drawn.five(store):
+        if not calls.first(scheme.store_conditions(store)):
+            forms.store(store)
+        for kind, token, call in drawn.six(store):
             if kind == "Find" and walks_far(model, store, token):
                 left_out += 1
                 continue
@@ -580,18 +602,21 @@ def hostile_stores(library, number, seed):
                 print("store %d, seed %d: %s\n%r %s" % (i, seed, store.hex(), call, token and token.hex()))
                 raise
             note(tally, kind, answer)
+            orders.call(model, store, kind, token, call, answer)
             if kind == "Find":
                 repeats.find(found(model, store, token) or [], answer, len(call.output))
         shown = progress(began, shown, "hostile stores", i + 1, number)
-    missing = {6, 10, 11, 12, 13, 14, 15, 16, 17, 18, 19} - set(numbers_told(tally))
+    missing = {4, 5, 6, 10, 11, 12, 13, 14, 15, 16, 17, 18, 19, 20} - set(numbers_told(tally))
     if number >= 5000 and missing:
         raise Difference("not tried: %s" % sorted(missing))
     # A broken store tells nothing of what was erased before.
     seldom = repeats.too_seldom(number // 200, but=["after an erase"])
+    seldom.update(forms.too_seldom(number // 2000))
+    seldom.update(orders.too_seldom(number // 500))
     if number >= 5000 and seldom:
         raise Difference("not tried often enough: %s" % seldom)
-    return "%d stores, %d calls, %d finds of forged counts left out, told %s, %s" % (
-        number, sum(tally.values()), left_out, numbers_told(tally), repeats)
+    return "%d stores, %d calls, %d finds of forged counts left out, told %s, %s, %s, %s" % (
+        number, sum(tally.values()), left_out, numbers_told(tally), forms, orders, repeats)
 
 
 def long_walks(library, number, seed):
@@ -611,6 +636,7 @@ def long_walks(library, number, seed):
             model.put_c(store, cl, model.counter_tag(cl, 1), drawn.bytes(12), 0, count)
         for _ in range(2 * drawn.sizes[0]):
             drawn.entry(model, store, FIELDS[:1], [1, 2] + [n + more for n in counts for more in (-1, 0, 1)])
+        model.order(store)
         token = model.find_token(KEY, *FIELDS[0])
         shares = found(model, bytes(store), token, most=10000)
         different = len({id for ids in shares for id in ids})
@@ -622,6 +648,171 @@ def long_walks(library, number, seed):
     if seldom:
         raise Difference("not tried often enough: %s" % seldom)
     return "%d stores, counts from %d to %d, %s" % (number, min(sums), max(sums), repeats)
+
+
+def stores_before(library, number, seed):
+    """Stores that the version before filled, under its own placing and others: each call but the new one is refused by 20,
+    and after an order every find and count tells what it told [02:W2.6 W2.7 W2.8 W2.9 W2.10 W2.11]. Then a list goes on, and
+    leaves the model's bytes."""
+    r, model, out = random.Random(seed), scheme.Scheme(Other), 0
+    for i in range(number):
+        p, sizes = r.choice((0, 1, 2)), tuple(r.randint(2, 20) for _ in range(3))
+        place = older.lowest if i % 2 else older.random_place(r)
+        store, _, before = older.filled(Other, place, p, sizes, r.randint(1, 25), r, junk=i % 5 == 0)
+        told = older.readings(before, store, p)
+        others = [calls.Insert(older.KEY, *older.FIELDS[0], p, 0, bytes(12), bytes(24), bytes(16)), calls.Erase(bytes(16)),
+                  calls.Count(older.KEY, *older.FIELDS[0]), calls.Find(older.KEY, *older.FIELDS[0], bytes(48)),
+                  calls.Compact(older.KEY, b"")]
+        if older.out_of_form(store):
+            out += 1
+            for call in others:
+                kind = type(call).__name__
+                answer, _, _ = operate(library, model, store, kind, model.token(call), call)
+                same("%s on a store of the version before" % kind, answer, Refused(20, ()))
+        rows = {name: sorted(scheme.used_rows(store, t)) for name, t in scheme.tables(store).items()}
+        answer, _, after = operate(library, model, store, "Order", None, calls.Order())
+        same("how many rows", answer, Done((sum(map(len, rows.values())),)))
+        same("the rows", {name: scheme.used_rows(after, t) for name, t in scheme.tables(after).items()}, rows)
+        for field in older.FIELDS:
+            for call in (calls.Find(older.KEY, *field, bytes(16 * 4096)), calls.Count(older.KEY, *field)):
+                answer, output, _ = operate(library, model, after, type(call).__name__, model.token(call), call)
+                same("%s after an order" % type(call).__name__, (answer, output), told.pop(0))
+        for call in others:
+            _, _, after = operate(library, model, after, type(call).__name__, model.token(call), call)
+    if out < number // 2:
+        raise Difference("only %d of %d stores were out of form" % (out, number))
+    return "%d stores, %d of them out of form" % (number, out)
+
+
+def two_histories(library, number, seed):
+    """The same inserts in two orders leave the same bytes [02:W2.5]."""
+    r, moved = random.Random(seed), 0
+    for _ in range(number):
+        told = compare.two_histories(r, Other, library_calls(library))
+        if isinstance(told, str):
+            raise Difference(told)
+        moved += told
+    return "%d pairs, %d inserts in another place" % (number, moved)
+
+
+def library_calls(library):
+    """The library in the place of a model store."""
+    model = scheme.Scheme(Other)
+
+    class ByLibrary:
+        make = model.make
+
+        def call(self, store, call):
+            token = model.token(call)
+            answer, output, after = operate(library, model, bytes(store), type(call).__name__, token, call)
+            store[:] = after
+            return answer, output
+
+        def order(self, store):
+            return self.call(store, calls.Order())[0]
+    return ByLibrary
+
+
+def last_and_first(library, seed):
+    """The largest tables, full and nearly: one row out of its place, at the first pair, the last pair and between, in each
+    table; a byte left over in the first and the last free row; rows that a search meets first and last."""
+    r, model, sizes, tried = random.Random(seed), scheme.Scheme(Other), (4096, 4096, 4096), 0
+    full = bytearray(scheme.length_of(*sizes))
+    model.make(full, 0, *sizes)
+    for name, t in scheme.tables(full).items():
+        form.written(full, t, sorted(b"\1" + r.randbytes(t.width - 1) for _ in range(t.rows)))
+    token = model.count_token(KEY, *FIELDS[0])
+
+    def told(store, wanted):
+        nonlocal tried
+        tried += 1
+        same("a count", library.count(bytes(store), token)[0], wanted)
+
+    told(full, 0)
+    for name, t in scheme.tables(full).items():
+        for used in (4096, 4095, 2048, 2, 1, 0):
+            store = bytearray(full)
+            rows = [scheme.row(full, t, i) for i in range(used)]
+            free = [bytes(t.width)] * (4096 - used)
+            form.written(store, t, rows + free)
+            told(store, 0)
+            for i in {0, 1, used // 2, used - 2} & set(range(used - 1)):
+                form.written(store, t, rows[:i] + [rows[i + 1], rows[i]] + rows[i + 2:] + free)
+                told(store, -20)
+            for i in {0, len(free) // 2, len(free) - 1} & set(range(len(free))):
+                for at in (1, t.width - 1, r.randint(1, t.width - 1)):
+                    left = bytearray(t.width)
+                    left[at] = r.choice((1, 0x80, 255))
+                    form.written(store, t, rows + free[:i] + [bytes(left)] + free[i + 1:])
+                    told(store, -20)
+            if 0 < used < 4096:
+                form.written(store, t, free[:1] + rows + free[1:])
+                told(store, -20)
+                form.written(store, t, rows[:-1] + free + rows[-1:])
+                told(store, -20)
+                after = library.order(bytes(store))
+                form.written(store, t, rows + free)
+                same("an order", after, (sum(len(scheme.used(store, u)) for u in scheme.tables(store).values()), bytes(store)))
+    return "%d stores of 4,096 rows" % tried
+
+
+def around(r, t, wanted, n, place):
+    """n rows with some of one tag at a place: all others smaller, greater, or on both sides of it, some by a little."""
+    tag, others = int.from_bytes(wanted[0][1:33], "big"), []
+    while len(others) < n - len(wanted):
+        below = {"first": 0, "last": 1, "between": r.randrange(2)}[place]
+        distance = r.choice((1, 2, r.randint(1, 2 ** 200), r.randint(1, 2 ** 255)))
+        other = max(0, tag - distance) if below else min(2 ** 256 - 1, tag + distance)
+        if other != tag:
+            others.append(b"\1" + other.to_bytes(32, "big") + r.randbytes(t.width - 33))
+    return sorted(wanted + others)
+
+
+def searches(library, number, seed):
+    """Entries, counters and anchors whose rows are first, last or between in their tables, of any number of rows up to the
+    largest, with neighbours that differ from them by one, and several rows of one tag: the first of them is the one
+    [01:ST13]. Each call against the model, byte for byte."""
+    r, model, field, tally = random.Random(seed), scheme.Scheme(Other), FIELDS[0], {}
+    ids = [r.randbytes(16) for _ in range(3)]
+    for i in range(number):
+        big = i % 16 == 0
+        rows = r.choice((4095, 4096)) if big else r.choice((4, 5, 7, 8, 9, 15, 16, 17, 31, 33, 60))
+        free = r.choice((0, 1, rows // 2))
+        p, sizes = 0, (rows, rows, rows)
+        store = bytearray(scheme.length_of(*sizes))
+        model.make(store, p, *sizes)
+        t = scheme.tables(store)
+        token = model.insert_token(KEY, *field, p, 0, r.randbytes(12))
+        mt, me, cl = token[1:33], token[33:65], token[65:97]
+        nonces = [r.randbytes(12) for _ in range(4)]
+        entries = [b"\1" + model.entry_tag(mt, 1) + n + model.E(me, n, r.choice(ids)) for n in nonces[:r.choice((1, 2, 3))]]
+        kind = r.choice((model.counter_tag, model.anchor_tag))
+        counters = [model.c_row(cl, kind(cl, 1), n, 0 if kind == model.counter_tag else 3, r.randint(1, 4))
+                    for n in nonces[:r.choice((1, 1, 2))]]
+        place = r.choice(("first", "last", "between"))
+        used = max(rows - free, 4)
+        form.written(store, t["M"], around(r, t["M"], entries, used, place) + [bytes(61)] * (rows - used))
+        form.written(store, t["C"], around(r, t["C"], counters, used, place) + [bytes(61)] * (rows - used))
+        # V's rows of an id name the first, the last and some other rows of M
+        m = scheme.used_rows(store, t["M"])
+        named = [m[0], m[-1], r.choice(m), r.choice(m)] + entries[:1]
+        ways = [b"\1" + r.choice(ids) + x[1:33] for x in r.sample(named, r.randint(1, min(4, used)))]
+        ways = ways[:used] + [b"\1" + r.choice((bytes(16), r.randbytes(16), b"\xff" * 16)) + r.randbytes(32) for _ in range(used - len(ways))]
+        form.written(store, t["V"], sorted(ways[:used]) + [bytes(49)] * (rows - used))
+        model.put(store, "S", *[b"\1" + token[97:]] * r.choice((1, 2)))
+        store = bytes(store)
+        same("in form", form.in_form(store), True)
+        for call, given in ((calls.Count(KEY, *field), model.count_token(KEY, *field)),
+                            (calls.Find(KEY, *field, bytes(64)), model.find_token(KEY, *field)),
+                            *((calls.Erase(id), None) for id in ids),
+                            (calls.Insert(KEY, *field, p, 0, bytes(12), r.randbytes(24), ids[0]), token),
+                            (calls.Compact(KEY, r.randbytes(12 * 4)), model.compact_token(KEY))):
+            answer, _, _ = operate(library, model, store, type(call).__name__, given, call)
+            note(tally, type(call).__name__, answer)
+    often = {kind: n for (kind, told), n in tally.items() if told == "done"}
+    if len(often) < 5 or min(often.values()) < number // 10:
+        raise Difference("not tried often enough: %r" % tally)
+    return "%d stores, done %s, told %s" % (number, often, numbers_told(tally))
 
 
 def main():
@@ -644,6 +835,10 @@ def main():
              ("published vectors", lambda: published(library)),
              ("the largest store", lambda: large(library, given.seed)),
              ("ids with many entries", lambda: repeated(library, given.seed)),
+             ("first and last rows of the largest tables", lambda: last_and_first(library, given.seed)),
+             ("searches", lambda: searches(library, many * 400, given.seed)),
+             ("stores of the version before", lambda: stores_before(library, many * given.lists // 4, given.seed)),
+             ("two histories", lambda: two_histories(library, many * given.lists // 4, given.seed)),
              ("lists", lambda: lists(library, many * given.lists, given.seed)),
              ("hostile stores", lambda: hostile_stores(library, many * given.hostile, given.seed)),
              ("counts past the rows", lambda: long_walks(library, many * 40, given.seed))]

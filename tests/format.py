@@ -62,6 +62,23 @@ def by_library(library, lines, inserted, compacted):
     same("count", library.count(store[1], lines["count token"])[0], 1)
     same("compaction", library.compact(store[1], ANCHOR_NONCE, lines["compaction token"]),
          (2**32 + 1, compacted))
+    # Of one row a table's order is that of the version before, whose stores an order takes [02:W2.6 W2.8].
+    same("order", library.order(inserted), (4, inserted))
+    same("order after the compaction", library.order(compacted), (3, compacted))
+    for name, table in scheme.tables(inserted).items():
+        left = bytearray(compacted if name == "S" else store_without(inserted, table))
+        left[table.start + table.width - 1] = 7
+        same("bytes left in a free row of " + name, library.count(bytes(left), lines["count token"])[0], -20)
+        cured = bytearray(left)
+        cured[table.start + table.width - 1] = 0
+        same("order of it", library.order(bytes(left)), (3, bytes(cured)))
+
+
+def store_without(store, table):
+    """The store with the table's one row freed."""
+    store = bytearray(store)
+    store[table.start:table.start + table.width] = bytes(table.width)
+    return store
 
 
 def printed(lines):

@@ -5,7 +5,7 @@
   tool.py --kills N       with as many interrupted runs (default 1000; 300 where they take more than a minute)
   tool.py --only NAME     one test, by the name that its last line has
 
-Tests: the worked list of document 01 ('A day in the ledger'), ids with several entries, bad words, office and server apart, files that are no store,
+Tests: the worked list of document 01 ('A day in the ledger'), ids with several entries, rows in byte order, bad words, office and server apart, files that are no store,
 refusals from the state, the largest store on a small stack, a disk that is full, a folder that cannot
 be written, no randomness, links, owner and mode, what a lock says, several tools at once, each call of the
 system failing or never reached, every state that a power cut may leave, and runs interrupted by kill -9. What
@@ -31,6 +31,8 @@ import time
 HERE = pathlib.Path(__file__).resolve().parent
 sys.path.insert(0, str(HERE / "model"))
 import disk  # noqa: E402
+import form  # noqa: E402
+import older  # noqa: E402
 import scheme  # noqa: E402
 from gate import left_out  # noqa: E402
 from primitives import Real  # noqa: E402
@@ -125,6 +127,10 @@ class Bench:
         rows = scheme.tables(store)["V"]
         return [scheme.row(store, rows, i)[1:17].hex() for i in scheme.used(store, rows)]
 
+    def in_form(self):
+        """Whether the store's rows stand in byte order, by the sentences of document 02."""
+        return form.in_form(self.store.read_bytes())
+
     def model_finds(self, field="hue", value="red"):
         """What the model finds in the bytes that the tool left."""
         model, store = scheme.Scheme(Real), self.store.read_bytes()
@@ -213,12 +219,100 @@ def each_once(b):
     holds(9, B, A, C, D)
 
 
+def out_of_form(store, name="M"):
+    """The store with the first and the last used row of a table exchanged."""
+    store = bytearray(store)
+    t = scheme.tables(store)[name]
+    first, last = scheme.used(store, t)[0], scheme.used(store, t)[-1]
+    one, two = scheme.row(store, t, first), scheme.row(store, t, last)
+    scheme.set_row(store, t, first, two)
+    scheme.set_row(store, t, last, one)
+    expect(not form.in_form(store), f"{name}: two equal rows exchanged")
+    return bytes(store)
+
+
+def in_order(b):
+    """Rows in byte order after every command [02:W2.1 W2.2 W2.3]; a store of the version before is refused by 20, with what to
+    do [02:W2.11], and `order` puts it in form, keeps every row and prints how many there are [02:W2.6 W2.7 W2.8]: then every
+    find and count prints what it told before [02:W2.10]."""
+    r, model = random.Random(5), scheme.Scheme(Real)
+    b.key.write_bytes(older.KEY)
+
+    def others(share=0):
+        return [["insert", "store", "key", "hue", "red", share, ident(1)], ["find", "store", "key", "hue", "red"],
+                ["count", "store", "key", "hue", "red"], ["erase", "store", ident(1)], ["compact", "store", "key"], ["show", "store"]]
+
+    def mode():
+        return stat.S_IMODE(b.store.stat().st_mode)
+
+    def orders(store, rows):
+        """An order of these bytes, with one more of what it left."""
+        b.store.write_bytes(store)
+        b.store.chmod(0o640)
+        wanted = bytearray(store)
+        model.order(wanted)
+        for _ in range(2):
+            expect(b.answer("order", "store") == f"{rows}\n", f"an order of {rows} rows")
+            expect(b.store.read_bytes() == wanted and mode() == 0o640, "an order leaves other bytes or another mode")
+
+    for turn in range(12):
+        p, sizes = r.choice((0, 1, 2)), tuple(r.randint(3, 9) for _ in range(3))
+        place = older.lowest if turn % 2 else older.random_place(r)
+        store, _, before = older.filled(Real, place, p, sizes, r.randint(6, 14), r, junk=turn % 3 == 0)
+        told = older.readings(before, store, p)
+        expect(older.out_of_form(store), "a store of the version before is in form")
+        b.store.write_bytes(store)
+        for words in others():
+            b.refused(words, "refused 20", "20: ")
+            expect("mazhkuri order STORE" in b.run(*words)[1], f"{words}: the message of 20 does not say what to do")
+        token = b.answer("token", "insert", "key", "hue", "red", (p + 1) % 3, 0)[:-1]
+        b.refused(["insert", "store", "--token", token, ident(1)], "refused 20", "20: ")
+        orders(store, sum(len(scheme.used(store, t)) for t in scheme.tables(store).values()))
+        for field in older.FIELDS:
+            name, value = (text.decode() for text in field)
+            answer, output = told.pop(0)
+            ids = [part.hex() for part in scheme.parts(output[:16 * answer.values[0]], 16)]
+            expect(b.found(name, value) == ids, f"a find of {name}={value} after an order")
+            expect(b.answer("count", "store", "key", name, value) == f"{told.pop(0)[0].values[0]}\n", f"a count of {name}={value} after an order")
+    # each command leaves a store in form; in each table two rows exchanged, a gap, a byte left over
+    b.store.unlink()
+    b.answer("new", "store", 1, 8, 8, 8)
+    expect(b.answer("order", "store") == "0\n", "an order of an empty store")
+    for words in (["insert", "store", "key", "hue", "red", 0, ident(1), ident(2), ident(1)], ["insert", "store", "key", "size", "L", 1, ident(3)], ["erase", "store", ident(2)],
+                  ["compact", "store", "key"], ["insert", "store", "key", "hue", "red", 1, ident(4), ident(5)], ["insert", "store", "key", "hue", "red", 1, ident(1)]):
+        b.answer(*words)
+        expect(b.in_form(), f"{words}: the rows are not in byte order")
+    good = b.store.read_bytes()
+    rows = sum(len(scheme.used(good, t)) for t in scheme.tables(good).values())
+    for name, t in scheme.tables(good).items():
+        n = len(scheme.used(good, t))
+        gap, left, last = bytearray(good), bytearray(good), bytearray(good)
+        scheme.set_row(gap, t, 7, scheme.row(good, t, 0))
+        scheme.set_row(gap, t, 0, bytes(t.width))
+        left[t.start + t.width * n + 1] = 1
+        last[t.start + t.width * 8 - 1] = 0x80
+        for store in (out_of_form(good, name), gap, left, last):
+            b.store.write_bytes(store)
+            for words in others():
+                b.refused(words, "refused 20", "20: ")
+            orders(store, rows)
+            expect(b.store.read_bytes() == good, f"{name}: an order leaves other bytes")
+        marked = bytearray(out_of_form(good, name))
+        marked[scheme.tables(good)["S"].start + 45 * 7] = 2
+        b.store.write_bytes(marked)
+        for words in others() + [["order", "store"]]:
+            b.refused(words, "refused 11", "11: ")
+
+
 def bad_words(b):
     a = ident(1)
     b.refused([], "misused", "expected: a command of: new")
     b.refused(["look"], "misused", "expected: a command of: new")
     b.refused(["find", "store", "key", "hue"], "misused", "expected: mazhkuri find STORE KEYFILE FIELD VALUE")
     b.refused(["insert", "store", "key", "hue", "red"], "misused", "expected: mazhkuri insert")
+    for words in (["order"], ["order", "store", "key"], ["order", "store", a], ["order", "store", "--token", a]):
+        b.refused(words, "misused", "expected: mazhkuri order STORE")
+    expect("mazhkuri order STORE" in b.answer("help", "order"), "help of order")
     b.refused(["insert", "store", "key", "hue", "red", 0], "refused 5", "5: an insert takes 1 to 64 ids")
     b.refused(["insert", "store", "key", "hue", "red", 0] + [a] * 65, "refused 5", "5: ")
     b.refused(["insert", "store", "key", "hue", "red", 2, a], "refused 3", "3: SHARE must be 0 to 1")
@@ -235,7 +329,7 @@ def bad_words(b):
     b.refused(["count", "store", "key", "hue", "v" * 70000], "failed", "\n")
     expect(b.answer("count", "store", "key", "f" * 255, "v" * 1024) == "0\n", "the longest field")
     for path in ("s" * n for n in (4090, 4096, 4097)):
-        for words in (["show", path], ["find", "store", path, "hue", "red"], ["erase", path, a], ["insert", path, "key", "hue", "red", 0, a],
+        for words in (["show", path], ["find", "store", path, "hue", "red"], ["erase", path, a], ["order", path], ["insert", path, "key", "hue", "red", 0, a],
                       ["compact", path, "key"], ["new", path, 1, 4, 4, 4], ["key", path]):
             b.refused(words, "failed", "File name too long")
     b.refused(["new", "store", 1, 4, 4, 4], "failed", "there already")
@@ -343,7 +437,7 @@ def no_stores(b):
     """Files that are no store: refused by 10 or 11, and left as they are [01:RS2 RS3]."""
     good = b.store.read_bytes()
     commands = [["insert", "store", "key", "hue", "red", 0, ident(1)], ["find", "store", "key", "hue", "red"],
-                ["count", "store", "key", "hue", "red"], ["erase", "store", ident(1)], ["compact", "store", "key"], ["show", "store"]]
+                ["count", "store", "key", "hue", "red"], ["erase", "store", ident(1)], ["compact", "store", "key"], ["order", "store"], ["show", "store"]]
     foreign = random.Random(1).randbytes(len(good))
     for content in (b"", good[:1], good[:7], good[:8], good[:-1], good + b"\0", b"\2" + good[1:], b"\1\20" + good[2:], foreign, BUILT.read_bytes()):
         b.store.write_bytes(content)
@@ -403,17 +497,21 @@ def states(b):
     out, err = b.run("compact", "store", "key")
     expect(out == "refused 13\n" and err.endswith("before it: 0 0\n"), f"a compaction of a damaged store: {out!r} {err!r}")
     store_is(fresh)
-    b.answer("insert", "store", "key", "size", "L", 0, ident(1))
-    first, = scheme.used(b.store.read_bytes(), rows)
-    b.answer(*hue, ident(2))
-    damaged = bytearray(b.store.read_bytes())
-    second, = set(scheme.used(damaged, rows)) - {first}
-    damaged[rows.start + rows.width * second + 45] ^= 1
+    fields = {("size", "L"): ident(1), ("hue", "red"): ident(2)}
+    for field, id in fields.items():
+        b.answer("insert", "store", "key", *field, 0, id)
+    # the log is in byte order, by the tokens' nonces: which field comes second differs
+    damaged, model, key = bytearray(b.store.read_bytes()), scheme.Scheme(Real), b.key.read_bytes()
+    cls = {model.F(model.counter_key(key, *(x.encode() for x in field)), scheme.number(0)): field for field in fields}
+    first, second = model.labels_of_s(damaged, model.compact_token(key))
+    damaged[rows.start + rows.width * scheme.lookup(damaged, rows, model.counter_tag(second, 1)) + 45] ^= 1
     store_is(damaged)
     out, err = b.run("compact", "store", "key")
     expect(out == "refused 13\n" and err.endswith("before it: 1 1\n"), f"a compaction that meets damage second: {out!r} {err!r}")
     expect("log      (S) [##########..........] 1 of 2 rows used" in b.answer("show", "store"), "what was treated before the damage stays treated")
-    expect(b.found("size", "L") == [ident(1)], "a field treated before the damage")
+    expect(b.in_form(), "a compaction that meets damage leaves rows out of order")
+    expect(b.found(*cls[first]) == [fields[cls[first]]], "a field treated before the damage")
+    b.refused(["count", "store", "key", *cls[second]], "refused 13", "13: ")
     store_is(fresh)
     for n in range(2):
         expect(b.answer(*hue, ident(n)) == f"{n + 1}\n", "an insert for each row of S")
@@ -432,9 +530,21 @@ def small_stack(b):
     ids = [ident(n) for n in range(64)]
     limit = {"preexec_fn": lambda: resource.setrlimit(resource.RLIMIT_STACK, (2 << 20, 2 << 20))}
     for words, answer in ([["insert", "store", "key", "hue", "red", 15, *ids], "64\n"], [["find", "store", "key", "hue", "red"], "\n".join(ids) + "\n"],
-                          [["count", "store", "key", "hue", "red"], "64\n"], [["erase", "store", ids[0]], "1\n"], [["compact", "store", "key"], "1 1\n"]):
+                          [["count", "store", "key", "hue", "red"], "64\n"], [["erase", "store", ids[0]], "1\n"], [["compact", "store", "key"], "1 1\n"],
+                          [["order", "store"], "127\n"]):
         expect(b.run(*words, **limit) == (answer, ""), f"{words[0]} with a small stack")
     expect(b.run("show", "store", **limit)[0].startswith("a store for shares 0 to 15\n"), "show with a small stack")
+    # every row used, in any order
+    fresh, r = b.store.read_bytes(), random.Random(8)
+    full, wanted = bytearray(fresh), bytearray(fresh)
+    for t in scheme.tables(full).values():
+        used = [b"\1" + r.randbytes(t.width - 1) for _ in range(t.rows)]
+        form.written(full, t, used)
+        form.written(wanted, t, sorted(used))
+    b.store.write_bytes(full)
+    expect(b.run("count", "store", "key", "hue", "red", **limit)[0] == "refused 20\n", "20 on a full store")
+    expect(b.run("order", "store", **limit) == ("16384\n", "") and b.store.read_bytes() == wanted, "an order of a full store with a small stack")
+    b.store.write_bytes(fresh)
     # counts that sum to either side of the rows of the largest table: a find then keeps another number of ids
     fresh, model, key = b.store.read_bytes(), scheme.Scheme(Real), b.key.read_bytes()
     for count in (4093, 4094, 5000):
@@ -450,7 +560,7 @@ def small_stack(b):
 def no_room(b):
     """A write that fails: the store is as it was."""
     insert = ["insert", "store", "key", "hue", "red", 0, ident(2)]
-    changing = [insert, ["erase", "store", ident(1)], ["compact", "store", "key"]]
+    changing = [insert, ["erase", "store", ident(1)], ["compact", "store", "key"], ["order", "store"]]
     for limit in (100, 500):
         for words in changing:
             b.refused(words, "failed", "cannot write store.new: File too large", restore_signals=False,
@@ -505,7 +615,7 @@ def no_room(b):
         source, none = b.folder / "no.c", b.folder / "no.so"
         source.write_text("int getentropy(void *p, unsigned long n) { return -1; }\n")
         subprocess.run(["cc", "-shared", "-fPIC", "-o", none, source], check=True)
-        for words in changing[:1] + changing[2:] + [["key", "key3"]]:
+        for words in [changing[0], changing[2], ["key", "key3"]]:
             b.refused(words, "failed", "cannot get random bytes", env={"LD_PRELOAD": str(none)})
         expect(not (b.folder / "key3").exists(), "a key of no randomness")
         tried.append("no randomness")
@@ -519,7 +629,7 @@ def links(b):
     target = b.store.rename(b.folder / "target")
     b.store.symlink_to("target")
     insert = ["insert", "store", "key", "hue", "red", 0, ident(1)]
-    for words in (insert, ["erase", "store", ident(1)], ["compact", "store", "key"], ["new", "store", 1, 4, 4, 4]):
+    for words in (insert, ["erase", "store", ident(1)], ["compact", "store", "key"], ["order", "store"], ["new", "store", 1, 4, 4, 4]):
         b.refused(words, "failed", "store is a link: give the name of the file itself")
     expect(b.answer("insert", "target", *insert[2:]) == "1\n" and b.found() == [ident(1)], "a store is read through a link")
     target.unlink()
@@ -535,7 +645,7 @@ def modes(b):
         return s.st_uid, s.st_gid, stat.S_IMODE(s.st_mode)
 
     def kept(mode, uid, gid, then, **who):
-        for n, words in enumerate((["insert", "store", "key", "hue", "red", 0, ident(1)], ["erase", "store", ident(1)], ["compact", "store", "key"])):
+        for n, words in enumerate((["insert", "store", "key", "hue", "red", 0, ident(1)], ["erase", "store", ident(1)], ["compact", "store", "key"], ["order", "store"])):
             os.chown(b.store, uid, gid)
             os.chmod(b.store, mode)
             out, err = b.run(*words, **who)
@@ -563,7 +673,7 @@ def modes(b):
         # a file that others may open when its mode is set could be read by them later
         os.chown(b.store, me, mine)
         os.chmod(b.store, 0o600)
-        for words in (["insert", "store", "key", "hue", "red", 0, ident(1)], ["erase", "store", ident(1)], ["compact", "store", "key"], ["key", "key2"]):
+        for words in (["insert", "store", "key", "hue", "red", 0, ident(1)], ["erase", "store", ident(1)], ["compact", "store", "key"], ["order", "store"], ["key", "key2"]):
             out, err, _, calls = b.watched(words, umask=0o022)
             expect(err == "" and not out.startswith(UNDONE), f"modes: {words}: {out!r} {err!r}")
             before = [int(c.words[1], 8) for c in calls if c.name == "fchmod"]
@@ -629,7 +739,7 @@ def lock(b):
     """What a lock says: its line, what a tool says that finds it, whatever it holds, and that a lock that cannot be written is not left."""
     here, at = os.uname().nodename, b.folder / "store.lock"
     erase = ["erase", "store", ident(1)]
-    changing = [["insert", "store", "key", "hue", "red", 0, ident(1)], erase, ["compact", "store", "key"], ["new", "store", 1, 4, 4, 4]]
+    changing = [["insert", "store", "key", "hue", "red", 0, ident(1)], erase, ["compact", "store", "key"], ["order", "store"], ["new", "store", 1, 4, 4, 4]]
     unknown = "another mazhkuri is changing this store: try again; if none is running, one was stopped: remove {}\n"
     running = "process {} is changing this store: wait until it has ended, then try again (if that is no mazhkuri, remove {})\n"
     stopped = "process {} was stopped while it was changing this store, which is whole: remove {}, then try again\n"
@@ -644,7 +754,7 @@ def lock(b):
 
     def unwritten(said, **more):
         """The lock cannot be written: nothing is changed, and no lock is left."""
-        for words in changing[:3]:
+        for words in changing[:4]:
             before = b.files()
             out, err = b.run(*words, **more)
             expect(out == "failed\n" and err == said and b.files() == before, f"lock: {words}: {out!r} {err!r}, {sorted(b.files())}")
@@ -725,7 +835,7 @@ def lock(b):
         expect(told[0] == "failed\n" and told[1] == unknown.format(at.name), f"lock: a process that ended by itself: {told}")
         at.unlink(missing_ok=True)
     long = {"env": {"LD_PRELOAD": str(libraries["held"])}}
-    for words, answer in ((changing[0], "1\n"), (erase, "1\n"), (changing[2], "1 1\n")):
+    for words, answer in ((changing[0], "1\n"), (erase, "1\n"), (changing[2], "1 1\n"), (changing[3], "1\n")):
         before = b.store.read_bytes()
         for force in (True, False):
             run = b.start(*words, env={**long["env"], "STOP": "1"})
@@ -777,7 +887,7 @@ def at_once(b, tools=4, each=25):
 
 # For each changing command how many calls of the system it makes at least, and which must be among them.
 REPLACING = {"readlink", "open", "getpid", "gethostname", "read", "close", "fstat", "mkstemp", "fchown", "fchmod", "write", "fsync", "rename", "unlink"}
-MAKES = {"insert": (30, REPLACING | {"getentropy"}), "erase": (20, REPLACING), "compact": (25, REPLACING | {"getentropy"}),
+MAKES = {"insert": (30, REPLACING | {"getentropy"}), "erase": (20, REPLACING), "order": (20, REPLACING), "compact": (25, REPLACING | {"getentropy"}),
          "new": (12, {"readlink", "open", "getpid", "gethostname", "write", "fsync", "close", "rename", "unlink"}),
          "key": (10, {"getentropy", "open", "mkstemp", "rename", "fchmod", "write", "fsync", "close"})}
 
@@ -792,7 +902,7 @@ def compiled(folder):
         return {line.split()[0].split("@")[0] for line in lines}
 
     # what is no call of the system
-    others = {"memcpy", "memset", "__errno_location", "__xpg_strerror_r", "__libc_start_main", "__cxa_finalize", "__gmon_start__",
+    others = {"memcpy", "memmove", "memset", "__errno_location", "__xpg_strerror_r", "__libc_start_main", "__cxa_finalize", "__gmon_start__",
               "_ITM_registerTMCloneTable", "_ITM_deregisterTMCloneTable"}
     called = names("--undefined-only", BUILT) - others
     unseen = called - names("--defined-only", library)
@@ -829,7 +939,7 @@ def every_point(b):
     begin, calls = b.store.read_bytes(), 0
 
     def state():
-        return b.found(), b.answer("show", "store")
+        return b.run("find", "store", "key", "hue", "red"), b.run("show", "store"), b.in_form()
 
     def clean():
         for path in list(b.folder.iterdir()):
@@ -837,7 +947,8 @@ def every_point(b):
                 path.unlink()
         b.store.write_bytes(begin)
 
-    for words in (inserted + [ident(3)], ["erase", "store", ident(1)], ["compact", "store", "key"]):
+    for words, begin in ((inserted + [ident(3)], begin), (["erase", "store", ident(1)], begin), (["compact", "store", "key"], begin),
+                         (["order", "store"], out_of_form(begin))):
         clean()
         old, answer, new = state(), b.answer(*words), state()
         expect(old != new, f"{words} changes nothing")
@@ -909,9 +1020,10 @@ def power_cut(b):
             cut.lay(files)
             return [cut.run(*words) for words in (["show", "store"], ["find", "store", "key", "hue", "red"], ["show", "store2"], ["find", "store", "key2", "hue", "red"])]
 
-        for words, name, order in ((insert + [ident(3)], "store", answering), (["erase", "store", ident(1)], "store", answering),
-                                   (["compact", "store", "key"], "store", answering), (["new", "store2", 1, 4, 4, 4], "store2", silent),
-                                   (["key", "key2"], "key2", silent)):
+        mixed = {**begin, "store": out_of_form(begin["store"])}
+        for words, name, order, begin in ((insert + [ident(3)], "store", answering, begin), (["erase", "store", ident(1)], "store", answering, begin),
+                                          (["compact", "store", "key"], "store", answering, begin), (["order", "store"], "store", answering, mixed),
+                                          (["new", "store2", 1, 4, 4, 4], "store2", silent, begin), (["key", "key2"], "key2", silent, begin)):
             b.lay(begin)
             out, calls, states = ordered(words, name, order)
             end = b.files()
@@ -955,9 +1067,9 @@ def interrupted(b, kills):
         if 300 <= n and n % 25 == 0 and 60 < time.monotonic() - began:
             kills = n
             break
-        compacting = n % 10 == 9
+        compacting, ordering = n % 10 == 9, n % 10 == 4
         new = ident(n)
-        words = ["compact", "store", "key"] if compacting else ["insert", "store", "key", "hue", "red", n % 2, new]
+        words = ["compact", "store", "key"] if compacting else ["order", "store"] if ordering else ["insert", "store", "key", "hue", "red", n % 2, new]
         run = b.start(*words)
         time.sleep(r.uniform(0, 1.2 * usual))
         run.kill()
@@ -965,7 +1077,7 @@ def interrupted(b, kills):
         expect(not out.startswith(UNDONE), f"interrupted: {out!r} {err!r}")
         ended += run.returncode != 0
         compactions += compacting
-        if not compacting:
+        if not compacting and not ordering:
             (answered if out.endswith("\n") else unanswered).append(new)
         halves += (b.folder / "store.new").exists()
         if left.exists():
@@ -982,6 +1094,7 @@ def interrupted(b, kills):
             lost += len(set(answered) - set(found))
             twice += len(entries) - len(set(entries))
             expect(set(entries) == set(found), "interrupted: the find gives other ids than have entries")
+            expect(b.in_form(), "interrupted: the rows are not in byte order")
             expect(lost == 0 and twice == 0, f"interrupted: {lost} ids are lost, {twice} are there twice")
             expect(set(found) <= set(answered) | set(unanswered), "interrupted: an id that was never given")
     b.answer("compact", "store", "key")
@@ -1001,7 +1114,7 @@ def main():
     global shim
     if not BUILT.exists():
         sys.exit("tests/tool.py: there is no target/bin/mazhkuri: run `rt check mazhkuri` first")
-    tests = [("the worked list", worked_list, [1, 4, 4, 4]), ("ids with several entries", each_once, [1, 150, 20, 20]), ("bad words", bad_words, [1, 4, 4, 4]), ("office and server", halves, [1, 8, 8, 8]), ("files that are no store", no_stores, [1, 4, 4, 4]),
+    tests = [("the worked list", worked_list, [1, 4, 4, 4]), ("ids with several entries", each_once, [1, 150, 20, 20]), ("rows in byte order", in_order, [1, 8, 8, 8]), ("bad words", bad_words, [1, 4, 4, 4]), ("office and server", halves, [1, 8, 8, 8]), ("files that are no store", no_stores, [1, 4, 4, 4]),
              ("refusals from the state", states, [0, 8, 4, 2]), ("the largest store", small_stack, [15, 4096, 4096, 4096]),
              ("writes that fail", lambda b: (b.answer("insert", "store", "key", "hue", "red", 0, ident(1)), no_room(b)), [1, 8, 8, 8]),
              ("links", links, [1, 4, 4, 4]), ("modes", modes, [1, 64, 64, 64]), ("lock", lock, [1, 4, 4, 4]), ("tools at once", at_once, [1, 200, 200, 200]),

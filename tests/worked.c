@@ -1,6 +1,7 @@
 /* The worked list of calls of document 01 (G1 to G8) through the C interface, then a list whose ids have
- * several entries (document 02, request 1), with every answer and find checked. Each argument has a heap block of exactly its size, so that valgrind sees a read or
- * write past it; tests/run runs it so. */
+ * several entries and one with rows out of form (document 02, requests 1 and 2), with every answer and find
+ * checked. Each argument has a heap block of exactly its size, so that valgrind sees a read or write past it;
+ * tests/run runs it so. */
 #include "../include/mazhkuri.h"
 
 #include <stdio.h>
@@ -107,6 +108,10 @@ static void compact(const char *what, size_t nonces, int64_t wanted) {
   free(token), free(bytes);
 }
 
+static void order(const char *what, int64_t wanted) {
+  expect(what, mazhkuri_order(store, store_length), wanted);
+}
+
 /* Every call on pointers of length 0, and the primitives on their shortest inputs. */
 static void empty(void) {
   uint8_t *none = block(NULL, 0, 0), *out = block(NULL, 1, 32);
@@ -123,6 +128,7 @@ static void empty(void) {
   expect("no key", mazhkuri_compaction_token(none, 0, out), -1);
   expect("making in no bytes", mazhkuri_make(0, 1, 1, 1, none, 0), -8);
   expect("insert of nothing", mazhkuri_insert(none, 0, out, 0, out, 0, out, 0), -4);
+  expect("order of nothing", mazhkuri_order(none, 0), -10);
   expect("erase of nothing", mazhkuri_erase(none, 0, out, 0), -5);
   expect("find by nothing", mazhkuri_find(none, 0, out, 0, token, 0), -6);
   expect("find in nothing", mazhkuri_find(none, 0, token, 96, out, 0), -10);
@@ -160,6 +166,68 @@ static void repeated(void) {
   erase("R7", "A", 2);
   find("R7", HUE, "C");
   count("R7", HUE, 10);
+  free(store);
+}
+
+/* Each call but order is refused by 20 and leaves the store; order answers the used rows and leaves the store as
+ * it was before it was put out of form [02:W2.6 W2.7 W2.8 W2.11]. */
+static void cured(const char *what, const uint8_t *kept, int64_t rows) {
+  uint8_t *before = block(store, 0, store_length);
+  uint8_t *some = block(NULL, 1, MAZHKURI_INSERT_TOKEN), *output = block(NULL, 0xee, 16);
+  expect(what, mazhkuri_insert(store, store_length, some, 16, some, 24, some, 141), -20);
+  expect(what, mazhkuri_erase(store, store_length, some, 16), -20);
+  expect(what, mazhkuri_find(store, store_length, some, 96, output, 16), -20);
+  expect(what, mazhkuri_count(store, store_length, some, 32), -20);
+  expect(what, mazhkuri_compact(store, store_length, some, 0, some, 32), -20);
+  expect("its refusal", mazhkuri_refusal(-20), 20);
+  expect("a refusal leaves the store", memcmp(store, before, store_length), 0);
+  expect("a refusal leaves the output", output[0] == 0xee && output[15] == 0xee, 1);
+  order(what, rows);
+  expect("the store in form", memcmp(store, kept, store_length), 0);
+  order("order of what is in form", rows);
+  expect("the store again", memcmp(store, kept, store_length), 0);
+  free(before), free(some), free(output);
+}
+
+/* Rows out of form in each table, and the new call [02:W2.1 W2.2 W2.3 W2.6 W2.8]. */
+static void rows(void) {
+  static const size_t width[4] = {61, 49, 61, 45};
+  size_t start = 8;
+  make(1, 6, 6, 6);
+  order("an empty store", 0);
+  insert("O1", HUE, 0, "BA", 2);
+  order("O1", 6);
+  insert("O2", HUE, 1, "C", 1);
+  insert("O2", HUE, 0, "BB", 4);
+  order("O2", 16);
+  find("O2", HUE, "BAC");
+  uint8_t *kept = block(store, 0, store_length), other[61];
+  for (int t = 0; t < 4; t++) {
+    size_t w = width[t], used = t < 2 ? 5 : 3;
+    uint8_t *table = store + start, *last = table + (used - 1) * w;
+    memcpy(other, table, w), memcpy(table, last, w), memcpy(last, other, w);
+    /* S has two equal rows, so that an exchange of first and last may change nothing there alone */
+    if (memcmp(store, kept, store_length)) cured("two rows exchanged", kept, 16);
+    memcpy(table + 5 * w, last, w), memset(last, 0, w);
+    cured("a gap", kept, 16);
+    table[5 * w + 1] = 1;
+    cured("a byte left over after the mark", kept, 16);
+    table[6 * w - 1] = 0x80;
+    cured("a byte left over at the end of the table", kept, 16);
+    start += 6 * w;
+  }
+  find("O2 again", HUE, "BAC");
+  count("O2 again", HUE, 5);
+  erase("O3", "B", 3);
+  order("O3", 10);
+  compact("O4", 3, 2 * 4294967296 + 3);
+  order("O4", 6);
+  find("O4", HUE, "AC");
+  store[8 + 61] = 2;
+  order("a mark", -11);
+  store[0] = 2;
+  order("a header", -10);
+  free(kept);
   free(store);
 }
 
@@ -201,7 +269,8 @@ int main(void) {
   empty();
   free(store);
   repeated();
+  rows();
   free(key);
-  if (!failed) printf("G1 to G8, and ids with several entries, over the archive: as the papers say\n");
+  if (!failed) printf("G1 to G8, ids with several entries and rows in byte order, over the archive: as the papers say\n");
   return failed;
 }

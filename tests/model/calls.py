@@ -13,6 +13,8 @@ Erase = namedtuple("Erase", "id")
 Find = namedtuple("Find", "key name value output")
 Count = namedtuple("Count", "key name value")
 Compact = namedtuple("Compact", "key nonces")
+# Puts the store in form; takes nothing but the store [02:W2.6].
+Order = namedtuple("Order", "")
 
 INSERT_TOKEN = 141
 FIND_TOKEN = 96

@@ -3,8 +3,9 @@
 Each call's answer, or refusal with what it carries, and a find's whole output are compared;
 exit status 1 at the first difference, with the list of calls. `--mutants` shows that the
 comparison can fail: each deliberately wrong version has to be caught. Whole lists, from a fresh
-store of any sizes, under any row placing [01:LG2 LG5 LG6 LG14 LG15 LG17 LG18 LG19]; ids with several
-entries in each way that a find may meet them [02:W1.1 W1.2 W1.3 W1.4 W1.5 W1.6].
+store of any sizes [01:LG2 LG5 LG6 LG14 LG15 LG17 LG18 LG19]; ids with several entries in each way that a find may
+meet them [02:W1.1 W1.2 W1.3 W1.4 W1.5 W1.6]; rows in byte order after every call [02:W2.1 W2.2 W2.3 W2.4 W2.5], and
+stores that the version before filled, put in form on the way [02:W2.6 W2.7 W2.8 W2.10].
 """
 import argparse
 import random
@@ -12,9 +13,11 @@ import sys
 import time
 
 import examples
+import form
 import hostile
+import older
 import scheme
-from calls import Compact, Count, Erase, Find, Insert, Refused, field_lengths_wrong
+from calls import Compact, Count, Done, Erase, Find, Insert, Order, Refused, field_lengths_wrong
 from ledger import Ledger
 from primitives import Cheap, Real
 from repeats import Repeats
@@ -57,7 +60,7 @@ class Lists:
         self.fields = r.sample(FIELDS, r.randint(1, 3))
         self.ids = self.some_ids(r.randint(1, 6))
         self.given, self.erased = [], []
-        self.weights = [r.choice((4, 8)), r.choice((1, 4)), 4, 2, r.choice((1, 3))]
+        self.weights = [r.choice((4, 8)), r.choice((1, 4)), 4, 2, r.choice((1, 3)), r.choice((0, 1, 1))]
         return [self.call() for _ in range(r.randint(1, self.longest))]
 
     def some_ids(self, n):
@@ -83,7 +86,7 @@ class Lists:
         return self.r.choice(self.fields if self.r.random() < 0.97 else WRONG_FIELDS)
 
     def call(self):
-        kind = self.r.choices((self.insert, self.erase, self.find, self.count, self.compact),
+        kind = self.r.choices((self.insert, self.erase, self.find, self.count, self.compact, Order),
                               self.weights)[0]
         return kind()
 
@@ -154,8 +157,8 @@ def told(pair):
     return "%r %s" % (pair[0], "" if pair[1] is None else pair[1].hex())
 
 
-def run_list(calls, stores, ledger, tell=None):
-    """One list on each store (a model and its bytes) and on the ledger."""
+def run_list(calls, stores, ledger, tell=None, alike=None):
+    """One list on each store (a model and its bytes) and on the ledger; `alike` tells how the stores differ."""
     for at, call in enumerate(calls):
         wanted = ledger.call(call)
         if tell:
@@ -168,9 +171,58 @@ def run_list(calls, stores, ledger, tell=None):
                                  % (at, told(got), told(wanted)))
             if isinstance(got[0], Refused) and bytes(store) != before:
                 raise Difference("call %d: refused, and the store changed" % at)
-        # Two placings agree on the used rows up to their order.
-        if len(stores) > 1 and len({repr(scheme.used_rows(s)) for _, s in stores}) > 1:
-            raise Difference("call %d: used rows differ between two placings" % at)
+        found = alike and alike([store for _, store in stores])
+        if found:
+            raise Difference("call %d: %s" % (at, found))
+
+
+def stores_alike(stores):
+    """The store is in form; a step of the version before, between two orders, leaves the same bytes [02:W2.5]; a store
+    that the version before fills and an order puts in form has the same rows."""
+    now, between, moved = stores
+    if not form.in_form(now):
+        return "a table is not in form"
+    if now != between:
+        return "an order after the version before leaves other bytes"
+    if rows_of(now) != rows_of(moved):
+        return "a store of the version before has other rows"
+    return None
+
+
+def rows_of(store):
+    """Each table's used rows, sorted. Of a C row the mark and the tag: the version before took S in another order, and an
+    anchor's nonce depends on it."""
+    return {name: sorted(r[:33 if name == "C" else t.width] for r in scheme.used_rows(store, t))
+            for name, t in scheme.tables(store).items()}
+
+
+def two_histories(r, suite, build=None):
+    """Inserts in two orders, those of one field, value and share in the same one, and an order between: the rows are the
+    same, and so the bytes are [02:W2.5]. How many inserts changed places, or a fault."""
+    p, sizes, key = r.choice((0, 1, 3)), (40, 12, 12), r.randbytes(32)
+    made = []
+    for _ in range(r.randint(2, 12)):
+        j = r.choice((1, 2, 3))
+        made.append(Insert(key, *r.choice(FIELDS), p, r.randint(0, p), r.randbytes(12), r.randbytes(12 * (j + 1)),
+                           r.randbytes(16 * j)))
+    queues = {}
+    for call in made:
+        queues.setdefault((call.name, call.value, call.u), []).append(call)
+    turns = [pair for pair, queue in queues.items() for _ in queue]
+    r.shuffle(turns)
+    queues = {pair: iter(queue) for pair, queue in queues.items()}
+    other = [next(queues[pair]) for pair in turns]
+    stores = []
+    for history in (made, other):
+        model, store = build() if build else scheme.Scheme(suite), bytearray(scheme.length_of(*sizes))
+        model.make(store, p, *sizes)
+        for call in history:
+            if not isinstance(model.call(store, call)[0], Done):
+                return "an insert was refused"
+            if r.random() < 0.2 and not isinstance(model.order(store), Done):
+                return "an order was refused"
+        stores.append(bytes(store))
+    return sum(x != y for x, y in zip(made, other)) if stores[0] == stores[1] else "two histories leave other bytes"
 
 
 def short(value):
@@ -210,12 +262,12 @@ def compare(suite, seed, number, longest, premise):
     for i in range(number):
         calls = lists.draw()
         repeats.begin()
-        models = [scheme.Scheme(suite),
-                  scheme.Scheme(suite, scheme.random_place(random.Random(seed + i)))]
+        place = older.random_place(random.Random(seed + i)) if i % 2 else older.lowest
+        models = [scheme.Scheme(suite), older.Between(suite, place), older.Moved(suite, place)]
         try:
             if i % premise == 0 and not tags_differ(models[0], lists.key, lists.p, calls):
                 raise Difference("the premise's tags do not differ")
-            run_list(calls, stores_for(models, lists), Ledger(lists.p, *lists.sizes), tell)
+            run_list(calls, stores_for(models, lists), Ledger(lists.p, *lists.sizes), tell, stores_alike)
         except Difference as difference:
             show(lists, calls, difference, "list %d, seed %d" % (i, seed))
             return None
@@ -232,7 +284,7 @@ def all_told(tally, repeats, least):
     """Every answer that a list can come to was come to, so that no rule went untried; and each kind of
     repeats was met as often as `least` says."""
     wanted = {"Insert": (1, 2, 3, 4, 5, 12, 15, 16, 17), "Erase": (5,), "Find": (1, 2, 18),
-              "Count": (1, 2), "Compact": (1, 4, 19)}
+              "Count": (1, 2), "Compact": (1, 4, 19), "Order": ()}
     missing = [(kind, n) for kind, numbers in wanted.items() for n in ("done",) + numbers
                if not tally.get((kind, n))]
     if missing:
@@ -244,12 +296,37 @@ def all_told(tally, repeats, least):
 
 
 def hostile_stores(given):
-    """The model's operations on hostile stores hold to what no store may change."""
-    tally = hostile.check(given.seed, given.hostile, Cheap)
-    if tally is None:
+    """The model's operations on hostile stores hold to what no store may change; every way of being out of form was
+    met in every table."""
+    tallies = hostile.check(given.seed, given.hostile, Cheap)
+    if tallies is None:
         return 1
+    tally, forms, orders = tallies
     told_numbers = sorted({n for _, n in tally if n != "done"})
-    print("hostile stores: %d calls, told %s" % (sum(tally.values()), told_numbers), flush=True)
+    print("hostile stores: %d calls, told %s, %s, %s" % (sum(tally.values()), told_numbers, forms, orders), flush=True)
+    missing = {10, 11, 12, 13, 14, 15, 16, 17, 18, 19, 20} - set(told_numbers)
+    seldom = {**forms.too_seldom(given.hostile // 3000), **orders.too_seldom(given.hostile // 1500)}
+    if given.hostile >= 6000 and (missing or seldom):
+        print("NOT TRIED %s %s" % (sorted(missing), seldom))
+        return 1
+    return 0
+
+
+def older_stores(given):
+    """Stores of the version before, and two histories."""
+    number = max(given.lists // 4, 40)
+    out = older.check(given.seed, number, Cheap)
+    if isinstance(out, str) or out < number // 2:
+        print("stores of the version before: %s" % out)
+        return 1
+    r, moved = random.Random(given.seed), []
+    while len(moved) < number:
+        moved.append(two_histories(r, Cheap))
+        if isinstance(moved[-1], str):
+            print("two histories: %s, number %d, seed %d" % (moved[-1], len(moved), given.seed))
+            return 1
+    print("stores of the version before: %d, %d of them out of form; two histories: %d pairs, %d inserts in another place"
+          % (number, out, number, sum(moved)), flush=True)
     return 0
 
 
@@ -261,11 +338,11 @@ def main():
     options.add_argument("--longest", type=int, default=40, help="most calls in a list")
     options.add_argument("--premise", type=int, default=10,
                          help="the premise's tags are computed for one list in this many")
-    options.add_argument("--hostile", type=int, default=2000, help="calls on hostile stores")
+    options.add_argument("--hostile", type=int, default=9000, help="calls on hostile stores")
     options.add_argument("--mutants", action="store_true", help="wrong versions are caught")
     given = options.parse_args()
     examples.all_examples()
-    print("L1 to L6, G1 to G8, ids with several entries and the forged stores: as the papers say", flush=True)
+    print("L1 to L6, G1 to G8, ids with several entries, rows in byte order and the forged stores: as the papers say", flush=True)
     if given.mutants:
         import mutants
         return mutants.caught(given)
@@ -274,7 +351,7 @@ def main():
         told_all = compare(suite, given.seed, number, given.longest, given.premise)
         if told_all is None or (number >= 1000 and not all_told(*told_all, number // 40)):
             return 1
-    return hostile_stores(given)
+    return older_stores(given) or hostile_stores(given)
 
 
 if __name__ == "__main__":

@@ -1,9 +1,10 @@
 """Fixed examples: document 01's L1 to L6 and its worked list G1 to G8, on store and ledger both, and a list
-with ids that come more than once (document 02, request 1); and refusals 7 to 19 on made and forged
-stores, in the paper's order.
+with ids that come more than once and one with orders between (document 02, requests 1 and 2); tables in form and out of
+it; and refusals 7 to 20 on made and forged stores, in the paper's order.
 """
+import form
 import scheme
-from calls import Compact, Count, Done, Erase, Find, Insert, Refused
+from calls import Compact, Count, Done, Erase, Find, Insert, Order, Refused
 from ledger import Ledger
 from primitives import Cheap, Real, chacha20_block, number
 
@@ -118,6 +119,30 @@ def repeated():
     ]
 
 
+def ordered():
+    """Calls with what each tells, an order among them: it answers the used rows of all tables [02:W2.8], 2 for each
+    entry, 1 for each anchor, 2 for each insert since the last compaction, and no later answer is another [02:W2.10]. For
+    p = 1, m = 6, c = s = 4."""
+    def told(*values):
+        return Done(values), None
+
+    def find(letters):
+        ids = b"".join(id_of(x) for x in letters)
+        return Find(KEY, *HUE, bytes(16 * 4)), (Done((len(letters),)), ids + bytes(16 * 4 - len(ids)))
+
+    return [
+        ("O1", Order(), told(0)), ("O1", insert(HUE, 0, "BA"), told(2)), ("O1", Order(), told(6)), ("O1", *find("BA")),
+        ("O2", insert(HUE, 1, "C"), told(1)), ("O2", Order(), told(10)), ("O2", insert(HUE, 0, "BB"), told(4)),
+        ("O2", Order(), told(16)), ("O2", Order(), told(16)), ("O2", *find("BAC")),
+        ("O3", Erase(id_of("B")), told(3)), ("O3", Order(), told(10)), ("O3", *find("AC")),
+        ("O4", Compact(KEY, bytes(12 * 4)), told(2, 3)), ("O4", Order(), told(6)), ("O4", *find("AC")),
+        ("O5", insert(SIZE, 0, "AA"), told(2)), ("O5", Order(), told(12)), ("O5", insert(SIZE, 1, "A"), told(1)),
+        ("O5", insert(SIZE, 1, "A"), (Refused(16, ()), None)), ("O5", Order(), told(16)),
+        ("O6", Compact(KEY, bytes(12 * 4)), told(2, 2)), ("O6", Order(), told(14)), ("O6", Erase(id_of("A")), told(4)),
+        ("O6", Order(), told(6)), ("O6", Count(KEY, *HUE), told(5)), ("O6", *find("C")),
+    ]
+
+
 def made(build, suite, p, m, c, s):
     model = build(suite)
     store = bytearray(scheme.length_of(m, c, s))
@@ -151,13 +176,14 @@ def making():
 
 
 def every_call(model, store, p):
-    """The five operations on a store, with tokens that are right for p."""
+    """The six operations on a store, with tokens that are right for p."""
     token = model.insert_token(KEY, *HUE, p, 0, NONCE)
     return [("insert", lambda: model.insert(store, token, bytes(24), id_of("A"))),
             ("erase", lambda: model.erase(store, id_of("A"))),
             ("find", lambda: model.find(store, model.find_token(KEY, *HUE), bytearray(64))),
             ("count", lambda: model.count(store, model.count_token(KEY, *HUE))),
-            ("compact", lambda: model.compact(store, model.compact_token(KEY), bytes(48)))]
+            ("compact", lambda: model.compact(store, model.compact_token(KEY), bytes(48))),
+            ("order", lambda: model.order(store))]
 
 
 def all_refuse(model, store, number_wanted, names=None):
@@ -279,16 +305,31 @@ def limits():
 
 def compactions():
     """13 in compaction keeps what was treated [01:RS13]; k = 0 writes nothing [01:OP11]."""
-    model, store = made(scheme.Scheme, Cheap, 1, 4, 4, 4)
-    for call in (insert(SIZE, 0, "A"), insert(SIZE, 0, "B"), insert(HUE, 0, "C")):
-        model.call(store, call)
-    c, s = scheme.tables(store)["C"], scheme.tables(store)["S"]
-    store[c.start + 2 * c.width + 52] ^= 1  # the first number of the third row, hue's counter
-    third = scheme.row(store, s, 2)
-    expect("13", model.call(store, Compact(KEY, bytes(36))), (Refused(13, (1, 2)), None))
-    expect("C rows left", scheme.used(store, c), [0, 2])
-    expect("S rows left", [scheme.row(store, s, i) for i in scheme.used(store, s)], [third])
-    expect("count", model.call(store, Count(KEY, *SIZE)), (Done((2,)), None))
+    for damaged in (0, 1):
+        model, store = made(scheme.Scheme, Cheap, 1, 4, 4, 4)
+        for call in (insert(SIZE, 0, "A"), insert(SIZE, 0, "B"), insert(HUE, 0, "C")):
+            model.call(store, call)
+        c, s = scheme.tables(store)["C"], scheme.tables(store)["S"]
+        # S is in byte order, and so the two CL are [02:W2.4]; SIZE's two rows there are equal.
+        order = list(dict.fromkeys(model.labels_of_s(store, model.compact_token(KEY))))
+        counters = {model.insert_token(KEY, *field, 1, 0, NONCE)[65:97]: k for field, k in ((SIZE, 2), (HUE, 1))}
+        expect("equal rows of S", len({scheme.row(store, s, i) for i in (0, 1, 2)}), 2)
+        expect("the two CL", sorted(order), sorted(counters))
+        cl = order[damaged]
+        at = scheme.lookup(store, c, model.counter_tag(cl, counters[cl]))
+        store[c.start + at * c.width + 52] ^= 1  # its first number
+        # A treated CL has its anchor and no counter; what is left stands in byte order.
+        left = [r for r in scheme.used_rows(store, s) if model.E(model.compact_token(KEY), r[1:13], r[13:45]) in order[damaged:]]
+        kept = [r for r in scheme.used_rows(store, c)
+                if damaged == 0 or r[1:33] in [model.counter_tag(cl, n) for n in (1, 2)]]
+        if damaged:
+            k = counters[order[0]]
+            kept.append(model.c_row(order[0], model.anchor_tag(order[0], 1), b"1" * 12, k, k))
+        expect("13", model.call(store, Compact(KEY, b"1" * 12 + b"2" * 24)),
+               (Refused(13, (damaged, counters[order[0]] if damaged else 0)), None))
+        expect("C after it", scheme.used_rows(store, c), sorted(kept))
+        expect("S after it", scheme.used_rows(store, s), left)
+        expect("in form after it", form.in_form(store), True)
 
     model, store = forged([])
     model.put(store, "S", b"\1" + model.insert_token(KEY, *HUE, 1, 0, NONCE)[97:])
@@ -306,32 +347,99 @@ def compactions():
 
 
 def rows():
-    """Lookup, freeing and free rows' bytes [01:ST5], [01:ST13], [01:ST14], [01:ST15]."""
+    """Lookup, freeing and free rows' bytes [01:ST5], [01:ST13], [01:ST14]."""
     model, store = made(scheme.Scheme, Cheap, 0, 4, 4, 4)
+    fresh = bytes(store)
     for i in range(8, len(store)):
         store[i] = 7
     for t in scheme.tables(store).values():
         for i in range(t.rows):
             store[t.start + t.width * i] = 0
-    before = bytes(store)
+    all_refuse(model, store, 20, OLD)
+    expect("free rows with any bytes", (model.order(store), bytes(store)), (Done((0,)), fresh))
     model.call(store, insert(HUE, 0, "AB", p=0))
-    for name, t in scheme.tables(store).items():
-        for i in scheme.free(store, t):
-            at = t.start + t.width * i
-            expect("a free row keeps its bytes", bytes(store[at:at + t.width]),
-                   before[at:at + t.width])
     m, v = scheme.tables(store)["M"], scheme.tables(store)["V"]
     # A third M row repeats A's tag and a third V row names A with B's tag.
-    a, b = scheme.row(store, m, 0), scheme.row(store, m, 1)
-    scheme.set_row(store, m, 2, a[:60] + bytes([a[60] ^ 1]))
-    scheme.set_row(store, v, 2, b"\1" + id_of("A") + b[1:33])
-    found, output = model.call(store, Find(KEY, *HUE, bytes(64)))
-    expect("the lowest row with the tag", output[:32], id_of("A") + id_of("B"))
-    expect("erase counts V rows", model.erase(store, id_of("A")), Done((2,)))
-    expect("M rows freed", scheme.used(store, m), [])
-    expect("V rows freed", scheme.used(store, v), [1])
-    expect("freed rows are zero", scheme.row(store, m, 2), bytes(61))
-    expect("no V row", model.erase(store, id_of("A")), Done((0,)))
+    a, b = (next(r for r in scheme.used_rows(store, m) if r[1:33] == next(x for x in scheme.used_rows(store, v)
+            if x[1:17] == id_of(letter))[17:]) for letter in "AB")
+    for other, found in ((a[:60] + bytes([a[60] ^ 1]), None), (a, id_of("A"))):
+        trial = bytearray(store)
+        model.put(trial, "M", other)
+        model.put(trial, "V", b"\1" + id_of("A") + b[1:33])
+        first = min(a, other)
+        if found is None:
+            me = model.F(model.entry_key(KEY, *HUE), number(0))
+            found = model.E(me, first[33:45], first[45:])
+        expect("the lowest row with the tag", model.call(trial, Find(KEY, *HUE, bytes(64)))[1][:32], found + id_of("B"))
+        expect("erase counts V rows", model.erase(trial, id_of("A")), Done((2,)))
+        expect("M rows freed", scheme.used(trial, m), [])
+        expect("V rows left, moved up", scheme.used_rows(trial, v), [b"\1" + id_of("B") + b[1:33]])
+        expect("freed rows are zero", bytes(trial[m.start:v.start]), bytes(4 * 61))
+        expect("no V row", model.erase(trial, id_of("A")), Done((0,)))
+
+
+OLD = ("insert", "erase", "find", "count", "compact")
+
+
+def forms():
+    """What is in form and what is not [02:W2.1 W2.2 W2.3 W2.11], in each table; an order cures it [02:W2.6 W2.7 W2.8].
+    Rows by their bytes after the mark: a byte there, and all others; free rows are 00 or what is left over."""
+    width = {"M": 61, "V": 49, "C": 61, "S": 45}
+
+    def used_row(w, at, byte, rest=5):
+        content = bytearray([1] + [rest] * (w - 1))
+        content[at] = byte
+        return bytes(content)
+
+    for name, w in width.items():
+        zero, one = bytes(w), used_row(w, 1, 5)
+        for at in (1, 2, 7, 8, 9, 16, 32, 33, w - 2, w - 1):
+            for low, high in ((0x7F, 0x80), (0, 1), (0xFE, 0xFF), (0, 0xFF), (4, 6)):
+                small, great = used_row(w, at, low), used_row(w, at, high)
+                hold(name, [small, great, zero, zero], True)
+                hold(name, [great, small, zero, zero], False)
+                hold(name, [small, small, great, great], True)
+                hold(name, [small, great, great, small], False)
+            for byte in (1, 0x80, 0xFF):
+                left = bytearray(w)
+                left[at] = byte
+                for i in range(4):
+                    rows = [one] * i + [zero] * (4 - i)
+                    rows[3] = bytes(left)
+                    hold(name, rows, False)
+                    rows[3], rows[i] = zero, bytes(left)
+                    hold(name, rows, False)
+        hold(name, [zero] * 4, True)
+        for i in range(5):
+            hold(name, [one] * i + [zero] * (4 - i), True)
+            if i < 3:
+                hold(name, [one] * i + [zero, one] + [zero] * (2 - i), False)
+        hold(name, [zero, zero, zero, one], False)
+        hold(name, [one, zero, zero, one], False)
+
+
+def hold(name, table, good):
+    """A store with these rows in one table: in form or refused by 20, which stands after 11 and before 12, 19 and 13."""
+    model, store = made(scheme.Scheme, Cheap, 1, 4, 4, 4)
+    t = scheme.tables(store)[name]
+    fresh, rows = bytes(store), [r for r in table if r[0] == 1]
+    store[t.start:t.start + 4 * t.width] = b"".join(table)
+    expect("form of %s" % [r.hex() for r in table], form.in_form(store), good)
+    expect("the model's form", model.in_form(store, t), good)
+    if not good:
+        all_refuse(model, store, 20, OLD)
+        wrong, few = model.insert_token(KEY, *HUE, 0, 0, NONCE), model.compact_token(KEY)
+        expect("20 before 12", model.insert(store, wrong, bytes(24), id_of("A")), Refused(20, ()))
+        expect("20 before 19", model.compact(store, few, b""), Refused(20, ()))
+        for other in scheme.tables(store).values():
+            marked = bytearray(store)
+            marked[other.start + 3 * other.width] = 2
+            all_refuse(model, marked, 11)
+    before = bytes(store)
+    expect("order", model.order(store), Done((len(rows),)))
+    expect("after it", bytes(store), fresh[:t.start] + b"".join(sorted(rows)) + bytes(t.width * (4 - len(rows)))
+           + fresh[t.start + 4 * t.width:])
+    expect("an order of what is in form", not good or bytes(store) == before, True)
 
 
 def shared(build, build_ledger):
@@ -339,10 +447,11 @@ def shared(build, build_ledger):
     labels(build)
     run_calls(build, build_ledger, (1, 4, 4, 4), worked())
     run_calls(build, build_ledger, (1, 9, 6, 6), repeated())
+    run_calls(build, build_ledger, (1, 6, 4, 4), ordered())
 
 
 def all_examples():
     cipher()
     shared(scheme.Scheme, Ledger)
-    for example in (making, headers, input_order, damage, limits, compactions, rows):
+    for example in (making, headers, input_order, damage, limits, compactions, rows, forms):
         example()

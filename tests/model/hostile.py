@@ -1,15 +1,19 @@
-"""Hostile stores for the five operations: document 01 says what each call does for all inputs.
+"""Hostile stores for the six operations: document 01 says what each call does for all inputs.
 
 A store that some calls made is broken in one or more ways: header, length, marks, damaged and
-forged rows, tags and ids that repeat, bytes in free rows, random bytes. `Hostile.draw` gives the store
-and a call; `check` runs the model on it and holds it to what no store may change.
+forged rows, tags and ids that repeat, bytes in free rows, random bytes. Most of them are then put in form, so that
+the later refusals are met too; of others one table is put out of form in one way; the rest stay as they
+are [02:W2.11 W2.12]. `Hostile.draw` gives the store and a call; `check` runs the model on it and holds it to what no
+store may change.
 """
 import random
+from collections import Counter
 
 import calls
+import form
 import scheme
 from primitives import number
-from scheme import GREATEST, Scheme, lowest, random_place, row, set_row, tables, used
+from scheme import GREATEST, Scheme, row, set_row, tables, used, used_rows
 
 FIELDS = [(b"hue", b"red"), (b"a", b"bc")]
 KEY = bytes(range(32))
@@ -36,13 +40,33 @@ class Hostile:
         self.counts = [0, 1, 2, 5, GREATEST + 1, 2 ** 64 - 1]
         if not isinstance(call, calls.Find):
             self.counts += [GREATEST - 2, GREATEST - 1, GREATEST]
-        for _ in range(r.choice((1, 1, 2, 4))):
-            r.choices((self.forge, self.repeat, self.damage, self.swap, self.free_bytes, self.mark,
-                       self.header, self.length, self.noise, self.entry),
-                      (8, 4, 4, 3, 2, 1, 1, 1, 1, 4))[0](model, store)
-            if scheme.header(store) is None:
-                break
+        self.break_contents(model, store, r.choice((1, 1, 2, 4)))
+        self.settle(model, store)
         return store, call
+
+    def break_contents(self, model, store, times):
+        """Whatever stands in the store, in form or not."""
+        ways = {self.forge: 16, self.repeat: 8, self.damage: 8, self.swap: 6, self.free_bytes: 2, self.mark: 1,
+                self.header: 1, self.length: 1, self.noise: 1, self.entry: 12, self.entries: 6, self.rows: 1}
+        for _ in range(times):
+            self.r.choices(list(ways), ways.values())[0](model, store)
+            if scheme.header(store) is None:
+                return
+
+    def settle(self, model, store):
+        """Mostly in form; or one table out of form in one way; or as the store is. Then now and then a wrong mark,
+        which is told before the form."""
+        r = self.r
+        if scheme.header(store) is None or scheme.marks_wrong(store) or r.random() < 0.1:
+            return
+        model.order(store)
+        name, kind = r.choice("MVCS"), r.random()
+        if kind < 0.3:
+            form.break_form(r, store, name)
+            if r.random() < 0.15:
+                self.mark(model, store)
+        elif kind < 0.5:
+            form.near_rows(r, store, name)
 
     def shape(self):
         """The store's p, m, c, s; some have room for many entries of an id."""
@@ -67,13 +91,15 @@ class Hostile:
         field, id = r.choice(FIELDS), self.id()
         j = r.choice((1, 1, 2, 3))
         ids = id * j if r.random() < 0.5 else b"".join(self.id() for _ in range(j))
-        insert = calls.Insert(KEY, *field, self.p, r.randint(0, self.p), self.bytes(12),
-                              self.bytes(12 * (j + 1)), ids)
+        # A token of another p is told after the form.
+        p = self.p if r.random() < 0.9 else self.p + 1
+        insert = calls.Insert(KEY, *field, p, r.randint(0, p), self.bytes(12), self.bytes(12 * (j + 1)), ids)
         nonces = r.choice((self.sizes[2], self.sizes[2], r.randint(0, self.sizes[2])))
         compact = calls.Compact(KEY, self.bytes(12 * nonces))
         find = calls.Find(KEY, *field, self.bytes(r.choice((0, 16, 96, 200))))
-        return r.choices((insert, compact, find, calls.Count(KEY, *field), calls.Erase(id)),
-                         (4, 3, 2, 1, 2))[0]
+        erase = calls.Erase(id if r.random() < 0.95 else id[:15])
+        return r.choices((insert, compact, find, calls.Count(KEY, *field), erase, calls.Order()),
+                         (4, 3, 2, 2, 3, 2))[0]
 
     # Ways to break a store
 
@@ -106,9 +132,7 @@ class Hostile:
             n = counter.start + counter.k + 1 if counter and r.random() < 0.7 else n
             tag = model.counter_tag(cl, n)
             one = r.choice((0, 0, 0, 1, 2 ** 63))
-        nonce, key = self.bytes(12), model.F(cl, number(2))
-        plain = number(one) + number(r.choice(self.counts))
-        set_row(store, t, i, b"\1" + tag + nonce + model.E(key, nonce, plain))
+        set_row(store, t, i, model.c_row(cl, tag, self.bytes(12), one, r.choice(self.counts)))
 
     def entry(self, model, store, fields=FIELDS, addresses=range(1, 7)):
         """An M row at an address of a field and share that no insert wrote, with one of the few ids."""
@@ -118,9 +142,23 @@ class Hostile:
         tag, nonce = model.entry_tag(mt, max(0, self.r.choice(addresses))), self.bytes(12)
         set_row(store, t, i, b"\1" + tag + nonce + model.E(me, nonce, self.id()))
 
+    def entries(self, model, store):
+        """Entries of one field, of few ids, and counts of its first and last share that reach them."""
+        field = self.r.choice(FIELDS)
+        for u in {0, self.p}:
+            cl = model.F(model.counter_key(KEY, *field), number(u))
+            counter = model.read(store, cl)
+            if counter is not None and counter.count < 4:
+                t, i = self.any_row(store, "C")
+                tag = model.counter_tag(cl, counter.start + counter.k + 1)
+                set_row(store, t, i, model.c_row(cl, tag, self.bytes(12), 0, 4))
+        for _ in range(self.r.choice((2, 4))):
+            self.entry(model, store, [field], range(1, 5))
+
     def repeat(self, model, store):
         """A row stands twice, or its tag does."""
         t, i = self.any_row(store)
+        i = self.r.choice(used(store, t) or [i])
         j = self.r.randrange(t.rows)
         copy = bytearray(row(store, t, i))
         if self.r.random() < 0.3:
@@ -162,23 +200,59 @@ class Hostile:
         store[8:] = bytes(self.r.choice((0, 1)) if self.r.random() < 0.1 else self.r.getrandbits(8)
                           for _ in range(len(store) - 8))
 
+    def rows(self, model, store):
+        """Any bytes behind good marks."""
+        for t in tables(store).values():
+            for i in range(t.rows):
+                set_row(store, t, i, bytes([self.r.randrange(2)]) + self.bytes(t.width - 1))
+
 
 def huge(model, store, call):
     """Whether a find would walk a count that was read as garbage: left out, for its time."""
-    if not isinstance(call, calls.Find) or scheme.header(store) is None \
-            or scheme.marks_wrong(store):
+    if not isinstance(call, calls.Find) or calls.first(scheme.store_conditions(store)):
         return False
     counts = model.counts(store, model.counter_key(KEY, call.name, call.value))
     return counts is not None and sum(counts) > 100000
 
 
+# What 20 stands before, and what stands before it: a store that both hold of.
+WAITING = ("11 before 20", "20 before 12", "20 before 19", "20 before 13")
+
+
+class Orders:
+    """A tally of the stores in which another refusal waits behind 20, or 20 behind 11 [02:W2.12]."""
+
+    def __init__(self):
+        self.tally = dict.fromkeys(WAITING, 0)
+
+    def call(self, model, store, kind, token, call, answer):
+        if not isinstance(answer, calls.Refused) or answer.number not in (11, 20):
+            return
+        if answer.number == 11:
+            self.tally["11 before 20"] += kind != "Order" and not form.in_form(store)
+            return
+        self.tally["20 before 12"] += kind == "Insert" and token[0] != store[1]
+        s = tables(store)["S"]
+        self.tally["20 before 19"] += kind == "Compact" and len(call.nonces) // 12 < len(used(store, s))
+        if kind in ("Find", "Count"):
+            self.tally["20 before 13"] += model.counts(store, token[-32:]) is None
+        elif kind == "Insert":
+            self.tally["20 before 13"] += model.read(store, token[65:97]) is None
+
+    def too_seldom(self, least):
+        return {way: n for way, n in self.tally.items() if n < least}
+
+    def __str__(self):
+        return ", ".join("%s %d times" % pair for pair in self.tally.items())
+
+
 def check(seed, number_of, suite):
-    """Runs `number_of` calls on broken stores; the tally of what was told, or None at a fault."""
-    drawn, tally = Hostile(seed, suite), {}
+    """Runs `number_of` calls on broken stores; the tallies of what was told and met, or None at a fault."""
+    drawn, tally, forms, orders = Hostile(seed, suite), {}, form.Forms(), Orders()
+    model = Scheme(suite)
     for i in range(number_of):
         store, call = drawn.draw()
-        place = random_place(random.Random(i)) if i % 2 else lowest
-        model, before = Scheme(suite, place), bytes(store)
+        before = bytes(store)
         if huge(model, store, call):
             continue
         answer, output = model.call(store, call)
@@ -188,7 +262,10 @@ def check(seed, number_of, suite):
         if fault:
             print("FAULT %s: list %d, seed %d: %r told %r" % (fault, i, seed, call, answer))
             return None
-    return tally
+        if scheme.header(before) and not scheme.marks_wrong(before):
+            forms.store(before)
+        orders.call(model, before, key[0], model.token(call), call, answer)
+    return tally, forms, orders
 
 
 def fault_of(call, answer, output, before, after):
@@ -196,24 +273,45 @@ def fault_of(call, answer, output, before, after):
     kind = type(call).__name__
     if len(before) != len(after) or before[:8] != after[:8]:
         return "the header or the length changed"
+    told_form = isinstance(answer, calls.Refused) and answer.number == 20
+    past_marks = isinstance(answer, calls.Done) or answer.number > 11
+    if past_marks and kind != "Order" and told_form == form.in_form(before):
+        return "20 and the form of the store do not go together"
     if isinstance(answer, calls.Refused):
         if before != after and (kind, answer.number) != ("Compact", 13):
             return "a refusal changed the store"
         if output is not None and output != call.output:
             return "a refusal changed the output"
-        return None
+        if before == after:
+            return None
     if kind in ("Find", "Count") and before != after:
         return "a reading call changed the store"
     if kind == "Find" and len(set(scheme.parts(output[:16 * answer.values[0]], 16))) < answer.values[0]:
         return "a find gave an id twice"
-    t = tables(before)
-    for name, table in t.items():
-        for i in range(table.rows):
-            one, two = row(before, table, i), row(after, table, i)
-            if one != two and two[0] == 0 and two != bytes(table.width):
-                return "a freed row is not zero"
-            if one != two and one[0] == 1 and two[0] == 1 and kind != "Compact":
-                return "a used row was written over"
-    if kind == "Erase" and answer.values[0] != len(used(before, t["V"])) - len(used(after, t["V"])):
-        return "the answer is not the V rows freed"
+    if before != after and not form.in_form(after):
+        return "a table is not in form"
+    new, gone = {}, {}
+    for name, t in tables(before).items():
+        one, two = Counter(used_rows(before, t)), Counter(used_rows(after, t))
+        new[name], gone[name] = (two - one).total(), (one - two).total()
+    return rows_moved(kind, call, answer, new, gone)
+
+
+def rows_moved(kind, call, answer, new, gone):
+    """What a call may add and take away, by tables, repeats counted."""
+    if kind == "Insert":
+        j = len(call.ids) // 16
+        if new != {"M": j, "V": j, "C": 1, "S": 1} or any(gone.values()):
+            return "an insert left other rows than its own"
+    elif kind == "Erase":
+        if any(new.values()) or gone["C"] or gone["S"] or gone["V"] != answer.values[0]:
+            return "the answer is not the V rows freed, or a row came or went besides"
+    elif kind == "Order":
+        if any(new.values()) or any(gone.values()):
+            return "an order kept other rows than it found"
+    elif kind == "Compact":
+        # An anchor may be a row that a counter was, where tags collide; no more rows come than anchors.
+        anchors = answer.values[0] if isinstance(answer, calls.Done) else answer.carried[0]
+        if new["M"] or new["V"] or new["S"] or gone["M"] or gone["V"] or new["C"] > anchors:
+            return "a compaction left other rows than its anchors"
     return None

@@ -1,4 +1,5 @@
-"""The ledger of document 01, 'The ledger', from its paragraph alone, with request 1 of document 02.
+"""The ledger of document 01, 'The ledger', from its paragraph alone, with requests 1 and 2 of
+document 02.
 
 It is fed each call's raw arguments and never an answer or a byte of the store [01:LG3]; with
 the store it shares the form of an answer and the conditions 1 to 6 [01:LG4].
@@ -32,6 +33,8 @@ class Ledger:
             return self.find(call)
         if isinstance(call, calls.Count):
             return self.count(call), None
+        if isinstance(call, calls.Order):
+            return self.order(), None
         return self.compact(call), None
 
     def insert(self, call):
@@ -113,3 +116,8 @@ class Ledger:
         yield from calls.compact_token_conditions(call.key)
         yield from calls.compact_conditions(calls.COMPACT_TOKEN, call.nonces)
         yield 19, len(call.nonces) // 12 < self.inserts
+
+    def order(self):
+        """How many used rows there are [02:W2.8]: of M and V one for each id in lists, of C the anchors and a counter
+        for each insert, of S a row for each insert. Nothing changes, and 20 never comes [02:W2.10]."""
+        return Done((2 * self.total() + self.anchors + 2 * self.inserts,))

@@ -1,19 +1,20 @@
-"""Wrong versions of store and ledger: each has to be caught by the examples or by the random
-lists, so that the comparison is known to be able to fail. Only a difference counts; an exception of
+"""Wrong versions of store and ledger: each has to be caught by the examples, by the random lists or on hostile
+stores, so that the comparison is known to be able to fail. Only a difference counts; an exception of
 a wrong version's own is a fault of this test. The first three are the slips that document 01, 'A day
 in the ledger', names.
 """
-import random
 import sys
 import traceback
 
 import calls
 import examples
+import form
+import hostile
 import scheme
 from calls import Done, Refused, first
 from ledger import Ledger
 from primitives import Cheap
-from scheme import Scheme, free, free_row, lookup, number, row, tables, used
+from scheme import Scheme, free, lookup, number, row, set_row, tables, used, used_rows
 
 
 class CountsFromZeroAfterAnchor(Scheme):
@@ -86,8 +87,7 @@ class EraseFirstOnly(Scheme):
         v = tables(store)["V"]
         of_id = [i for i in used(store, v) if row(store, v, i)[1:17] == id][:1]
         self.free_entries(store, {row(store, v, i)[17:] for i in of_id})
-        for i in of_id:
-            free_row(store, v, i)
+        self.free_rows(store, "V", of_id)
         return Done((len(of_id),))
 
 
@@ -158,9 +158,11 @@ class InsertWritesNoCounter(Scheme):
 
 
 class InsertWritesOnlyFirst(Scheme):
-    def put(self, store, name, content):
-        if name != "M" or not used(store, tables(store)["M"]):
-            super().put(store, name, content)
+    def put(self, store, name, *contents):
+        if name != "M":
+            super().put(store, name, *contents)
+        elif not used(store, tables(store)["M"]):
+            super().put(store, name, contents[0])
 
 
 class FindStopsAtMissing(Scheme):
@@ -316,7 +318,7 @@ class CompactionByLabels(Scheme):
     """19 counted by distinct CL instead of used S rows."""
     def compact_all_conditions(self, store, token, nonces):
         yield from calls.compact_conditions(len(token), nonces)
-        yield from scheme.state_conditions(store)
+        yield from self.state_conditions(store)
         yield 19, len(nonces) // 12 < len(set(self.labels_of_s(store, token)))
 
 
@@ -341,6 +343,485 @@ class SharesAlike(Scheme):
         return token[:1] + self.F(self.address_key(key, name, value), number(0)) + token[33:]
 
 
+# What document 02, request 2, could be taken for. What is wrong with the order of rows shows in the bytes alone.
+
+
+def by_key(key, checked=True, names="MVCS"):
+    """Rows of some tables in the order of a key, equal ones as they come; checked by it too, or by the right form."""
+    class Wrong(Scheme):
+        def arranged(self, rows, t):
+            right = scheme.arranged(rows, t)
+            if t.width not in [scheme.WIDTH[n] for n in names]:
+                return right
+            rows = sorted(rows, key=key)
+            return b"".join(rows) + right[len(b"".join(rows)):]
+
+        def in_form(self, store, t):
+            if not checked or t.width not in [scheme.WIDTH[n] for n in names]:
+                return super().in_form(store, t)
+            table = bytes(store[t.start:t.start + t.width * t.rows])
+            return table == self.arranged(used_rows(store, t), t)
+    return Wrong
+
+
+class TiesByTag(by_key(lambda r: r[:33])):
+    """Rows of one tag as they come: no list with tags that differ can show it of M and C."""
+
+
+class TiesById(by_key(lambda r: r[:17], names="V")):
+    pass
+
+
+class TiesByNonce(by_key(lambda r: r[:13], names="S")):
+    pass
+
+
+class LastByteLeftOut(by_key(lambda r: r[:-1])):
+    pass
+
+
+class Descending(by_key(lambda r: [-byte for byte in r])):
+    pass
+
+
+class DescendingUnchecked(by_key(lambda r: [-byte for byte in r], checked=False)):
+    pass
+
+
+class SignedBytes(by_key(form.signed)):
+    pass
+
+
+class SignedBytesUnchecked(by_key(form.signed, checked=False)):
+    pass
+
+
+class LittleEndian(by_key(lambda r: (r[0], r[:0:-1]))):
+    """The last byte first."""
+
+
+def checked(kind, wanted=lambda found, t: False):
+    """A check that misses a kind of fault, but where it is as wanted."""
+    class Wrong(Scheme):
+        def in_form(self, store, t):
+            return not [f for f in form.faults(store, t) if f[0] != kind or wanted(f[1], t)]
+    return Wrong
+
+
+class UsedAfterFreeAccepted(checked("used after free")):
+    pass
+
+
+class UsedLastRowAccepted(checked("used after free", lambda i, t: i < t.rows - 2)):
+    pass
+
+
+class LeftOverAccepted(checked("left over")):
+    pass
+
+
+class LeftOverInLastRowAccepted(checked("left over", lambda i, t: i < t.rows - 1)):
+    pass
+
+
+class LeftOverInFirstRowAccepted(checked("left over", lambda i, t: i > 0)):
+    pass
+
+
+class FirstPairUnchecked(checked("descending", lambda i, t: i > 0)):
+    pass
+
+
+class LastPairUnchecked(checked("descending", lambda i, t: i < t.rows - 2)):
+    """Of a full table."""
+
+
+def left_over_at(places):
+    class Wrong(Scheme):
+        def in_form(self, store, t):
+            cleared = bytearray(store)
+            for i in free(store, t):
+                for at in places(t):
+                    cleared[t.start + t.width * i + at] = 0
+            return super().in_form(cleared, t)
+    return Wrong
+
+
+class LeftOverAfterMarkAccepted(left_over_at(lambda t: [1])):
+    pass
+
+
+class LeftOverInLastByteAccepted(left_over_at(lambda t: [t.width - 1])):
+    pass
+
+
+class LeftOverAboveSevenBitsAccepted(Scheme):
+    """Zeros tested by a sum of signed bytes, or by less than all bits."""
+    def in_form(self, store, t):
+        cleared = bytearray(store)
+        for i in free(store, t):
+            set_row(cleared, t, i, bytes(byte & 0x7f for byte in row(store, t, i)))
+        return super().in_form(cleared, t)
+
+
+def unchecked(name):
+    class Wrong(Scheme):
+        def in_form(self, store, t):
+            return t == tables(store)[name] or super().in_form(store, t)
+    return Wrong
+
+
+class MUnchecked(unchecked("M")):
+    pass
+
+
+class VUnchecked(unchecked("V")):
+    pass
+
+
+class CUnchecked(unchecked("C")):
+    pass
+
+
+class SUnchecked(unchecked("S")):
+    pass
+
+
+class EqualRowsRefused(Scheme):
+    def in_form(self, store, t):
+        rows = used_rows(store, t)
+        return super().in_form(store, t) and len(set(rows)) == len(rows)
+
+
+class TwentyBeforeEleven(Scheme):
+    def state_conditions(self, store):
+        tests = list(self.tests(store))
+        yield from (tests[i] for i in (0, 2, 1))
+
+    def tests(self, store):
+        bad = scheme.header(store) is None
+        yield 10, bad
+        yield 11, not bad and scheme.marks_wrong(store)
+        yield 20, not bad and any(form.faults(store, t) for t in tables(store).values())
+
+
+class TwentyByTable(Scheme):
+    """11 and 20 table by table."""
+    def state_conditions(self, store):
+        yield 10, scheme.header(store) is None
+        for t in tables(store).values():
+            yield 11, any(store[t.start + t.width * i] > 1 for i in range(t.rows))
+            yield 20, bool(form.faults(store, t))
+
+
+def later(number_before, conditions):
+    """20 right after another number."""
+    class Wrong(Scheme):
+        pass
+
+    def moved(self, store, *arguments):
+        twenty = (20, False)
+        for number, holds in getattr(Scheme, conditions)(self, store, *arguments):
+            if number == 20:
+                twenty = (number, holds)
+                continue
+            yield number, holds
+            if number == number_before:
+                yield twenty
+    setattr(Wrong, conditions, moved)
+    return Wrong
+
+
+class TwentyAfterTwelve(later(12, "insert_all_conditions")):
+    pass
+
+
+class TwentyAfterThirteen(later(13, "insert_all_conditions")):
+    pass
+
+
+class TwentyAfterNineteen(later(19, "compact_all_conditions")):
+    pass
+
+
+class TwentyAfterThirteenInCount(later(13, "count_all_conditions")):
+    pass
+
+
+class TwentyBeforeFive(Scheme):
+    def erase_all_conditions(self, store, id):
+        yield from self.state_conditions(store)
+        yield from calls.erase_conditions(id)
+
+
+def not_tested(conditions):
+    class Wrong(Scheme):
+        pass
+    setattr(Wrong, conditions, lambda self, *arguments: (
+        pair for pair in getattr(Scheme, conditions)(self, *arguments) if pair[0] != 20))
+    return Wrong
+
+
+class FindTakesAnyForm(not_tested("find_all_conditions")):
+    pass
+
+
+class CountTakesAnyForm(not_tested("count_all_conditions")):
+    pass
+
+
+class EraseTakesAnyForm(not_tested("erase_all_conditions")):
+    pass
+
+
+class InsertTakesAnyForm(not_tested("insert_all_conditions")):
+    pass
+
+
+class CompactionTakesAnyForm(not_tested("compact_all_conditions")):
+    pass
+
+
+class OrderDropsEqualRows(Scheme):
+    def order(self, store):
+        answer = super().order(store)
+        if isinstance(answer, Done):
+            for t in tables(store).values():
+                self.arrange(store, t, set(used_rows(store, t)))
+        return answer
+
+
+class OrderDropsAndCountsEqualRows(OrderDropsEqualRows):
+    """The answer is that of what is left."""
+    def order(self, store):
+        answer = super().order(store)
+        return Done((self.ordered(store),)) if isinstance(answer, Done) else answer
+
+
+class OrderAnswersDistinctRows(Scheme):
+    def ordered(self, store):
+        return sum(len(set(used_rows(store, t))) for t in tables(store).values())
+
+
+class OrderAnswersEntries(Scheme):
+    """The rows of M alone."""
+    def ordered(self, store):
+        return len(used(store, tables(store)["M"]))
+
+
+class OrderAnswersWithoutLog(Scheme):
+    def ordered(self, store):
+        return super().ordered(store) - len(used(store, tables(store)["S"]))
+
+
+class OrderAnswersRowsMoved(Scheme):
+    def order(self, store):
+        before = bytes(store)
+        answer = super().order(store)
+        if isinstance(answer, Refused):
+            return answer
+        return Done((sum(row(before, t, i) != row(store, t, i) for t in tables(store).values() for i in range(t.rows)),))
+
+
+class OrderRefusedByForm(Scheme):
+    def order_conditions(self, store):
+        yield from self.state_conditions(store)
+
+
+class OrderTakesAnyMark(Scheme):
+    def order_conditions(self, store):
+        yield 10, scheme.header(store) is None
+
+
+class OrderLeavesFreeBytes(Scheme):
+    """Used rows come first, in order; free rows keep their bytes, in their order."""
+    def order(self, store):
+        before = bytes(store)
+        answer = super().order(store)
+        if isinstance(answer, Done):
+            for t in tables(store).values():
+                for i, kept in zip(free(store, t), free(before, t)):
+                    set_row(store, t, i, row(before, t, kept))
+        return answer
+
+
+class OrderLeavesLastTable(Scheme):
+    def order(self, store):
+        before = bytes(store)
+        answer = super().order(store)
+        if isinstance(answer, Done):
+            store[tables(store)["S"].start:] = before[tables(store)["S"].start:]
+        return answer
+
+
+class OrderBringsUsedRowsUp(Scheme):
+    """Used rows first, as they come."""
+    def order(self, store):
+        refused = first(self.order_conditions(store))
+        if refused:
+            return refused
+        for t in tables(store).values():
+            rows = used_rows(store, t)
+            store[t.start:t.start + t.width * t.rows] = b"".join(rows) + bytes(t.width * (t.rows - len(rows)))
+        return Done((self.ordered(store),))
+
+
+class InsertAtTheEnd(Scheme):
+    """The new rows behind the used ones."""
+    def put(self, store, name, *contents):
+        t = tables(store)[name]
+        rows = used_rows(store, t) + list(contents)
+        store[t.start:t.start + t.width * t.rows] = b"".join(rows) + bytes(t.width * (t.rows - len(rows)))
+
+
+class InsertAtTheFront(Scheme):
+    def put(self, store, name, *contents):
+        t = tables(store)[name]
+        rows = sorted(contents) + used_rows(store, t)
+        store[t.start:t.start + t.width * t.rows] = b"".join(rows) + bytes(t.width * (t.rows - len(rows)))
+
+
+class NewRowsUnsorted(Scheme):
+    """Each new row behind the rows that are smaller, the new ones among themselves as they come."""
+    def put(self, store, name, *contents):
+        t = tables(store)[name]
+        rows = used_rows(store, t)
+        at = sum(r < min(contents) for r in rows)
+        rows[at:at] = contents
+        store[t.start:t.start + t.width * t.rows] = b"".join(rows) + bytes(t.width * (t.rows - len(rows)))
+
+
+def not_closed(names):
+    """A freed row is zeroed where it stands."""
+    class Wrong(Scheme):
+        def free_rows(self, store, name, places):
+            if name not in names:
+                return super().free_rows(store, name, places)
+            for i in places:
+                set_row(store, tables(store)[name], i, bytes(scheme.WIDTH[name]))
+    return Wrong
+
+
+class FreedEntriesStay(not_closed("MV")):
+    pass
+
+
+class FreedLogStays(not_closed("S")):
+    pass
+
+
+class FreedCountersStay(not_closed("C")):
+    """The anchor's row is put in order, and the rows behind it."""
+    def put(self, store, name, *contents):
+        t = tables(store)[name]
+        if name != "C" or not contents or len(used(store, t)) == t.rows:
+            return super().put(store, name, *contents)
+        set_row(store, t, free(store, t)[0], contents[0])
+
+
+class FreedRowNotZeroed(Scheme):
+    """The rows behind a freed one move up, and the last row's bytes stay behind its mark."""
+    def free_rows(self, store, name, places):
+        t = tables(store)[name]
+        before, n = bytes(store), len(used(store, t))
+        super().free_rows(store, name, places)
+        for i in range(n - len(set(places)), n):
+            set_row(store, t, i, b"\0" + row(before, t, i)[1:])
+
+
+class LeavesFormAtDamage(Scheme):
+    """A compaction puts its tables in form when it is done, and not at 13."""
+    def compact(self, store, token, nonces):
+        old = bytearray(store)
+        answer = super().compact(store, token, nonces)
+        if answer[0] == 13 and bytes(old) != bytes(store):
+            s = tables(store)["S"]
+            left = used_rows(store, s)
+            store[s.start:] = b"".join(r if r in left else bytes(s.width) for r in (row(old, s, i) for i in range(s.rows)))
+        return answer
+
+
+class LabelsInAnotherOrder(Scheme):
+    def to_treat(self, labels):
+        return super().to_treat(labels)[::-1]
+
+
+class LabelsByThemselves(Scheme):
+    """In the order of the CL, not of their rows."""
+    def to_treat(self, labels):
+        return sorted(set(labels))
+
+
+class SearchMissesFirstRow(Scheme):
+    def lookup(self, store, t, tag):
+        i = super().lookup(store, t, tag)
+        return None if i == 0 else i
+
+
+class SearchMissesLastRow(Scheme):
+    """The last used row."""
+    def lookup(self, store, t, tag):
+        i = super().lookup(store, t, tag)
+        return None if i is not None and i == len(used(store, t)) - 1 else i
+
+
+class SearchMissesLastRowOfFull(Scheme):
+    """The last row of the table."""
+    def lookup(self, store, t, tag):
+        i = super().lookup(store, t, tag)
+        return None if i == t.rows - 1 else i
+
+
+class SearchOneBefore(Scheme):
+    """The row before the one that is not smaller."""
+    def lookup(self, store, t, tag):
+        i = super().lookup(store, t, tag)
+        return i if i is None else max(0, i - 1)
+
+
+class SearchTakesAnyOfTag(Scheme):
+    """The last of the rows with the tag."""
+    def lookup(self, store, t, tag):
+        found = [i for i in used(store, t) if row(store, t, i)[1:33] == tag]
+        return found[-1] if found else None
+
+
+class SearchTakesTheNext(Scheme):
+    """The first row whose tag is not smaller, whatever it is."""
+    def lookup(self, store, t, tag):
+        return next((i for i in used(store, t) if row(store, t, i)[1:33] >= tag), None)
+
+
+class EraseFreesOneRowOfTag(Scheme):
+    """Of the M rows with a tag the first alone."""
+    def free_entries(self, store, tags):
+        m = tables(store)["M"]
+        places = [lookup(store, m, tag) for tag in tags]
+        self.free_rows(store, "M", [i for i in places if i is not None])
+
+
+class LedgerOrderWithoutAnchors(Ledger):
+    def order(self):
+        return Done((2 * self.total() + 2 * self.inserts,))
+
+
+class LedgerOrderCountsIdsOnce(Ledger):
+    def order(self):
+        return Done((self.total() + self.anchors + 2 * self.inserts,))
+
+
+class LedgerOrderWithoutLog(Ledger):
+    def order(self):
+        return Done((2 * self.total() + self.anchors + self.inserts,))
+
+
+class LedgerOrderCompacts(Ledger):
+    def order(self):
+        answer = super().order()
+        self.inserts = 0
+        return answer
+
+
 # What document 02, request 1, could be taken for [02:W1.1 W1.2 W1.3 W1.6]; the lists have to catch each of these, the ledger's
 # below among them [02:W1.4 W1.5 W1.6].
 REPEATS = [FindGivesRepeats, FindAtLastPlace, FindDropsNeighboursOnly, FindOnceWithinShare,
@@ -349,14 +830,33 @@ REPEATS = [FindGivesRepeats, FindAtLastPlace, FindDropsNeighboursOnly, FindOnceW
            EraseCountsEachIdOnce]
 LEDGERS_REPEATS = [LedgerFindsRepeats, LedgerDropsEarlierRepeats, LedgerErasesEachIdOnce,
                    LedgerCountsEachIdOnce, LedgerKeepsEachIdOnce]
+# What request 2 could be taken for [02:W2.1 W2.2 W2.3 W2.4 W2.5 W2.6 W2.7 W2.8 W2.9 W2.10 W2.11 W2.12]: what goes wrong in lists
+# has to be caught there, by an answer or a byte, and the rest on hostile stores.
+FORMS_IN_LISTS = [TiesById, Descending, DescendingUnchecked, SignedBytes, SignedBytesUnchecked, LittleEndian,
+                  OrderAnswersEntries, OrderAnswersWithoutLog, OrderAnswersRowsMoved, InsertAtTheEnd,
+                  InsertAtTheFront, NewRowsUnsorted, FreedEntriesStay, FreedCountersStay, FreedRowNotZeroed,
+                  LabelsInAnotherOrder, LabelsByThemselves, SearchMissesFirstRow, SearchMissesLastRow,
+                  SearchMissesLastRowOfFull, SearchOneBefore, SearchTakesTheNext]
+FORMS = [TiesByTag, TiesByNonce, LastByteLeftOut, FreedLogStays, UsedAfterFreeAccepted, UsedLastRowAccepted, LeftOverAccepted,
+         LeftOverInLastRowAccepted, LeftOverInFirstRowAccepted, FirstPairUnchecked, LastPairUnchecked,
+         LeftOverAfterMarkAccepted, LeftOverInLastByteAccepted, LeftOverAboveSevenBitsAccepted, MUnchecked, VUnchecked,
+         CUnchecked, SUnchecked, EqualRowsRefused, TwentyBeforeEleven, TwentyByTable, TwentyAfterTwelve,
+         TwentyAfterThirteen, TwentyAfterNineteen, TwentyAfterThirteenInCount, TwentyBeforeFive, FindTakesAnyForm,
+         CountTakesAnyForm, EraseTakesAnyForm, InsertTakesAnyForm, CompactionTakesAnyForm, OrderDropsEqualRows,
+         OrderDropsAndCountsEqualRows, OrderAnswersDistinctRows, OrderRefusedByForm, OrderTakesAnyMark,
+         OrderLeavesFreeBytes, OrderLeavesLastTable, OrderBringsUsedRowsUp, LeavesFormAtDamage, SearchTakesAnyOfTag,
+         EraseFreesOneRowOfTag] + FORMS_IN_LISTS
+LEDGERS_FORMS = [LedgerOrderWithoutAnchors, LedgerOrderCountsIdsOnce, LedgerOrderWithoutLog, LedgerOrderCompacts]
 STORES = [CountsFromZeroAfterAnchor, NextAddressFromIdsListed, AnchorPerSRow, AnchorCountOneShort,
           AnchorNumberAgain, EraseLeavesM, EraseLeavesV, EraseFirstOnly, CompactionLeavesS,
           CompactionLeavesCounters, CompactionNeverTreats, InsertWritesNoCounter,
           InsertWritesOnlyFirst, FindStopsAtMissing, FindOneAddressShort, FindOnlyShareZero,
           FindWritesBeforeRefusing, FindCarriesRoom, FindAlwaysEmpty, RoomInAnotherOrder,
-          RefusesWhenFull, CompactionByLabels, LabelWithoutLength, LabelBigGroupsFirst, SharesAlike] + REPEATS
+          RefusesWhenFull, CompactionByLabels, LabelWithoutLength, LabelBigGroupsFirst, SharesAlike] + REPEATS + FORMS
 LEDGERS = [LedgerMadeFromIdsListed, LedgerAnchorPerInsert, LedgerSixteenTooLate,
-           LedgerAnchorsNotKept] + LEDGERS_REPEATS
+           LedgerAnchorsNotKept] + LEDGERS_REPEATS + LEDGERS_FORMS
+# Caught by the lists, whatever the examples say.
+IN_LISTS = REPEATS + LEDGERS_REPEATS + FORMS_IN_LISTS + LEDGERS_FORMS
 
 
 def by_examples(build, build_ledger):
@@ -367,17 +867,36 @@ def by_examples(build, build_ledger):
     return None
 
 
-def by_lists(build, build_ledger, given):
-    """The number of lists after which the wrong version was caught, or None."""
+def by_lists(build, build_ledger, given, bytes_too):
+    """The number of lists after which the wrong version was caught, or None: by what it tells, and with `bytes_too` by
+    the bytes that it leaves."""
     from compare import Difference, Lists, run_list, stores_for
     lists = Lists(given.seed, given.longest)
+
+    def alike(stores):
+        return "the stores differ" if bytes(stores[0]) != bytes(stores[1]) else None
+
     for i in range(given.lists):
         drawn = lists.draw()
-        place = scheme.random_place(random.Random(i)) if i % 2 else scheme.lowest
-        stores = stores_for([build(Cheap, place)], lists)
+        stores = stores_for([build(Cheap), Scheme(Cheap)] if bytes_too else [build(Cheap)], lists)
         try:
-            run_list(drawn, stores, build_ledger(lists.p, *lists.sizes))
+            run_list(drawn, stores, build_ledger(lists.p, *lists.sizes), alike=alike if bytes_too else None)
         except Difference:
+            return i + 1
+    return None
+
+
+def by_hostile(build, given):
+    """The number of calls on hostile stores after which the wrong version told something else than the right one, or left
+    other bytes, or None."""
+    drawn = hostile.Hostile(given.seed, Cheap)
+    wrong, right = build(Cheap), Scheme(Cheap)
+    for i in range(given.hostile):
+        store, call = drawn.draw()
+        if hostile.huge(right, store, call):
+            continue
+        other = bytearray(store)
+        if wrong.call(store, call) != right.call(other, call) or store != other:
             return i + 1
     return None
 
@@ -387,14 +906,18 @@ def caught(given):
     for wrong in STORES + LEDGERS:
         pair = (wrong, Ledger) if wrong in STORES else (Scheme, wrong)
         try:
-            example, after = by_examples(*pair), by_lists(*pair, given)
+            example = by_examples(*pair)
+            stores = by_hostile(wrong, given) if wrong in FORMS else None
+            # Lists that can show nothing are left out, for their time.
+            after = by_lists(*pair, given, wrong in FORMS) if wrong in IN_LISTS or not stores else None
         except Exception:
             print("FAULT in %s, which shows nothing:" % wrong.__name__)
             traceback.print_exc(file=sys.stdout)
             faults += 1
             continue
-        print("%-28s examples: %-18s lists: %s"
-              % (wrong.__name__, example or "-", "after %d" % after if after else "-"), flush=True)
-        missed += not (after if wrong in REPEATS + LEDGERS_REPEATS else example or after)
+        print("%-30s examples: %-16s lists: %-10s hostile stores: %s"
+              % (wrong.__name__, example or "-", "after %d" % after if after else "-", "after %d" % stores if stores else "-"),
+              flush=True)
+        missed += not (after if wrong in IN_LISTS else after or stores if wrong in FORMS else example or after)
     print("%d wrong versions, %d not caught, %d at fault" % (len(STORES + LEDGERS), missed, faults))
     return 1 if missed or faults else 0

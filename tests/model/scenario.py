@@ -1,13 +1,12 @@
 """The records and lines of the program crates/scenario: document 01's worked list G1 to G8, then
-every refusal at both sides of its limit, damage, forged and hostile stores, ids with several entries. The
-lines come from the model of this folder, which was written from the papers, and never from our own program.
+every refusal at both sides of its limit, damage, forged and hostile stores, ids with several entries, tables in form and
+out of it. The lines come from the model of this folder, which was written from the papers, and never from our own program.
 
   scenario.py            compares crates/scenario/stdin and stdout with what is derived here
   scenario.py --write    writes them
 
 After each call the line has the start of the store's hash, so the bytes of every row are
-compared too. The row placing is left open; the program's is known here: an anchor takes the place
-of the first counter freed, everything else the free row of lowest index.
+compared too: a table's rows fix them [02:W2.5].
 """
 import hashlib
 import pathlib
@@ -15,8 +14,10 @@ import random
 import sys
 
 import examples
+import form
+import older
 import scheme
-from calls import Compact, Count, Done, Erase, Find, Insert, Refused
+from calls import Compact, Count, Done, Erase, Find, Insert, Order, Refused
 from examples import GREATEST, HUE, KEY, NONCE, SIZE, id_of
 from primitives import Real
 
@@ -27,18 +28,9 @@ from derived import settle  # noqa: E402, stands one folder up
 PROGRAM = TESTS.parent / "crates" / "scenario"
 (TITLE, MAKE, SET, RESIZE, INSERT, ERASE, FIND, COUNT, COMPACT, BY_INSERT_TOKEN, BY_FIND_TOKEN,
  BY_COUNT_TOKEN, BY_COMPACT_TOKEN, MAKE_INSERT_TOKEN, MAKE_FIND_TOKEN, MAKE_COUNT_TOKEN,
- MAKE_COMPACT_TOKEN, TAGS, HASH) = range(19)
+ MAKE_COMPACT_TOKEN, TAGS, HASH, ORDER) = range(20)
 LENT = 165
 ROOM = 884744 + 16
-
-
-class Placing(scheme.Scheme):
-    """The scheme with the program's row placing."""
-
-    def treat(self, store, cl, counter, nonce):
-        self.place = lambda table, rows, content: counter.held[0]
-        super().treat(store, cl, counter, nonce)
-        self.place = scheme.lowest
 
 
 def number(n):
@@ -65,7 +57,7 @@ class Scenario:
     """Records and lines, with the model's store beside them."""
 
     def __init__(self):
-        self.model = Placing(Real)
+        self.model = scheme.Scheme(Real)
         self.buffer = bytearray(ROOM)
         self.length = 0
         self.records, self.lines = [], []
@@ -126,6 +118,8 @@ class Scenario:
             self.record(FIND, call.key, call.name, call.value, call.output)
         elif isinstance(call, Count):
             self.record(COUNT, call.key, call.name, call.value)
+        elif isinstance(call, Order):
+            self.record(ORDER)
         else:
             self.record(COMPACT, call.key, call.nonces)
         answer, output = self.change(lambda store: self.model.call(store, call))
@@ -201,21 +195,48 @@ class Scenario:
         t = self.table(name)
         self.set(t.start + t.width * i, content)
 
-    def forge(self, i, kind, n, one, two, field=HUE, u=0):
-        """Row i of C as a counter or an anchor with any numbers."""
+    def becomes(self, store):
+        """These are the store's bytes from now on; what differs is set, some 4,000 bytes at a time."""
+        assert len(store) == self.length
+        for at in range(0, self.length, 4000):
+            old, new = self.store[at:at + 4000], store[at:at + 4000]
+            differs = [i for i, (x, y) in enumerate(zip(old, new)) if x != y]
+            if differs:
+                self.set(at + differs[0], bytes(new[differs[0]:differs[-1] + 1]))
+
+    def put(self, name, *rows):
+        """Rows of a table, among the others in byte order."""
+        store = self.store
+        self.model.put(store, name, *rows)
+        self.becomes(store)
+
+    def table_is(self, name, rows):
+        """The rows of a table from its first on, in form or not; the others are zeros."""
+        t = self.table(name)
+        store = self.store
+        store[t.start:t.start + t.width * t.rows] = b"".join(rows).ljust(t.width * t.rows, b"\0")
+        self.becomes(store)
+
+    def damage(self, cl, position):
+        """The counter's first number is another."""
+        c = self.table("C")
+        i = scheme.lookup(self.store, c, self.model.counter_tag(cl, position))
+        at = c.start + c.width * i + 52
+        self.set(at, bytes([self.store[at] ^ 1]))
+
+    def forge(self, kind, n, one, two, field=HUE, u=0, nonce=NONCE):
+        """A row of C as a counter or an anchor with any numbers."""
         cl = self.cl(field, u)
         tag = self.model.counter_tag(cl, n) if kind == "counter" else self.model.anchor_tag(cl, n)
-        ce = self.model.F(cl, scheme.number(2))
-        plain = scheme.number(one) + scheme.number(two)
-        self.set_row("C", i, b"\1" + tag + NONCE + self.model.E(ce, NONCE, plain))
+        self.put("C", self.model.c_row(cl, tag, nonce, one, two))
 
     def cl(self, field=HUE, u=0):
         return self.model.F(self.model.counter_key(KEY, *field), scheme.number(u))
 
-    def log(self, i, field=HUE, u=0, nonce=NONCE):
-        """Row i of S with the CL of a field."""
+    def log(self, field=HUE, u=0, nonce=NONCE):
+        """A row of S with the CL of a field."""
         ks = self.model.compact_token(KEY)
-        self.set_row("S", i, b"\1" + nonce + self.model.E(ks, nonce, self.cl(field, u)))
+        self.put("S", b"\1" + nonce + self.model.E(ks, nonce, self.cl(field, u)))
 
     def insert_token(self, field=HUE, u=0, p=1):
         return self.model.insert_token(KEY, *field, p, u, NONCE)
@@ -312,16 +333,17 @@ def call_inputs(s):
 
 
 def each(s, title):
-    """The five operations with right arguments."""
+    """The six operations with right arguments; the last puts the store in form [02:W2.6]."""
     s.insert(title + ", insert", s.insert_token(), id_of("A"), bytes(24))
     s.call(title + ", erase", Erase(id_of("Z")))
     s.find(title + ", find", s.model.find_token(KEY, *HUE), bytes([LENT]) * 40)
     s.count(title + ", count", s.model.count_token(KEY, *HUE))
     s.compact(title + ", compaction", s.model.compact_token(KEY), bytes(48))
+    return s.call(title + ", order", Order())
 
 
 def states(s):
-    """10, 11, 12 [01:RS2 RS3 RS4], 10 before 11 before 12 [01:RS1]."""
+    """10, 11, 12 [01:RS2 RS3 RS4], 10 before 11 before 12 [01:RS1]; an order has no other than 10 and 11 [02:W2.9]."""
     for at, byte in ((0, 0), (0, 2), (1, 16), (2, 17), (3, 0), (3, 5), (4, 17), (5, 0), (6, 17), (7, 0)):
         s.make("a store", 1, 4, 4, 4)
         s.set(8, b"\2")
@@ -340,7 +362,7 @@ def states(s):
     s.make("a store", 1, 4, 4, 4)
     s.insert("p = 0 in the token", s.insert_token(p=0), id_of("A"), bytes(24))
     s.insert("p = 2 in the token", s.insert_token(p=2), id_of("A"), bytes(24))
-    s.forge(0, "counter", 1, 1, 1)
+    s.forge("counter", 1, 1, 1)
     s.insert("12 before 13", s.insert_token(p=0), id_of("A"), bytes(24))
 
 
@@ -353,10 +375,10 @@ def damage(s):
                  [("anchor", 1, 2 ** 64 - 1, 1)], [("anchor", 1, 2 ** 64 - 2, 1), ("anchor", 2, 2 ** 63, 1)],
                  [("counter", 1, 0, 1), ("counter", 2, 2 ** 63, 1)]):
         s.make("a store", 1, 4, 4, 4)
-        for i, one in enumerate(rows):
-            s.forge(i, *one)
+        for one in rows:
+            s.forge(*one)
         each(s, "damage " + " ".join("%s %d %d %d" % r for r in rows))
-        s.log(0)
+        s.log()
         s.compact("its CL in S", s.model.compact_token(KEY), bytes(12))
     for rows in ([("counter", 1, 7, 9), ("counter", 2, 0, 2)],
                  [("anchor", 1, 2 ** 40, 2 ** 40), ("anchor", 2, 5, 3)],
@@ -364,11 +386,11 @@ def damage(s):
                  [("anchor", 2, 2 ** 40, 1), ("counter", 2, 1, 1)],
                  [("anchor", 1, GREATEST, 7)], [("anchor", 1, 0, 7), ("counter", 2, 0, 8)]):
         s.make("a store", 1, 4, 4, 4)
-        for i, one in enumerate(rows):
-            s.forge(i, *one)
+        for one in rows:
+            s.forge(*one)
         each(s, "no damage " + " ".join("%s %d %d %d" % r for r in rows))
     s.make("a store", 1, 4, 4, 4)
-    s.forge(2, "counter", 1, 5, 5, u=1)
+    s.forge("counter", 1, 5, 5, u=1)
     each(s, "damage in share 1")
 
 
@@ -381,11 +403,11 @@ def limits(s):
 
     for count, title in ((GREATEST, "14"), (GREATEST - 1, "14 and 15"), (GREATEST - 2, "15 and 16")):
         s.make("a store", 1, 1, 1, 1)
-        s.forge(0, "anchor", 1, 1, count)
+        s.forge("anchor", 1, 1, count)
         insert("count %d, one id" % count)
         insert("count %d, two ids" % count, 2)
     s.make("a store", 1, 4, 4, 4)
-    s.forge(0, "anchor", 1, 1, GREATEST - 1)
+    s.forge("anchor", 1, 1, GREATEST - 1)
     insert("to the greatest count")
     insert("one more")
     s.count("the greatest count", s.model.count_token(KEY, *HUE))
@@ -397,12 +419,12 @@ def limits(s):
         insert("one id, one free row in " + table)
         insert("one id, none free in " + table)
     s.make("a store", 1, 1, 1, 1)
-    s.forge(0, "anchor", 1, 1, 1)
+    s.forge("anchor", 1, 1, 1)
     s.set_row("S", 0, b"\1")
     insert("15 before 16 and 17", 2)
     insert("16 before 17")
     s.make("a store", 1, 1, 2, 1)
-    s.forge(0, "anchor", 1, 1, 1)
+    s.forge("anchor", 1, 1, 1)
     s.set_row("S", 0, b"\1")
     insert("17")
     s.make("a store", 1, 4, 4, 4)
@@ -414,10 +436,13 @@ def limits(s):
     for room in (31, 47, 48, 63, 64, 65):
         s.find("three ids at four addresses, room %d" % room, s.model.find_token(KEY, *HUE), bytes([LENT]) * room)
     ks = s.model.compact_token(KEY)
-    s.set_row("C", 0, b"\1" * 45 + b"\0" * 16)
+    whole = s.store
+    s.damage(s.cl(), 2)
     s.compact("no nonces for two rows: 19 before 13", ks, b"")
     s.compact("one nonce for two rows", ks, bytes(12))
     s.compact("two nonces", ks, bytes(24))
+    s.becomes(whole)
+    s.compact("two nonces, no damage", ks, bytes(24))
     s.compact("nothing left, no nonces", ks, b"")
 
 
@@ -425,58 +450,163 @@ def compactions(s):
     """13 keeps what was treated [01:RS13]; k = 0 takes no nonce [01:OP2 OP11]; the freed rows are those
     held, in C and in S [01:ST10 ST12 OP12 OP13]."""
     ks, nonces = s.model.compact_token(KEY), b"1" * 12 + b"2" * 12 + b"3" * 12 + b"4" * 12
+    for damaged in (1, 0):
+        s.make("a store", 1, 8, 8, 8)
+        for field, letter in ((SIZE, "A"), (SIZE, "B"), (HUE, "C")):
+            s.call("insert " + letter, examples.insert(field, 0, letter))
+        # S is in byte order, and so the CL are
+        order = list(dict.fromkeys(s.model.labels_of_s(s.store, ks)))
+        counters = {s.cl(SIZE): 2, s.cl(HUE): 1}
+        s.damage(order[damaged], counters[order[damaged]])
+        s.compact("damage at CL %d of two" % damaged, ks, nonces)
+        for field in (SIZE, HUE):
+            s.count("what is before it is treated", s.model.count_token(KEY, *field))
+        s.compact("damage at the first CL", ks, nonces)
     s.make("a store", 1, 8, 8, 8)
-    for field, letter in ((SIZE, "A"), (SIZE, "B"), (HUE, "C")):
-        s.call("insert " + letter, examples.insert(field, 0, letter))
-    c = s.table("C")
-    s.set(c.start + 2 * c.width + 52, bytes([s.store[c.start + 2 * c.width + 52] ^ 1]))
-    s.compact("damage at the second CL", ks, nonces)
-    s.count("the first stays treated", s.model.count_token(KEY, *SIZE))
-    s.compact("damage at the first CL", ks, nonces)
-    s.make("a store", 1, 8, 8, 8)
-    s.log(0)
+    s.log()
     s.call("insert A", examples.insert(SIZE, 0, "A"))
     s.compact("k = 0 takes no nonce", ks, nonces)
     s.call("find", Find(KEY, *SIZE, bytes(32)))
     s.make("a store", 1, 8, 8, 8)
-    s.forge(0, "anchor", 1, GREATEST, 5)
-    s.forge(1, "counter", GREATEST + 1, 0, 6)
-    s.log(0)
+    s.forge("anchor", 1, GREATEST, 5)
+    s.forge("counter", GREATEST + 1, 0, 6)
+    s.log()
     s.compact("a position above the greatest", ks, nonces)
     s.count("the next reading", s.model.count_token(KEY, *HUE))
-    s.make("a store", 1, 8, 8, 8)
-    for i in (5, 3, 1):
-        s.forge(i, "counter", 1 + (5 - i) // 2, 0, 6 - i)
-    s.forge(7, "counter", 2, 0, 99)
-    s.log(2)
-    s.log(6, nonce=b"n" * 12)
-    s.compact("counters in any order, one twice", ks, nonces)
-    s.count("after it", s.model.count_token(KEY, *HUE))
-    s.compact("again", ks, nonces)
-    for i, letter in enumerate("ABC"):
-        s.call("insert %s" % letter, examples.insert((HUE, SIZE)[i % 2], i % 2, letter))
-    s.compact("three CL", ks, nonces)
-    s.call("find", Find(KEY, *HUE, bytes(64)))
+    for copies in ((99, b"a"), (99, b"z"), (2, NONCE)):
+        # the row of lowest index is the one that is read and freed, of equal ones too
+        s.make("a store", 1, 8, 8, 8)
+        for n in (3, 1, 2):
+            s.forge("counter", n, 0, n)
+        s.forge("counter", 2, 0, copies[0], nonce=copies[1] * (12 // len(copies[1])))
+        s.log()
+        s.log(nonce=b"n" * 12)
+        s.log(nonce=b"n" * 12)
+        s.compact("counters in any order, one twice", ks, nonces)
+        s.count("after it", s.model.count_token(KEY, *HUE))
+        s.compact("again", ks, nonces)
+        for i, letter in enumerate("ABC"):
+            s.call("insert %s" % letter, examples.insert((HUE, SIZE)[i % 2], i % 2, letter))
+        s.compact("three CL", ks, nonces)
+        s.call("find", Find(KEY, *HUE, bytes(64)))
 
 
 def rows(s):
-    """Lookup, freeing and free rows' bytes [01:ST5 ST13 ST14 ST15 OP15]; erase by tags [01:ST8 OP4]."""
+    """Lookup, freeing and free rows' bytes [01:ST5 ST13 ST14 OP15]; erase by tags [01:ST8 OP4]."""
     s.make("a store", 0, 4, 4, 4)
     junk = bytearray([7]) * (s.length - 8)
     for t in scheme.tables(s.store).values():
         for i in range(t.rows):
             junk[t.start + t.width * i - 8] = 0
     s.set(8, junk)
-    s.call("free rows with any bytes", examples.insert(HUE, 0, "AB", p=0))
-    m = s.table("M")
-    a, b = scheme.row(s.store, m, 0), scheme.row(s.store, m, 1)
-    s.set_row("M", 2, a[:60] + bytes([a[60] ^ 1]))
-    s.set_row("V", 2, b"\1" + id_of("A") + b[1:33])
-    s.call("the lowest row with the tag", Find(KEY, *HUE, bytes(48)))
-    s.call("erase by two V rows", Erase(id_of("A")))
-    s.call("find after it", Find(KEY, *HUE, bytes(48)))
-    s.call("erase of nothing", Erase(id_of("A")))
-    s.call("erase of the rest", Erase(id_of("B")))
+    each(s, "free rows with any bytes")
+    s.call("insert into it", examples.insert(HUE, 0, "AB", p=0))
+    fresh = s.store
+    m, v = s.table("M"), s.table("V")
+    tags = {r[1:17]: r[17:] for r in scheme.used_rows(s.store, v)}
+    a, b = (next(r for r in scheme.used_rows(s.store, m) if r[1:33] == tags[id_of(x)]) for x in "AB")
+    for other in (a, a[:60] + bytes([a[60] ^ 1]), a[:33] + bytes(28), a[:33] + b"\xff" * 28):
+        s.becomes(fresh)
+        s.put("M", other)
+        s.put("V", b"\1" + id_of("A") + b[1:33])
+        s.call("the lowest row with the tag", Find(KEY, *HUE, bytes(48)))
+        s.call("erase by two V rows", Erase(id_of("A")))
+        s.call("find after it", Find(KEY, *HUE, bytes(48)))
+        s.call("erase of nothing", Erase(id_of("A")))
+        s.call("erase of the rest", Erase(id_of("B")))
+
+
+def forms(s):
+    """Every way of being out of form in each table, which is 20 [02:W2.11] after 11 and before 12, 19 and 13 [02:W2.12], and
+    what is just in form [02:W2.1 W2.2 W2.3]; an order puts it in form [02:W2.6], keeps every used row [02:W2.7] and
+    answers how many there are [02:W2.8]."""
+    met = form.Forms()
+
+    def with_byte(w, at, byte):
+        return bytes([1] + [5] * (at - 1) + [byte] + [5] * (w - 1 - at))
+
+    def left(w, at, byte):
+        return bytes(at) + bytes([byte]) + bytes(w - 1 - at)
+
+    def tried(title, name, rows, before=None):
+        """The six calls on a store with these rows of a table."""
+        s.make("a store", 1, 4, 4, 4)
+        s.table_is(name, rows)
+        met.store(bytes(s.store))
+        good = form.in_form(s.store)
+        if before:
+            before()
+        answer = each(s, "%s: %s" % (name, title))
+        assert before or good or answer == Done((sum(r[0] == 1 for r in rows),)), title
+
+    for name, w in scheme.WIDTH.items():
+        one, zero = with_byte(w, 1, 5), bytes(w)
+        for title, at, low, high in (("the byte after the mark", 1, 4, 6), ("the byte after the mark, 7f and 80", 1, 0x7F, 0x80),
+                                     ("the last byte", w - 1, 4, 6), ("the last byte, 7f and 80", w - 1, 0x7F, 0x80),
+                                     ("byte 8", 8, 0, 255), ("byte 7, 7f and 80", 7, 0x7F, 0x80), ("byte 33", 33, 0, 1)):
+            small, great = with_byte(w, at, low), with_byte(w, at, high)
+            tried(title + ", in order", name, [small, great])
+            tried(title + ", exchanged", name, [great, small])
+            tried(title + ", exchanged at the end of a full table", name, [small, small, great, small])
+            tried(title + ", the last two exchanged", name, [small, great, small])
+        tried("one row", name, [one])
+        tried("equal rows", name, [one] * 2)
+        tried("equal rows, a full table", name, [one] * 4)
+        tried("a free row first", name, [zero, one])
+        tried("a free row first, a full table else", name, [zero, one, one, one])
+        tried("a free row between", name, [one, zero, one])
+        tried("the last row used, the others free", name, [zero, zero, zero, one])
+        tried("the last row used after a gap", name, [one, zero, zero, one])
+        for at, byte in ((1, 1), (1, 0x80), (8, 1), (w - 1, 1), (w - 1, 0x80)):
+            for i in (0, 1, 3):
+                first = one if byte == 1 else zero
+                tried("byte %d of row %d left over" % (at, i), name, [first] * i + [left(w, at, byte)])
+    # Where other refusals wait.
+    for name, w in scheme.WIDTH.items():
+        rows = [with_byte(w, 1, 6), with_byte(w, 1, 5)]
+        for other in "MVCS":
+            tried("11 in %s before 20" % other, name, rows, lambda: s.set_row(other, 3, b"\2"))
+        s.make("a store", 1, 4, 4, 4)
+        s.table_is(name, rows)
+        s.insert("20 before 12", s.insert_token(p=0), id_of("A"), bytes(24))
+        s.insert("20 before 15", s.insert_token(), different(5), bytes(12 * 6))
+        s.compact("20 before 19", s.model.compact_token(KEY), b"")
+        s.insert("5 before 20", s.insert_token(), b"", bytes(12))
+        s.call("5 before 20", Erase(b""))
+        s.find("6 before 20", b"", b"")
+        s.compact("4 before 20", s.model.compact_token(KEY), b"1")
+    s.make("a store", 1, 4, 4, 4)
+    s.forge("counter", 1, 1, 1)
+    s.log()
+    s.table_is("M", [bytes(61), with_byte(61, 1, 5)])
+    each(s, "20 before 13")
+    each(s, "13 after it")
+    assert not met.too_seldom(1), met.too_seldom(1)
+
+
+def version_before(s):
+    """Stores of the version before, the program's own placing and others: 20, then in form, and every find and count tells
+    what it told [02:W2.6 W2.7 W2.8 W2.9 W2.10]. Then on."""
+    pick = random.Random(2)
+    for turn in range(12):
+        p, sizes = pick.randrange(3), tuple(pick.randrange(4, 9) for _ in range(3))
+        place = older.lowest if turn % 2 else older.random_place(pick)
+        store, _, model = older.filled(Real, place, p, sizes, 10, pick, junk=turn % 3 == 0)
+        told = older.readings(model, store, p)
+        s.make("a store", p, *sizes)
+        s.becomes(store)
+        title = "before %d" % turn
+        assert older.out_of_form(store), title
+        each(s, title)
+        s.becomes(store)
+        s.call(title + ", order", Order())
+        assert older.readings(s.model, s.store, p) == told, title
+        for field in older.FIELDS:
+            s.call(title + ", find", Find(KEY, *field, bytes(16 * 8)))
+            s.call(title + ", count", Count(KEY, *field))
+        s.insert(title + ", insert", s.insert_token(p=p), id_of("A"), pick.randbytes(24))
+        s.compact(title + ", compaction", s.model.compact_token(KEY), pick.randbytes(12 * 8))
+        s.call(title + ", order again", Order())
 
 
 def repeats(s):
@@ -548,14 +678,14 @@ def repeats(s):
     finds("one id in one share", 1, 2)
 
     def entry(i, u, address, id):
-        """Row i of M as an entry of hue=red."""
+        """A row of M as an entry of hue=red, the i-th."""
         mt = s.model.F(s.model.address_key(KEY, *HUE), scheme.number(u))
         me = s.model.F(s.model.entry_key(KEY, *HUE), scheme.number(u))
         nonce = bytes([i]) * 12
-        s.set_row("M", i, b"\1" + s.model.entry_tag(mt, address) + nonce + s.model.E(me, nonce, id))
+        s.put("M", b"\1" + s.model.entry_tag(mt, address) + nonce + s.model.E(me, nonce, id))
 
     s.make("a store", 0, 6, 4, 4)
-    s.forge(0, "anchor", 1, 1, 9)
+    s.forge("anchor", 1, 1, 9)
     for i, (address, id) in enumerate(((9, a), (2, b), (5, a), (7, b), (5, c), (10, c))):
         entry(i, 0, address, id)
     finds("forged entries, a tag twice, an address past the count", 2, 4)
@@ -563,16 +693,16 @@ def repeats(s):
     for count in (2048, 2049):
         s.make("a store", 1, 6, 4, 4)
         for u, n in enumerate((2048, count)):
-            s.forge(u, "counter", 1, 0, n, u=u)
+            s.forge("counter", 1, 0, n, u=u)
         for i, (u, address, id) in enumerate(((1, count, a), (0, 2048, c), (0, 1, b), (1, 1, c), (1, 2, b), (0, 2049, a))):
             entry(i, u, address, id)
         finds("few entries at %d addresses" % (2048 + count), 3, 5)
 
 
 def hostile(s):
-    """Any bytes behind a good header and good marks."""
-    pick = random.Random(1)
-    for turn in range(60):
+    """Any bytes behind a good header and good marks; mostly put in form, so that more than 20 is told."""
+    pick, told = random.Random(1), set()
+    for turn in range(80):
         p, m, c, t = pick.randrange(3), pick.randrange(1, 5), pick.randrange(1, 5), pick.randrange(1, 5)
         s.make("a store", p, m, c, t)
         content = bytearray(pick.randbytes(s.length - 8))
@@ -580,34 +710,41 @@ def hostile(s):
             for i in range(table.rows):
                 content[table.start + table.width * i - 8] = pick.randrange(2)
         s.set(8, content)
-        for i in range(c):
-            if pick.randrange(2):
+        in_form = turn % 4 < 3
+        if in_form:
+            store = s.store
+            s.model.order(store)
+            s.becomes(store)
+            for _ in range(pick.randrange(len(scheme.free(s.store, s.table("C"))) + 1)):
                 kind = pick.choice(["counter", "anchor"])
-                one = 0 if kind == "counter" else pick.randrange(3)
-                s.forge(i, kind, pick.randrange(1, 4), one, pick.randrange(9), u=pick.randrange(p + 1))
-        for i in range(t):
-            if pick.randrange(2):
-                s.log(i, u=pick.randrange(p + 1), nonce=pick.randbytes(12))
+                one = pick.choice((0, 0, 0, 1)) if kind == "counter" else pick.randrange(3)
+                s.forge(kind, pick.randrange(1, 4), one, pick.randrange(9), u=pick.randrange(p + 1))
+            for _ in range(pick.randrange(len(scheme.free(s.store, s.table("S"))) + 1)):
+                s.log(u=pick.randrange(p + 1), nonce=pick.randbytes(12))
         title = "hostile %d" % turn
         order = [lambda: s.insert(title + ", insert", s.insert_token(p=p), pick.randbytes(16), pick.randbytes(24)),
                  lambda: s.call(title + ", erase", Erase(scheme.row(s.store, s.table("V"), 0)[1:17])),
                  lambda: s.find(title + ", find", s.model.find_token(KEY, *HUE), bytes(pick.choice([0, 16, 64, 256]))),
                  lambda: s.count(title + ", count", s.model.count_token(KEY, *HUE)),
-                 lambda: s.compact(title + ", compaction", s.model.compact_token(KEY), pick.randbytes(48))]
+                 lambda: s.compact(title + ", compaction", s.model.compact_token(KEY), pick.randbytes(48)),
+                 lambda: s.call(title + ", order", Order())]
         pick.shuffle(order)
         for act in order:
-            act()
+            answer = act()
+            told.add(answer.number if isinstance(answer, Refused) else "done")
+    assert {"done", 13, 15, 16, 17, 18, 20} <= told, told
 
 
 def main():
     s = Scenario()
-    for part in (worked, token_makings, makings, call_inputs, states, damage, limits, compactions, rows, repeats, hostile):
+    for part in (worked, token_makings, makings, call_inputs, states, damage, limits, compactions, rows, repeats, forms,
+                 version_before, hostile):
         before = len(s.records)
         part(s)
         print("%s: %d records" % (part.__name__.replace("_", " "), len(s.records) - before), flush=True)
-    numbers = {n for n in range(1, 20) if any(": refused %d%s" % (n, end) in line for line in s.lines
+    numbers = {n for n in range(1, 21) if any(": refused %d%s" % (n, end) in line for line in s.lines
                                               for end in (";", " "))}
-    missing = set(range(1, 20)) - numbers
+    missing = set(range(1, 21)) - numbers
     if missing:
         print("scenario.py: no line has refusal %s" % sorted(missing))
         return 1

@@ -1,8 +1,9 @@
-"""Labels, tokens, the store and the five operations on its bytes: document 01, 'Labels' to
-'Refusals from the state', with request 1 of document 02, for all inputs, hostile stores among them. Written
-from the papers.
+"""Labels, tokens, the store and the six operations on its bytes: document 01, 'Labels' to
+'Refusals from the state', with requests 1 and 2 of document 02, for all inputs, hostile stores among them.
+Written from the papers.
 
-The row placing is a parameter: `lowest`, `random_place(generator)`, or `follow(after)`.
+Each table's rows fix its bytes [02:W2.5]: `arranged`. What the version before did with them, which left the
+row placing open, is in older.py.
 """
 import struct
 from collections import namedtuple
@@ -19,31 +20,6 @@ Header = namedtuple("Header", "p m c s")
 Table = namedtuple("Table", "start width rows")
 # A counter read: B, Start, k, the count, and the C rows held as counters Start+1 to Start+k.
 Counter = namedtuple("Counter", "anchors start k count held")
-
-
-# A row placing picks among the free rows of a table the one that takes the new row.
-
-
-def lowest(table, rows, content):
-    """The free row of lowest index."""
-    return rows[0]
-
-
-def random_place(generator):
-    """Any free row: the placing is left open [01:ST15]."""
-    return lambda table, rows, content: generator.choice(rows)
-
-
-def follow(after):
-    """The placing of another program, read off the store that it left behind.
-
-    Where none of the free rows holds the content there, the lowest is taken; the
-    stores then differ. Used rows are not compared up to order alone because the
-    order of S rows decides which anchor takes which nonce.
-    """
-    def place(table, rows, content):
-        return next((i for i in rows if row(after, table, i) == content), rows[0])
-    return place
 
 
 def label(name, value):
@@ -103,9 +79,21 @@ def free(store, t):
     return [i for i in range(t.rows) if store[t.start + t.width * i] == 0]
 
 
-def free_row(store, t, i):
-    """Freeing a row zeroes all of it [01:ST14]."""
-    set_row(store, t, i, bytes(t.width))
+def used_rows(store, t):
+    return [row(store, t, i) for i in used(store, t)]
+
+
+def arranged(rows, t):
+    """The table of these used rows: they come first [02:W2.1], ascending by all their bytes as unsigned, equal
+    rows allowed [02:W2.2], which is how Python compares bytes; free rows are all zero [02:W2.3]."""
+    rows = sorted(rows)
+    assert len(rows) <= t.rows and all(len(r) == t.width and r[0] == 1 for r in rows)
+    return b"".join(rows) + bytes(t.width * (t.rows - len(rows)))
+
+
+def in_form(store, t):
+    """Whether the table is the one of its used rows. The sentences themselves are in form.py."""
+    return bytes(store[t.start:t.start + t.width * t.rows]) == arranged(used_rows(store, t), t)
 
 
 def lookup(store, t, tag):
@@ -122,17 +110,8 @@ def marks_wrong(store):
                for t in tables(store).values() for i in range(t.rows))
 
 
-def used_rows(store):
-    """Each table's used rows, sorted: what two placings of the same calls agree on.
-
-    Of a C row the mark and the tag: an anchor's nonce depends on the order of S rows.
-    """
-    return {name: sorted(row(store, t, i)[:33 if name == "C" else t.width]
-                         for i in used(store, t))
-            for name, t in tables(store).items()}
-
-
-def state_conditions(store):
+def store_conditions(store):
+    """What a store is refused by in every call [01:RS2 RS3]; the new call has no other [02:W2.9]."""
     yield 10, header(store) is None
     yield 11, marks_wrong(store)
 
@@ -142,12 +121,11 @@ def parts(text, width):
 
 
 class Scheme:
-    """The tokens and the operations over one suite and one row placing."""
+    """The tokens and the operations over one suite."""
 
-    def __init__(self, suite, place=lowest):
+    def __init__(self, suite):
         self.F = suite.F
         self.E = suite.E
-        self.place = place
 
     # Keys and tokens
 
@@ -220,14 +198,41 @@ class Scheme:
 
     # Rows
 
-    def put(self, store, name, content):
-        t = tables(store)[name]
-        set_row(store, t, self.place(t, free(store, t), content), content)
+    def arrange(self, store, t, rows):
+        """These are the table's used rows from now on: others may move [02:W2.4]."""
+        store[t.start:t.start + t.width * t.rows] = self.arranged(rows, t)
 
-    def put_c(self, store, cl, tag, nonce, one, two):
+    def arranged(self, rows, t):
+        return arranged(rows, t)
+
+    def in_form(self, store, t):
+        return in_form(store, t)
+
+    def lookup(self, store, t, tag):
+        return lookup(store, t, tag)
+
+    def put(self, store, name, *contents):
+        """New rows of a table."""
+        t = tables(store)[name]
+        self.arrange(store, t, used_rows(store, t) + list(contents))
+
+    def free_rows(self, store, name, places):
+        """Freeing a row zeroes all of it [01:ST14], and the rows behind it move up."""
+        t = tables(store)[name]
+        self.arrange(store, t, [row(store, t, i) for i in used(store, t) if i not in places])
+
+    def state_conditions(self, store):
+        """20, a table not in form [02:W2.11], comes right after 11 [02:W2.12]."""
+        yield from store_conditions(store)
+        yield 20, not all(self.in_form(store, t) for t in tables(store).values())
+
+    def c_row(self, cl, tag, nonce, one, two):
         """A C row: mark, tag, nonce, two numbers under CE [01:ST9]."""
         ce = self.F(cl, number(2))
-        self.put(store, "C", b"\1" + tag + nonce + self.E(ce, nonce, number(one) + number(two)))
+        return b"\1" + tag + nonce + self.E(ce, nonce, number(one) + number(two))
+
+    def put_c(self, store, cl, tag, nonce, one, two):
+        self.put(store, "C", self.c_row(cl, tag, nonce, one, two))
 
     def open_c(self, store, cl, i):
         r = row(store, tables(store)["C"], i)
@@ -244,15 +249,15 @@ class Scheme:
         """
         t = tables(store)["C"]
         anchors, start, count, held = 0, 0, 0, []
-        while anchors < t.rows and lookup(store, t, self.anchor_tag(cl, anchors + 1)) is not None:
+        while anchors < t.rows and self.lookup(store, t, self.anchor_tag(cl, anchors + 1)) is not None:
             anchors += 1
         if anchors > 0:
-            at = lookup(store, t, self.anchor_tag(cl, anchors))
+            at = self.lookup(store, t, self.anchor_tag(cl, anchors))
             start, count = self.open_c(store, cl, at)
             if start > GREATEST or count > GREATEST:
                 return None
         while len(held) < t.rows:
-            at = lookup(store, t, self.counter_tag(cl, start + len(held) + 1))
+            at = self.lookup(store, t, self.counter_tag(cl, start + len(held) + 1))
             if at is None:
                 break
             held.append(at)
@@ -271,10 +276,11 @@ class Scheme:
         mt, me, cl = token[1:33], token[33:65], token[65:97]
         counter = self.read(store, cl)
         ids, nonces = parts(ids, 16), parts(nonces, 12)
-        for i, (id, nonce) in enumerate(zip(ids, nonces)):
-            tag = self.entry_tag(mt, self.next_address(store, mt, counter) + i)
-            self.put(store, "M", b"\1" + tag + nonce + self.E(me, nonce, id))
-            self.put(store, "V", b"\1" + id + tag)
+        first_address = self.next_address(store, mt, counter)
+        tags = [self.entry_tag(mt, first_address + i) for i in range(len(ids))]
+        self.put(store, "M", *(b"\1" + tag + nonce + self.E(me, nonce, id)
+                               for tag, nonce, id in zip(tags, nonces, ids)))
+        self.put(store, "V", *(b"\1" + id + tag for tag, id in zip(tags, ids)))
         new = counter.count + len(ids)
         self.put_counter(store, cl, counter, nonces[-1], new)
         self.put(store, "S", b"\1" + token[97:])
@@ -289,7 +295,7 @@ class Scheme:
 
     def insert_all_conditions(self, store, token, nonces, ids):
         yield from calls.insert_conditions(len(token), nonces, ids)
-        yield from state_conditions(store)
+        yield from self.state_conditions(store)
         yield 12, token[0] != header(store).p
         counter = self.read(store, token[65:97])
         yield 13, counter is None
@@ -312,19 +318,16 @@ class Scheme:
         v = tables(store)["V"]
         of_id = [i for i in used(store, v) if row(store, v, i)[1:17] == id]
         self.free_entries(store, {row(store, v, i)[17:] for i in of_id})
-        for i in of_id:
-            free_row(store, v, i)
+        self.free_rows(store, "V", of_id)
         return Done((len(of_id),))
 
     def free_entries(self, store, tags):
         m = tables(store)["M"]
-        for i in used(store, m):
-            if row(store, m, i)[1:33] in tags:
-                free_row(store, m, i)
+        self.free_rows(store, "M", [i for i in used(store, m) if row(store, m, i)[1:33] in tags])
 
     def erase_all_conditions(self, store, id):
         yield from calls.erase_conditions(id)
-        yield from state_conditions(store)
+        yield from self.state_conditions(store)
 
     # Find and count
 
@@ -361,7 +364,7 @@ class Scheme:
         """The ids at addresses 1 to the count; a missing one is skipped [01:OP6]."""
         m, found = tables(store)["M"], []
         for address in range(1, count + 1):
-            i = lookup(store, m, self.entry_tag(mt, address))
+            i = self.lookup(store, m, self.entry_tag(mt, address))
             if i is not None:
                 r = row(store, m, i)
                 found.append(self.E(me, r[33:45], r[45:61]))
@@ -369,7 +372,7 @@ class Scheme:
 
     def find_all_conditions(self, store, token):
         yield from calls.find_conditions(len(token))
-        yield from state_conditions(store)
+        yield from self.state_conditions(store)
         yield 13, self.counts(store, token[64:]) is None
 
     def counts(self, store, counter_key):
@@ -384,13 +387,14 @@ class Scheme:
 
     def count_all_conditions(self, store, token):
         yield from calls.count_conditions(len(token))
-        yield from state_conditions(store)
+        yield from self.state_conditions(store)
         yield 13, self.counts(store, token) is None
 
     # Compaction
 
     def compact(self, store, token, nonces):
-        """Distinct CL of S in order of first row [01:OP10]; each uses a nonce only if k > 0."""
+        """Distinct CL of S in order of first row [01:OP10]; each uses a nonce only if k > 0. The tables are in form
+        after each CL."""
         refused = first(self.compact_all_conditions(store, token, nonces))
         if refused:
             return refused
@@ -408,7 +412,7 @@ class Scheme:
 
     def compact_all_conditions(self, store, token, nonces):
         yield from calls.compact_conditions(len(token), nonces)
-        yield from state_conditions(store)
+        yield from self.state_conditions(store)
         yield 19, len(nonces) // 12 < len(used(store, tables(store)["S"]))
 
     def labels_of_s(self, store, token):
@@ -425,17 +429,33 @@ class Scheme:
 
     def treat(self, store, cl, counter, nonce):
         """Frees the rows that the reading held, then writes anchor B+1 [01:OP11]."""
-        for i in counter.held:
-            free_row(store, tables(store)["C"], i)
+        self.free_rows(store, "C", counter.held)
         self.put_c(store, cl, self.anchor_tag(cl, counter.anchors + 1), nonce,
                    counter.start + counter.k, counter.count)
 
     def free_s(self, store, token, cl):
         s = tables(store)["S"]
-        for i in used(store, s):
-            r = row(store, s, i)
-            if self.E(token, r[1:13], r[13:45]) == cl:
-                free_row(store, s, i)
+        rows = [(i, row(store, s, i)) for i in used(store, s)]
+        self.free_rows(store, "S", [i for i, r in rows if self.E(token, r[1:13], r[13:45]) == cl])
+
+    # A store of the version before put in form
+
+    def order(self, store):
+        """Puts every table in form [02:W2.6], keeps every used row [02:W2.7], answers how many there are
+        [02:W2.8]."""
+        refused = first(self.order_conditions(store))
+        if refused:
+            return refused
+        for t in tables(store).values():
+            self.arrange(store, t, used_rows(store, t))
+        return Done((self.ordered(store),))
+
+    def ordered(self, store):
+        return sum(len(used(store, t)) for t in tables(store).values())
+
+    def order_conditions(self, store):
+        """10 and 11 only [02:W2.9]."""
+        yield from store_conditions(store)
 
     # A call of a list: its token, then the operation
 
@@ -449,6 +469,8 @@ class Scheme:
             return self.insert(store, token, call.nonces, call.ids), None
         if isinstance(call, calls.Erase):
             return self.erase(store, call.id), None
+        if isinstance(call, calls.Order):
+            return self.order(store), None
         if isinstance(call, calls.Find):
             answer = self.find(store, token, output)
             return answer, bytes(output)
@@ -459,7 +481,7 @@ class Scheme:
     def token(self, call):
         if isinstance(call, calls.Insert):
             return self.insert_token(call.key, call.name, call.value, call.p, call.u, call.nonce)
-        if isinstance(call, calls.Erase):
+        if isinstance(call, (calls.Erase, calls.Order)):
             return None
         if isinstance(call, calls.Find):
             return self.find_token(call.key, call.name, call.value)

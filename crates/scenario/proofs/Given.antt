@@ -1,6 +1,6 @@
 -- What a call gives, by the kind of its record, and what is read with a length.
 use Prim.Native.Nat.{ℕ, _+_, _≤_, _<_}
-use mathlib.Core.Path.{_≡_, refl, sym, subst}
+use mathlib.Core.Path.{_≡_, sym, subst}
 use mathlib.Core.Bool.{false}
 use mathlib.Core.List.{List, _++_}
 use borrow.Author.Tests.{lt-ltb, le-ltb, ne-eqb}
@@ -13,8 +13,8 @@ use Rattle.scenario.specs.Given.{Called, changes, lengthIn, MadeIn, Over
 pub of-kind : (k n : ℕ) (before after : List ℕ) → k ≡ n → Called before n after → Called before k after
 of-kind k n before after e m = subst (λ (j : ℕ). Called before j after) (sym e) m
 
-pub unchanged : (k : ℕ) → (k ≡ 4 → ⊥) → (k ≡ 5 → ⊥) → (k ≡ 8 → ⊥) → (k ≡ 9 → ⊥) → (k ≡ 12 → ⊥) → changes k ≡ false
-unchanged k a b c d e = simp (ne-eqb k 4 a, ne-eqb k 5 b, ne-eqb k 8 c, ne-eqb k 9 d, ne-eqb k 12 e)
+pub unchanged : (k : ℕ) → (k ≡ 4 → ⊥) → (k ≡ 5 → ⊥) → (k ≡ 8 → ⊥) → (k ≡ 9 → ⊥) → (k ≡ 12 → ⊥) → (k ≡ 19 → ⊥) → changes k ≡ false
+unchanged k a b c d e f = simp (ne-eqb k 4 a, ne-eqb k 5 b, ne-eqb k 8 c, ne-eqb k 9 d, ne-eqb k 12 e, ne-eqb k 19 f)
 
 -- a length in the room, or none
 pub within : (room n : ℕ) → n ≤ room → n ≡ lengthIn room n

@@ -8,12 +8,11 @@ use lib.Dec.{eqb, ltb}
 use lib.ListN.{length, take, drop}
 use Rattle.octets.specs.Part.{written}
 use Rattle.table.specs.Lists.{anyOf}
-use Rattle.answer.specs.Answer.{Answer}
 use Rattle.scheme.specs.Call.{Call}
-use Rattle.scheme.specs.Run.{Step}
+use Rattle.scheme.specs.Run.{perform}
 use Rattle.scheme.specs.Store.{Sizes, make}
-use Rattle.scheme.specs.Insert.{Insert}
-use Rattle.scheme.specs.Compaction.{Compact}
+use Rattle.scheme.specs.Insert.{insert}
+use Rattle.scheme.specs.Compaction.{compact}
 use Rattle.suite.specs.Program.{program}
 use Rattle.client.specs.Making.{fieldOf}
 
@@ -27,37 +26,32 @@ pub record Inserted (before after : List ℕ) : Type 0 where
   pub nonce : List ℕ
   pub ids : List ℕ
   pub nonces : List ℕ
-  pub answer : Answer
-  pub made : Step program (Call.insert key (fieldOf name value) p u nonce ids nonces) before (record { answer = answer; output = [] }) after
+  pub made : after ≡ perform program (Call.insert key (fieldOf name value) p u nonce ids nonces) before .store
 
 pub record Erased (before after : List ℕ) : Type 0 where
   pub id : List ℕ
-  pub answer : Answer
-  pub made : Step program (Call.erase id) before (record { answer = answer; output = [] }) after
+  pub made : after ≡ perform program (Call.erase id) before .store
 
 pub record Compacted (before after : List ℕ) : Type 0 where
   pub key : List ℕ
   pub nonces : List ℕ
-  pub answer : Answer
-  pub made : Step program (Call.compact key nonces) before (record { answer = answer; output = [] }) after
+  pub made : after ≡ perform program (Call.compact key nonces) before .store
 
 -- the same with a token ready made
 pub record InsertedBy (before after : List ℕ) : Type 0 where
   pub token : List ℕ
   pub ids : List ℕ
   pub nonces : List ℕ
-  pub answer : Answer
-  pub made : Insert program before ids nonces token answer after
+  pub made : after ≡ insert program before ids nonces token .store
 
 pub record CompactedBy (before after : List ℕ) : Type 0 where
   pub token : List ℕ
   pub nonces : List ℕ
-  pub answer : Answer
-  pub made : Compact program before nonces token answer after
+  pub made : after ≡ compact program before nonces token .store
 
 -- a call on the store, by the kind of its record; every other kind leaves the store
 abbrev pub changes : ℕ → Bool
-changes kind = anyOf (eqb kind) (4 ∷ 5 ∷ 8 ∷ 9 ∷ 12 ∷ [])
+changes kind = anyOf (eqb kind) (4 ∷ 5 ∷ 8 ∷ 9 ∷ 12 ∷ 19 ∷ [])
 
 pub data Called (before : List ℕ) : ℕ → List ℕ → Type 0 where
   inserted : {after : List ℕ} → Inserted before after → Called before 4 after
@@ -65,6 +59,7 @@ pub data Called (before : List ℕ) : ℕ → List ℕ → Type 0 where
   compacted : {after : List ℕ} → Compacted before after → Called before 8 after
   insertedBy : {after : List ℕ} → InsertedBy before after → Called before 9 after
   compactedBy : {after : List ℕ} → CompactedBy before after → Called before 12 after
+  ordered : {after : List ℕ} → after ≡ perform program Call.order before .store → Called before 19 after
   kept : {kind : ℕ} → changes kind ≡ false → Called before kind before
 
 -- a length that was read; 0 where the room is shorter

@@ -1,9 +1,10 @@
-// The five calls on arguments that are read: the raw arguments of a call, or a token ready made.
+// The six calls on arguments that are read: the raw arguments of a call, or a token ready made.
 use crate::write;
 use answer::Counted;
 ghost use mathlib.Core.Path.{_≡_};
 ghost use Rattle.scheme.specs.Find.{find as findOf};
-ghost use Rattle.scheme.specs.Run.{findCall};
+ghost use Rattle.scheme.specs.Call.{Call};
+ghost use Rattle.scheme.specs.Run.{perform};
 ghost use Rattle.suite.specs.Program.{program};
 ghost use Rattle.client.specs.Making.{fieldOf};
 ghost use Rattle.scenario.specs.Given.{Inserted, Erased, Compacted, InsertedBy, CompactedBy};
@@ -61,7 +62,7 @@ fn found(r: Counted, store: &[u8], output: &[u8])
 }
 
 fn find_to(store: &[u8], key: &[u8], name: &[u8], value: &[u8], output: &mut [u8])
-    ensures { λ _. ⌜ now (output .exit) ≡ findCall program (now (store .entry)) (now (key .entry)) (fieldOf (now (name .entry)) (now (value .entry))) (now (output .entry)) .output ⌝ }
+    ensures { λ _. ⌜ now (output .exit) ≡ perform program (Call.find (now (key .entry)) (fieldOf (now (name .entry)) (now (value .entry))) (now (output .entry))) (now (store .entry)) .output ⌝ }
 {
     let r = calls::find(store, key, name, value, output);
     found(r, store, output);
@@ -104,6 +105,14 @@ pub fn compact(store: &mut [u8])
     let n = records::read_bytes(&mut nonces);
     let r = calls::compact(store, &key[..k], &nonces[..n]);
     write::compaction(r);
+    write::end(store);
+}
+
+pub fn order(store: &mut [u8])
+    ensures { λ _. ⌜ now (store .exit) ≡ perform program Call.order (now (store .entry)) .store ⌝ }
+{
+    let r = calls::order(store);
+    write::counted(r);
     write::end(store);
 }
 

@@ -85,6 +85,7 @@ fn call(kind: u64, store: &mut [u8])
         10 => arguments::find_by(store),
         11 => arguments::count_by(store),
         12 => arguments::compact_by(store),
+        19 => arguments::order(store),
         _ => (),
     }
 }
@@ -118,7 +119,7 @@ fn record(room: &mut [u8], n: usize) -> usize
             n
         }
         3 => resize(room.len()),
-        4..=12 => {
+        4..=12 | 19 => {
             call(kind, &mut room[..n]);
             n
         }

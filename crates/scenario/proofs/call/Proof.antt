@@ -1,7 +1,6 @@
 -- Each arm is its kind's.
 use mathlib.Core.Path.{refl}
-use Rattle.scenario.specs.Given.{Called}
-use Rattle.scenario.specs.Given.Called.{inserted, erased, compacted, insertedBy, compactedBy, kept}
+use Rattle.scenario.specs.Given.Called.{inserted, erased, compacted, insertedBy, compactedBy, ordered, kept}
 use Rattle.scenario.proofs.Given.{of-kind, unchanged}
 use borrow.Author.Needs.{needs}
 use Rattle.scenario.proofs.call.Statement.{statement}
@@ -35,12 +34,15 @@ returns-9 : tie.Need-returns-9
 returns-9 c = of-kind _ 12 _ _ (c .before .before .before .before .match .keys9) (compactedBy (c .before .before .compact-by .ensures))
 
 returns-10 : tie.Need-returns-10
-returns-10 c = let x = c .match .rest in kept (unchanged _ (x .0 .0 .0 .0 .0 .0 .0 .0 .1) (x .0 .0 .0 .0 .0 .0 .0 .1) (x .0 .0 .0 .0 .1) (x .0 .0 .0 .1) (x .1))
+returns-10 c = of-kind _ 19 _ _ (c .before .before .before .before .match .keys10) (ordered (c .before .before .order .ensures))
+
+returns-11 : tie.Need-returns-11
+returns-11 c = let x = c .match .rest in kept (unchanged _ (x .0 .0 .0 .0 .0 .0 .0 .0 .0 .1) (x .0 .0 .0 .0 .0 .0 .0 .0 .1) (x .0 .0 .0 .0 .0 .1) (x .0 .0 .0 .0 .1) (x .0 .1) (x .1))
 
 pub call-spec : {M : Type 1} → statement M
 call-spec =
     tie.close
     (tie.spec
-    (λ c κs. search needs) (λ c κs. search needs) (λ c κs. search needs) (λ c κs. search needs) (λ c κs. search needs) (λ c κs. search needs) (λ c κs. search needs) (λ c κs. search needs) (λ c κs. search needs)
+    (λ c κs. search needs) (λ c κs. search needs) (λ c κs. search needs) (λ c κs. search needs) (λ c κs. search needs) (λ c κs. search needs) (λ c κs. search needs) (λ c κs. search needs) (λ c κs. search needs) (λ c κs. search needs)
     (λ c. search needs) returns (λ c. search needs) returns-2 (λ c. search needs) returns-3 (λ c. search needs) returns-4 (λ c. search needs) returns-5
-    (λ c. search needs) returns-6 (λ c. search needs) returns-7 (λ c. search needs) returns-8 (λ c. search needs) returns-9 returns-10)
+    (λ c. search needs) returns-6 (λ c. search needs) returns-7 (λ c. search needs) returns-8 (λ c. search needs) returns-9 (λ c. search needs) returns-10 returns-11)

@@ -1,0 +1,252 @@
+/* How the time of each operation has changed: two archives, linked as shared objects and loaded apart from one another,
+ * are measured in turn, many rounds, and the best round of each counts. The archive before is measured on a store that it
+ * filled itself, whose rows stand as they came, and on one in form, which the archive after filled by the same calls; the
+ * archive after on the latter. Each round checks that the answers agree, and that an order of what the archive before left
+ * of a store in form gives the bytes that the archive after left.
+ *   before_after BEFORE.so AFTER.so [ROUNDS]
+ * The script bench/before_after builds both.
+ */
+#define _GNU_SOURCE
+#include <dlfcn.h>
+#include <stdint.h>
+#include <stdio.h>
+#include <stdlib.h>
+#include <string.h>
+
+#include "measure.h"
+
+typedef struct {
+  int64_t (*make)(uint64_t, uint64_t, uint64_t, uint64_t, uint8_t *, size_t);
+  int64_t (*insert_token)(const uint8_t *, size_t, const uint8_t *, size_t, const uint8_t *, size_t, uint64_t, uint64_t,
+                          const uint8_t *, size_t, uint8_t *);
+  int64_t (*find_token)(const uint8_t *, size_t, const uint8_t *, size_t, const uint8_t *, size_t, uint8_t *);
+  int64_t (*count_token)(const uint8_t *, size_t, const uint8_t *, size_t, const uint8_t *, size_t, uint8_t *);
+  int64_t (*compaction_token)(const uint8_t *, size_t, uint8_t *);
+  int64_t (*insert)(uint8_t *, size_t, const uint8_t *, size_t, const uint8_t *, size_t, const uint8_t *, size_t);
+  int64_t (*erase)(uint8_t *, size_t, const uint8_t *, size_t);
+  int64_t (*find)(const uint8_t *, size_t, const uint8_t *, size_t, uint8_t *, size_t);
+  int64_t (*count)(const uint8_t *, size_t, const uint8_t *, size_t);
+  int64_t (*compact)(uint8_t *, size_t, const uint8_t *, size_t, const uint8_t *, size_t);
+  int64_t (*order)(uint8_t *, size_t); /* NULL in the archive before */
+} Library;
+
+static Library before, after;
+/* What the archive before filled, what the archive after filled, and a copy for each measurement. */
+static uint8_t own[884744], base[884744], work[3][884744], out[3][65536], nonces[12 * 4096];
+static size_t size;
+static int rounds = 40;
+static const uint8_t key[32] = {1, 2, 3, 4, 5, 6, 7, 8, 9}, empty[1];
+
+static void *named(void *from, const char *name, int wanted) {
+  void *found = dlsym(from, name);
+  if (!found && wanted) {
+    printf("there is no %s\n", name);
+    exit(1);
+  }
+  return found;
+}
+
+static void load(Library *l, const char *path, int new) {
+  void *from = dlmopen(LM_ID_NEWLM, path, RTLD_NOW | RTLD_LOCAL);
+  if (!from) {
+    printf("%s\n", dlerror());
+    exit(1);
+  }
+  *(void **)&l->make = named(from, "mazhkuri_make", 1);
+  *(void **)&l->insert_token = named(from, "mazhkuri_insert_token", 1);
+  *(void **)&l->find_token = named(from, "mazhkuri_find_token", 1);
+  *(void **)&l->count_token = named(from, "mazhkuri_count_token", 1);
+  *(void **)&l->compaction_token = named(from, "mazhkuri_compaction_token", 1);
+  *(void **)&l->insert = named(from, "mazhkuri_insert", 1);
+  *(void **)&l->erase = named(from, "mazhkuri_erase", 1);
+  *(void **)&l->find = named(from, "mazhkuri_find", 1);
+  *(void **)&l->count = named(from, "mazhkuri_count", 1);
+  *(void **)&l->compact = named(from, "mazhkuri_compact", 1);
+  *(void **)&l->order = named(from, "mazhkuri_order", new);
+}
+
+static void check(int ok, const char *what) {
+  if (!ok) {
+    printf("%s: the two archives differ\n", what);
+    exit(1);
+  }
+}
+
+static void field(uint8_t name[3], unsigned f) { name[0] = 'f', name[1] = (uint8_t)(f >> 8), name[2] = (uint8_t)f; }
+
+static void insert_token(unsigned f, unsigned p, uint8_t token[141]) {
+  uint8_t name[3], nonce[12];
+  field(name, f);
+  fill(nonce, 12);
+  check(after.insert_token(key, 32, name, 3, empty, 0, p, 0, nonce, 12, token) == 141, "insert token");
+}
+
+/* New ids under a field, or all of them one id. */
+static void add(unsigned f, size_t j, const uint8_t *id) {
+  uint8_t token[141], ids[1024];
+  insert_token(f, 0, token);
+  fill(ids, 16 * j);
+  for (size_t i = 0; id && i < j; i++) memcpy(ids + 16 * i, id, 16);
+  fill(nonces, 12 * (j + 1));
+  check(after.insert(base, size, ids, 16 * j, nonces, 12 * (j + 1), token, 141) > 0, "set up");
+  check(before.insert(own, size, ids, 16 * j, nonces, 12 * (j + 1), token, 141) > 0, "set up");
+}
+
+static void fresh(void) {
+  size = 8 + 216ul * 4096;
+  check(after.make(0, 4096, 4096, 4096, base, size) == 0 && before.make(0, 4096, 4096, 4096, own, size) == 0, "make");
+}
+
+static void entries(unsigned f, size_t n, const uint8_t *id) {
+  uint8_t token[32];
+  for (; n > 64; n -= 64) add(f, 64, id);
+  if (n) add(f, n, id);
+  after.compaction_token(key, 32, token);
+  fill(nonces, sizeof nonces);
+  check(after.compact(base, size, nonces, sizeof nonces, token, 32) >= 0, "set up");
+  check(before.compact(own, size, nonces, sizeof nonces, token, 32) >= 0, "set up");
+}
+
+/* A call with all that it takes. */
+typedef struct {
+  enum { INSERT, ERASE, FIND, COUNT, COMPACT } kind;
+  uint8_t token[141], ids[1024];
+  size_t j;
+} Call;
+
+static int64_t perform(const Library *l, const Call *c, uint8_t *store, uint8_t *output) {
+  switch (c->kind) {
+    case INSERT:
+      return l->insert(store, size, c->ids, 16 * c->j, nonces, 12 * (c->j + 1), c->token, 141);
+    case ERASE:
+      return l->erase(store, size, c->ids, 16);
+    case FIND:
+      return l->find(store, size, c->token, 96, output, sizeof out[0]);
+    case COUNT:
+      return l->count(store, size, c->token, 32);
+    default:
+      return l->compact(store, size, nonces, sizeof nonces, c->token, 32);
+  }
+}
+
+static void measure(const char *name, const Call *c, int times, int64_t wanted) {
+  const Library *by[3] = {&before, &before, &after};
+  uint8_t *from[3] = {own, base, base};
+  double best[3] = {1e18, 1e18, 1e18};
+  int64_t told[3] = {0};
+  for (int r = 0; r < times; r++) {
+    for (int k = 0; k < 3; k++) {
+      memcpy(work[k], from[k], size);
+      double began = now();
+      told[k] = perform(by[k], c, work[k], out[k]);
+      double took = now() - began;
+      if (took < best[k]) best[k] = took;
+    }
+    check(told[0] == wanted && told[1] == wanted && told[2] == wanted, name);
+    check(after.order(work[1], size) >= 0 && memcmp(work[1], work[2], size) == 0, name);
+    if (c->kind == FIND)
+      check(memcmp(out[0], out[2], 16 * (size_t)wanted) == 0 && memcmp(out[1], out[2], 16 * (size_t)wanted) == 0, name);
+  }
+  printf("%-44s %9.1f us %9.1f us %9.1f us   %6.2f and %6.2f times faster\n", name, best[0], best[1], best[2],
+         best[0] / best[2], best[1] / best[2]);
+  fflush(stdout);
+}
+
+static void inserts(const char *name, size_t j, int64_t wanted, unsigned p) {
+  Call c = {.kind = INSERT, .j = j};
+  insert_token(7, p, c.token);
+  fill(c.ids, 16 * j);
+  fill(nonces, 12 * (j + 1));
+  measure(name, &c, rounds, wanted);
+}
+
+static void counts(const char *name, unsigned f, int64_t wanted) {
+  Call c = {.kind = COUNT};
+  uint8_t text[3];
+  field(text, f);
+  after.count_token(key, 32, text, 3, empty, 0, c.token);
+  measure(name, &c, rounds, wanted);
+}
+
+static void finds(const char *name, unsigned f, int64_t wanted) {
+  Call c = {.kind = FIND};
+  uint8_t text[3];
+  field(text, f);
+  after.find_token(key, 32, text, 3, empty, 0, c.token);
+  measure(name, &c, wanted > 100 ? rounds / 8 + 2 : rounds, wanted);
+}
+
+static void erases(const char *name, const uint8_t *id, int64_t wanted) {
+  Call c = {.kind = ERASE};
+  memcpy(c.ids, id, 16);
+  measure(name, &c, rounds, wanted);
+}
+
+static void compacts(const char *name, int64_t labels, int64_t rows) {
+  Call c = {.kind = COMPACT};
+  after.compaction_token(key, 32, c.token);
+  fill(nonces, sizeof nonces);
+  measure(name, &c, rounds / 10 + 2, labels * 4294967296 + rows);
+}
+
+int main(int count, char **arguments) {
+  uint8_t id[16];
+  char name[64];
+  if (count < 3) {
+    printf("before_after BEFORE.so AFTER.so [ROUNDS]\n");
+    return 2;
+  }
+  load(&before, arguments[1], 0);
+  load(&after, arguments[2], 1);
+  if (count > 3) rounds = atoi(arguments[3]);
+  printf("m = c = s = 4,096, p = 0: before on its own store, before on one in form, after\n");
+  static const size_t full[3] = {0, 2048, 3891};
+  static const char *how[3] = {"empty", "half full", "95 % full"};
+  for (int i = 0; i < 3; i++) {
+    fresh();
+    entries(1, full[i], NULL);
+    for (int j = 1; j <= 64; j += 63) {
+      snprintf(name, sizeof name, "insert of %d, %s", j, how[i]);
+      inserts(name, (size_t)j, j, 0);
+    }
+  }
+  fresh();
+  for (unsigned i = 0; i < 4096; i++) add(i % 64, 1, NULL);
+  inserts("the checks of a full store alone (12)", 1, -12, 1);
+  for (unsigned n = 1; n <= 1000; n *= n == 1 ? 100 : 10) {
+    fresh();
+    for (unsigned i = 0; i < n; i++) add(1, 1, NULL);
+    snprintf(name, sizeof name, "count after %u uncompacted inserts", n);
+    counts(name, 1, n);
+  }
+  static const unsigned ids[3] = {10, 1000, 4000};
+  for (int i = 0; i < 3; i++) {
+    fresh();
+    entries(1, ids[i], NULL);
+    snprintf(name, sizeof name, "find of %u ids", ids[i]);
+    finds(name, 1, ids[i]);
+  }
+  fresh();
+  entries(1, 3000, NULL);
+  entries(2, 1000, NULL);
+  finds("find of 1000 ids in a store of 4,000", 2, 1000);
+  fresh();
+  entries(1, 3990, NULL);
+  entries(2, 10, NULL);
+  finds("find of 10 ids in a store of 4,000", 2, 10);
+  memcpy(id, base + 8 + 61 * 4096 + 49 * 2000 + 1, 16);
+  erases("erase of one entry of 4,000", id, 1);
+  fresh();
+  fill(id, 16);
+  entries(1, 1000, id);
+  entries(1, 3000, NULL);
+  erases("erase of an id held 1,000 times, of 4,000", id, 1000);
+  static const unsigned rows[4] = {1000, 4000, 1000, 4000}, labels[4] = {4, 4, 1000, 4000};
+  for (int i = 0; i < 4; i++) {
+    fresh();
+    for (unsigned j = 0; j < rows[i]; j++) add(j % labels[i], 1, NULL);
+    snprintf(name, sizeof name, "compaction of %u rows, %u labels", rows[i], labels[i]);
+    compacts(name, labels[i], rows[i]);
+  }
+  return 0;
+}
