@@ -2,12 +2,15 @@
 -- with what it carries. Every contract of a public call is stated through it. [01:FM14 FM15]
 use Prim.Native.Nat.{ℕ}
 use mathlib.Core.List.{List, [], _∷_}
+use lib.ListN.{take, getD}
 use Rattle.answer.specs.declared.Refusal.{Refusal}
 use Rattle.answer.specs.declared.Refusal.the-variants.{KeyLength, FieldLength, ShareRange, NonceLength, IdLength, TokenLength, SizeRange, SliceLength, TextLength, Header, Mark, TokenShares, Damage, CountRange, EntryRows, CounterRows, LogRows, OutputLength, NonceCount, Form}
 use Rattle.answer.specs.declared.Completion.{Completion}
 use Rattle.answer.specs.declared.Completion.the-variants.{Done, Refused as Refused₀}
 use Rattle.answer.specs.declared.Counted.{Counted}
 use Rattle.answer.specs.declared.Counted.the-variants.{Number, Refused as Refused₁}
+use Rattle.answer.specs.declared.Tallied.{Tallied}
+use Rattle.answer.specs.declared.Tallied.the-variants.{Number as Number₂, Refused as Refused₂}
 
 -- done, with the values answered; refused, with the paper's number and what it carries
 pub data Answer : Type 0 where
@@ -70,3 +73,17 @@ completion (Refused₀ r) = refusal r
 abbrev pub counted : Counted → Answer
 counted (Number n) = done (n ∷ [])
 counted (Refused₁ r) = refusal r
+
+abbrev pub tallied : Tallied → Answer
+tallied (Number₂ n rows) = done (n ∷ rows ∷ [])
+tallied (Refused₂ r) = refusal r
+
+-- the rows looked at that such an answer carries; a refusal carries none [02:W3.8]
+abbrev pub rowsOf : Answer → ℕ
+rowsOf (done l) = getD l 1 0
+rowsOf (refused n l) = 0
+
+-- such an answer without the rows looked at [02:W3.8]
+abbrev pub withoutRows : Answer → Answer
+withoutRows (done l) = done (take 1 l)
+withoutRows (refused n l) = refused n l

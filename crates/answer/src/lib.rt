@@ -60,6 +60,12 @@ pub enum Counted {
     Refused(Refusal),
 }
 
+// The answer of a call that gives one number, and how many rows were looked at for it. [02:W3.8]
+pub enum Tallied {
+    Number { n: u64, rows: u64 },
+    Refused(Refusal),
+}
+
 // The paper's number of a refusal.
 pub fn number(r: Refusal) -> u64
     ensures { λ n. ⌜ n ≡ numberOf r ⌝ }

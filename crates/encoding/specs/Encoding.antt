@@ -4,8 +4,9 @@ use Prim.Native.Nat.{ℕ, _+_, _*_, _^_, _<_}
 use mathlib.Core.Bool.{cond, _&&_}
 use lib.Dec.{eqb}
 use mathlib.Core.List.{List, [], _∷_}
+use lib.ListN.{set}
 use lib.IntN.{ℤ, pos, negℤ}
-use Rattle.answer.specs.Answer.{Answer, done, refused}
+use Rattle.answer.specs.Answer.{Answer, done, refused, rowsOf}
 
 -- the values as one number: none is 0, and of two (anchors, counters) the first counts 2 ^ 32
 abbrev pub packed : List ℕ → ℕ
@@ -46,3 +47,8 @@ pub record Fits (n : ℕ) (a : Answer) : Type 0 where
 abbrev pub answering : ℕ → Answer → Answer
 answering n (done l) = done (n ∷ [])
 answering n (refused k l) = refused k l
+
+-- what a caller lent for the rows looked at, after a call: they stand at place 0, and a refusal leaves it [02:W3.8]
+abbrev pub rowsLent : Answer → List ℕ → List ℕ
+rowsLent (done l) old = set old 0 (rowsOf (done l))
+rowsLent (refused n l) old = old
