@@ -1,9 +1,9 @@
 -- The numbers below n, one after the other: a sum, a test and lists over 0 to p, as a loop goes through them.
-use Prim.Native.Nat.{ℕ, zero, suc, _+_, _-_, _≤_, _<_}
+use Prim.Native.Nat.{ℕ, zero, suc, _+_, _*_, _-_, _≤_, _<_}
 use mathlib.Core.Path.{_≡_, refl, sym, ap, _∙_}
 use mathlib.Core.Bool.{Bool, true, false, _||_}
 use mathlib.Core.List.{List, [], _∷_, _++_, map, map-append, append-assoc, append-nil}
-use native.Mathlib.Nat.{not-suc-le-zero, add-zero, add-suc}
+use native.Mathlib.Nat.{not-suc-le-zero, add-zero, add-suc, mul-zero, mul-suc}
 use native.Mathlib.Numerals.{add-one}
 use native.Mathlib.Omega.{arith}
 use lib.Dec.{ltb}
@@ -72,6 +72,11 @@ sum-next f n =
 
 pub sum-grows : (f : ℕ → ℕ) (u n : ℕ) → u ≤ n → sum (map f (below u)) ≤ sum (map f (below n))
 sum-grows f = grows (λ n. sum (map f (below n))) (λ n. omega (arith, sum-next f n))
+
+-- each at most x
+pub sum-most : (f : ℕ → ℕ) (x : ℕ) → ((u : ℕ) → f u ≤ x) → (n : ℕ) → sum (map f (below n)) ≤ x * n
+sum-most f x h zero = omega (arith, mul-zero x)
+sum-most f x h (suc n) = omega (arith, sum-next f n, h n, sum-most f x h n, mul-suc x n)
 
 -- ---- tests
 

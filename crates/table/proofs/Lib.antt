@@ -7,3 +7,5 @@ pub mod Order
 pub mod Arranging
 pub mod Cuts
 pub mod Search
+pub mod Looked
+pub mod Examples

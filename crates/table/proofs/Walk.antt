@@ -105,23 +105,6 @@ bad-counted most t k e = go (markBad most t) refl
     go true m = lt-ltb 0 k (omega (arith, any-count (λ r. ltb most (markOf r)) t m))
     go false m = le-ltb 0 k (omega (arith, any-none (λ r. ltb most (markOf r)) t m))
 
--- looking for the first row that passes
-module _ (q : Row → Bool) (w n i z : ℕ) (t : List ℕ) (e : i + indexOf q (drop i (rows w n t)) ≡ z) where
-  next : i < n → indexOf q (drop i (rows w n t)) ≡ cond (q (getD (rows w n t) i [])) zero (suc (indexOf q (drop (i + 1) (rows w n t))))
-  next h = rw (add-one i, drop-cons (rows w n t) i [] (rw (rows-length w n t) h))
-
-  pub index-here : i < n → q (getD (rows w n t) i []) ≡ true → i ≡ z
-  index-here h b = let k = rw b at (next h) in omega arith
-
-  pub index-skip : i < n → q (getD (rows w n t) i []) ≡ false → i + 1 + indexOf q (drop (i + 1) (rows w n t)) ≡ z
-  index-skip h b = let k = rw b at (next h) in omega arith
-
-  pub index-end : i ≤ n → n ≤ i → n ≡ z
-  index-end l h =
-      let r : length (rows w n t) ≤ i = rw (rows-length w n t) h in
-      let k : indexOf q (drop i (rows w n t)) ≡ 0 = ap (indexOf q) (drop-of-length-le (rows w n t) r) in
-      omega arith
-
 -- ---- what an index tells
 
 -- the row at a tag's place is what a lookup finds [01:ST13]

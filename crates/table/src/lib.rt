@@ -6,7 +6,7 @@ ghost use Prim.Native.Nat.{_+_, _*_, _<_, _≤_};
 ghost use lib.Dec.{eqb, ltb};
 ghost use lib.ListN.{length, take, set};
 ghost use Rattle.table.specs.Lists.{bit, same as sameBytes};
-ghost use Rattle.table.specs.Table.{rows, isFree, body, freeRows, markBad, placeOf};
+ghost use Rattle.table.specs.Table.{rows, isFree, body, freeRows, markBad};
 ghost use Rattle.table.specs.Order.{precedes as precedesBytes};
 
 // What one pass over the marks tells.
@@ -81,23 +81,6 @@ pub fn precedes(a: &[u8], b: &[u8]) -> bool
         i += 1;
     }
     false
-}
-
-// The used row of lowest index with a tag; n where there is none. [01:ST13]
-pub fn place(t: &[u8], w: usize, n: usize, tag: &[u8; 32]) -> usize
-    requires { ⌜ (33 ≤ w) × (length (now t) ≡ w * n) ⌝ }
-    ensures { λ r. ⌜ r ≡ placeOf (now (tag .entry)) (rows w n (now (t .entry))) ⌝ }
-{
-    let mut i = 0;
-    while i < n {
-        let at = w * i;
-        let e = at + w;
-        if starts(&t[at..e], tag) {
-            return i;
-        }
-        i += 1;
-    }
-    n
 }
 
 // Writes a row; every other row keeps its bytes. [01:ST15]
