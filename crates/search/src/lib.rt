@@ -4,7 +4,7 @@ ghost use mathlib.Core.Bool.{true, false};
 ghost use Prim.Native.Nat.{_*_, _<_, _≤_};
 ghost use lib.ListN.{length};
 ghost use Rattle.table.specs.Table.{rows, markBad, placeOf};
-ghost use Rattle.table.specs.Order.{usedRows, inForm};
+ghost use Rattle.table.specs.Order.{usedRows, inForm, Searchable};
 ghost use Rattle.table.specs.Search.{firstNotBefore};
 
 // The first row that is free or whose body, as far as a key goes, does not come before it. u is the
@@ -29,13 +29,12 @@ pub fn lower(t: &[u8], w: usize, n: usize, u: usize, key: &[u8]) -> usize
     lo
 }
 
-// The used row of lowest index with a tag; n where there is none. [01:ST13]
-pub fn place(t: &[u8], w: usize, n: usize, u: usize, tag: &[u8; 32]) -> usize
-    requires { ⌜ (33 ≤ w) × (length (now t) ≡ w * n) ⌝ }
-    requires { ⌜ (inForm w (rows w n (now t)) ≡ true) × ((markBad 1 (rows w n (now t)) ≡ false) × (u ≡ length (usedRows (rows w n (now t))))) ⌝ }
+// The used row of lowest index with a tag, n where there is none, given the first row that does not
+// come before it. [01:ST13]
+pub fn settled(t: &[u8], w: usize, n: usize, u: usize, tag: &[u8], i: usize) -> usize
+    requires { ⌜ (((33 ≤ w) × (length (now tag) ≡ 32)) × (length (now t) ≡ w * n)) × (Searchable w u (rows w n (now t)) × (i ≡ firstNotBefore (now tag) (rows w n (now t)))) ⌝ }
     ensures { λ r. ⌜ r ≡ placeOf (now (tag .entry)) (rows w n (now (t .entry))) ⌝ }
 {
-    let i = lower(t, w, n, u, tag);
     if i < u {
         let at = w * i;
         let e = at + w;
@@ -44,4 +43,14 @@ pub fn place(t: &[u8], w: usize, n: usize, u: usize, tag: &[u8; 32]) -> usize
         }
     }
     n
+}
+
+// The used row of lowest index with a tag; n where there is none. [01:ST13]
+pub fn place(t: &[u8], w: usize, n: usize, u: usize, tag: &[u8; 32]) -> usize
+    requires { ⌜ (33 ≤ w) × (length (now t) ≡ w * n) ⌝ }
+    requires { ⌜ (inForm w (rows w n (now t)) ≡ true) × ((markBad 1 (rows w n (now t)) ≡ false) × (u ≡ length (usedRows (rows w n (now t))))) ⌝ }
+    ensures { λ r. ⌜ r ≡ placeOf (now (tag .entry)) (rows w n (now (t .entry))) ⌝ }
+{
+    let i = lower(t, w, n, u, tag);
+    settled(t, w, n, u, tag, i)
 }
