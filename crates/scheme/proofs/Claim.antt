@@ -31,11 +31,11 @@ module _ (x : Setting) where
 
   -- one call
   one : (i : ℕ) (before : List ℕ) (l : Ledger) → suc i ≤ length calls → Sim x i before l → (call : Call) → KeyFits K call → ((f : Field) → List·Memᴰ f (fieldsOf call) → List·Memᴰ f (flat (map fieldsOf calls)))
-      → After x i call l (toldBy (perform suite call before)) (perform suite call before .store)
+      → After x i call l (toldBy call (perform suite call before)) (perform suite call before .store)
   one i before l hi s (Call.insert key f p u nonce ids nonces) k n = insert-step x i before l hi s key f p u nonce ids nonces k (n f (List·Memᴰ·head refl))
   one i before l hi s (Call.erase id) k n = erase-step x i before l (omega arith) s id _ _ (record { answer = refl; output = refl; store = refl })
   one i before l hi s (Call.find key f output) k n = find-step x i before l (omega arith) s key f k (n f (List·Memᴰ·head refl)) output _ _ (record { answer = refl; output = refl; store = refl })
-  one i before l hi s (Call.count key f) k n = count-step x i before l (omega arith) s key f k (n f (List·Memᴰ·head refl)) _ _ (record { answer = refl; output = refl; store = refl })
+  one i before l hi s (Call.count key f) k n = count-step x i before l (omega arith) s key f k (n f (List·Memᴰ·head refl))
   one i before l hi s (Call.compact key nonces) k n = compact-step x i before l hi s key nonces k
   one i before l hi s Call.order k n = order-step x i before l (omega arith) s
 
@@ -48,7 +48,7 @@ module _ (x : Setting) where
   Follows rest = (i : ℕ) (before : List ℕ) (l : Ledger) → i + length rest ≡ length calls → InList rest → All (KeyFits K) rest → Sim x i before l → Followed i before l rest
 
   -- one call, then the rest
-  joins : (i : ℕ) (before : List ℕ) (l : Ledger) (call : Call) (rest : List Call) → After x i call l (toldBy (perform suite call before)) (perform suite call before .store)
+  joins : (i : ℕ) (before : List ℕ) (l : Ledger) (call : Call) (rest : List Call) → After x i call l (toldBy call (perform suite call before)) (perform suite call before .store)
       → Followed (suc i) (perform suite call before .store) (ledgerStep (boundsOf z) l call .next) rest → Followed i before l (call ∷ rest)
   joins i before l call rest a r =
       let e : suc i + length rest ≡ i + suc (length rest) = omega arith in

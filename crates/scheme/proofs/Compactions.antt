@@ -132,7 +132,7 @@ module _ (x : Setting) (i : ℕ) (before : List ℕ) (l : Ledger) (hi : suc i �
   call = Call.compact key nonces
 
   abbrev Reached : Result → Type 0
-  Reached r = After x i call l (toldBy r) (r .store)
+  Reached r = After x i call l (toldBy call r) (r .store)
 
   refused-step : (r : Answer) → ledgerCompactVerdict (boundsOf z) l key nonces ≡ some r → Reached (record { answer = r; store = before; output = [] })
   unfolding ledgerStep

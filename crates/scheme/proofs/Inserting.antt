@@ -457,7 +457,7 @@ module _ (x : Setting) (i : ℕ) (before : List ℕ) (l : Ledger) (hi : suc i �
   call = Call.insert key f p u nonce ids nonces
 
   abbrev Reached : Result → Type 0
-  Reached r = After x i call l (toldBy r) (r .store)
+  Reached r = After x i call l (toldBy call r) (r .store)
 
   refused-step : (r : Answer) → ledgerInsertVerdict (boundsOf z) l key f p u nonce ids nonces ≡ some r → Reached (record { answer = r; store = before; output = [] })
   unfolding ledgerStep

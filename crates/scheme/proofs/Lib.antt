@@ -10,6 +10,7 @@ pub mod Entries
 pub mod LedgerLaws
 pub mod Simulation
 pub mod Verdicts
+pub mod RowsRead
 pub mod Once
 pub mod Queries
 pub mod Tokens

@@ -27,7 +27,7 @@ use Rattle.scheme.specs.Erase.{eraseVerdict, isReverse, erasedTags, isEr
 use Rattle.scheme.specs.Find
 use Rattle.scheme.specs.Find.{shareReading, idsOfShare, idsHeld, idsFound, findVerdict}
 use Rattle.scheme.specs.Count
-use Rattle.scheme.specs.Count.{countVerdict, sumOfCounts}
+use Rattle.scheme.specs.Count.{countVerdict, sumOfCounts, rowsRead}
 use Rattle.scheme.specs.Call
 use Rattle.scheme.specs.Call.{Call, Told}
 use Rattle.scheme.specs.Ledger.{Pair, Entry, Ledger, H, listed, removed, afterErase, ledgerLists, ledgerIds, ledgerSum, ledgerFindVerdict, ledgerStep}
@@ -42,7 +42,7 @@ use Rattle.scheme.proofs.Counters.{runOf, reading-is}
 use Rattle.scheme.proofs.Entries.{entries-as, ids-to, entries-erase, erase-count, erasedIn}
 use Rattle.scheme.proofs.LedgerLaws.{entry-removed, listed-removed}
 use Rattle.scheme.proofs.Simulation.{madeIn, listIn, logIn, Sim, used-M, used-V, log-used, later, counters-later, counters-as}
-use Rattle.scheme.proofs.Verdicts.{orElse, verdict-append, or-none, passed, key-is, length-refused, map-upTo, none-upTo}
+use Rattle.scheme.proofs.Verdicts.{orElse, verdict-append, or-none, passed, view-refused, key-is, length-refused, map-upTo, none-upTo}
 
 -- a call gives its result
 pub record Gives (result : Result) (told : Told) (after : List ℕ) : Type 0 where
@@ -108,7 +108,7 @@ module _ (x : Setting) where
     unfolding usedInAll
     used-is = rw cut-is (omega (arith, used-M x i before l s, used-V x i before l s, log-used x i before l s, s .counters .total, s .W-is))
 
-    pub order-step : After i Call.order l (toldBy (Order.order before)) (Order.order before .store)
+    pub order-step : After i Call.order l (toldBy Call.order (Order.order before)) (Order.order before .store)
     unfolding ledgerStep Order.order
     order-step = record {
       told-is = rw (order-verdict, used-is) refl;
@@ -340,26 +340,23 @@ module _ (x : Setting) where
               }
 
       count-result : verdict (fieldTokenTests key f) ≡ none
-          → countCall suite before key f ≡ record { answer = done (ledgerSum (boundsOf z) l f ∷ []); store = before; output = [] }
+          → countCall suite before key f ≡ record { answer = done (ledgerSum (boundsOf z) l f ∷ rowsRead suite before (CLof suite K f) ∷ []); store = before; output = [] }
       unfolding countCall Count.count countToken
       count-result e =
           let m = field-made key f keyed e in
           rw (e, m .key-is, count-verdict f (m .valid) named, sum-is f (m .valid) named) refl
 
-      pub count-step : (told : Told) (after : List ℕ) → Gives (countCall suite before key f) told after → After i (Call.count key f) l told after
+      -- the ledger has no rows: what is compared leaves those that were looked at out
+      pub count-step : After i (Call.count key f) l (toldBy (Call.count key f) (countCall suite before key f)) (countCall suite before key f .store)
       unfolding ledgerStep
-      count-step told after g = go (verdict (fieldTokenTests key f)) refl
+      count-step = go (verdict (fieldTokenTests key f)) refl
         where
-          go : (o : Option Answer) → verdict (fieldTokenTests key f) ≡ o → After i (Call.count key f) l told after
-          go none e =
-              let r = count-result e in
-              record {
-                told-is = told-eq told _ (g .answer ∙ ap (λ (w : Result). w .answer) r ∙ sym (rw e refl)) (g .output ∙ ap (λ (w : Result). w .output) r);
-                sim = rw (g .store ∙ ap (λ (w : Result). w .store) r) (later x i before l hi s);
-              }
+          go : (o : Option Answer) → verdict (fieldTokenTests key f) ≡ o
+              → After i (Call.count key f) l (toldBy (Call.count key f) (countCall suite before key f)) (countCall suite before key f .store)
+          go none e = record { told-is = rw (count-result e, e) refl; sim = rw (count-result e) (later x i before l hi s) }
           go (some r) e =
               let c : countCall suite before key f ≡ record { answer = r; store = before; output = [] } = unfold countCall in rw e refl in
               record {
-                told-is = told-eq told _ (g .answer ∙ ap (λ (w : Result). w .answer) c ∙ sym (rw e refl)) (g .output ∙ ap (λ (w : Result). w .output) c);
-                sim = rw (g .store ∙ ap (λ (w : Result). w .store) c) (later x i before l hi s);
+                told-is = rw (c, e) (told-eq _ _ (view-refused (fieldTokenTests key f) r e) refl);
+                sim = rw c (later x i before l hi s);
               }

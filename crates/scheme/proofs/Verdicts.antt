@@ -9,10 +9,10 @@ use native.Mathlib.Omega.{arith}
 use lib.Dec.{eqb, ltb}
 use lib.ListN.{length}
 use borrow.Author.Tests.{eqb-true, eq-eqb, not-false, ltb-true, ltb-false, lt-ltb, le-ltb}
-use Rattle.answer.specs.Answer.{Answer, refused}
+use Rattle.answer.specs.Answer.{Answer, done, refused, withoutRows}
 use Rattle.table.specs.Lists.{anyOf, upTo}
 use Rattle.scheme.specs.Refusals.{lengthNot}
-use Rattle.answer.specs.Verdict.{Test, _⇒_, _⇒_carrying_, verdict}
+use Rattle.answer.specs.Verdict.{Test, _⇒_, _⇒_carrying_, verdict, answerOr}
 
 abbrev pub orElse : Option Answer → Option Answer → Option Answer
 orElse none o = o
@@ -34,6 +34,27 @@ verdict-append ((t ⇒ n carrying l) ∷ ts) b = go t (verdict-append ts b)
 pub or-none : (o : Option Answer) → orElse o none ≡ o
 or-none none = refl
 or-none (some r) = refl
+
+-- the view without the rows looked at changes no refusal
+pub view-refused : (ts : List Test) (r : Answer) → verdict ts ≡ some r → withoutRows r ≡ r
+view-refused [] r e = absurd (let z : _≡_ {A = ℕ} 0 1 = cc in omega arith)
+view-refused ((b ⇒ n) ∷ ts) r e = go b e (view-refused ts r)
+  where
+    go : (b : Bool) → cond b (some (refused n [])) (verdict ts) ≡ some r → (verdict ts ≡ some r → withoutRows r ≡ r) → withoutRows r ≡ r
+    go true f h = let g : refused n [] ≡ r = cc in rw (← g) refl
+    go false f h = h f
+view-refused ((b ⇒ n carrying l) ∷ ts) r e = go b e (view-refused ts r)
+  where
+    go : (b : Bool) → cond b (some (refused n l)) (verdict ts) ≡ some r → (verdict ts ≡ some r → withoutRows r ≡ r) → withoutRows r ≡ r
+    go true f h = let g : refused n l ≡ r = cc in rw (← g) refl
+    go false f h = h f
+
+pub view-or : (ts : List Test) (n rows : ℕ) → withoutRows (answerOr (verdict ts) (done (n ∷ rows ∷ []))) ≡ answerOr (verdict ts) (done (n ∷ []))
+view-or ts n rows = go (verdict ts) refl
+  where
+    go : (o : Option Answer) → verdict ts ≡ o → withoutRows (answerOr o (done (n ∷ rows ∷ []))) ≡ answerOr o (done (n ∷ []))
+    go none e = refl
+    go (some r) e = view-refused ts r e
 
 -- where nothing refuses, the first condition does not hold, nor any later
 pub passed : (t : Bool) (r : Answer) (rest : Option Answer) → cond t (some r) rest ≡ none → (t ≡ false) × (rest ≡ none)

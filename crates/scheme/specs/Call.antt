@@ -1,7 +1,7 @@
 -- A call of a list, by its raw arguments, and what it tells (document 01, "The ledger", last paragraph).
 use Prim.Native.Nat.{ℕ}
 use mathlib.Core.List.{List}
-use Rattle.answer.specs.Answer.{Answer}
+use Rattle.answer.specs.Answer.{Answer, withoutRows}
 use Rattle.scheme.specs.Labels.{Field}
 
 -- the making of the call's token, where it takes one, then the operation with it [01:LG16]
@@ -12,6 +12,15 @@ pub data Call : Type 0 where
   count : (key : List ℕ) (f : Field) → Call
   compact : (key nonces : List ℕ) → Call
   order : Call
+
+-- what is compared of a call's answer: the rows that a count looked at are left out [02:W3.8]
+abbrev pub compared : Call → Answer → Answer
+compared (Call.insert key f p u nonce ids nonces) a = a
+compared (Call.erase id) a = a
+compared (Call.find key f output) a = a
+compared (Call.count key f) a = withoutRows a
+compared (Call.compact key nonces) a = a
+compared Call.order a = a
 
 -- the answer, or the refusal's number with what it carries, and a find's whole output slice; no row bytes [01:LG14 LG15]
 pub record Told : Type 0 where

@@ -9,8 +9,8 @@ use Rattle.scheme.specs.Suite.{Suite}
 use Rattle.scheme.specs.Labels.{Field, label}
 use Rattle.scheme.specs.Example.{Example, _yields_, _tells_, bytes, every, cases, fieldOf}
 use Rattle.scheme.specs.ByteExamples.{byteEquations, insertBytes, eraseCases}
-use Rattle.scheme.specs.RefusalExamples.{makingCases, storeMakingCases, inputCases, stateCases, formCases, orderCases, insertCases, queryCases, queryBytes}
-use Rattle.scheme.specs.ReadingExamples.{readingBytes, laterBytes, blindBytes, blindCases, compactionCases, compactionBytes}
+use Rattle.scheme.specs.RefusalExamples.{makingCases, storeMakingCases, inputCases, stateCases, formCases, orderCases, insertCases, queryCases, tallyCases, boundBytes, queryBytes}
+use Rattle.scheme.specs.ReadingExamples.{readingBytes, rowsBytes, laterBytes, blindBytes, blindCases, compactionCases, compactionBytes}
 use Rattle.scheme.specs.Store.{Sizes, fresh}
 use Rattle.scheme.specs.Call
 use Rattle.scheme.specs.Call.{Call, Told}
@@ -176,10 +176,10 @@ examples suite =
     ∷ (ledgerTells (boundsOf workedSizes) empty (callsOf ordered) tells toldOf ordered)
     ∷ (storeTells suite (callsOf ordered) (fresh workedSizes) tells toldOf ordered)
     ∷ every byteEquations
-    ∷ bytes (insertBytes suite ++ (readingBytes suite ++ (laterBytes suite ++ (blindBytes ++ (compactionBytes suite ++ queryBytes suite)))))
+    ∷ bytes (insertBytes suite ++ (readingBytes suite ++ (rowsBytes suite ++ (laterBytes suite ++ (blindBytes ++ (compactionBytes suite ++ (boundBytes suite ++ queryBytes suite)))))))
     ∷ cases (makingCases ++ storeMakingCases)
     ∷ cases (inputCases suite)
     ∷ cases (stateCases suite ++ (formCases suite ++ orderCases suite))
-    ∷ cases (insertCases suite ++ (eraseCases ++ (queryCases suite ++ blindCases)))
+    ∷ cases (insertCases suite ++ (eraseCases ++ (queryCases suite ++ (tallyCases suite ++ blindCases))))
     ∷ cases (compactionCases suite)
     ∷ [])

@@ -4,6 +4,7 @@ pub mod Keys
 pub mod Store
 pub mod Layout
 pub mod Reading
+pub mod RowsRead
 pub mod Refusals
 pub mod Insert
 pub mod Erase

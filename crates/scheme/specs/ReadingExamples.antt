@@ -8,6 +8,7 @@ use Rattle.table.specs.Lists.{flat}
 use Rattle.answer.specs.Answer.{done, refused}
 use Rattle.scheme.specs.Suite.{Suite}
 use Rattle.scheme.specs.Reading.{Reading, damage, counter, reading}
+use Rattle.scheme.specs.RowsRead.{anchorRows, counterRows}
 use Rattle.scheme.specs.Refusals.{Result}
 use Rattle.scheme.specs.Find
 use Rattle.scheme.specs.Insert
@@ -68,6 +69,33 @@ module _ (suite : Suite) where
       -- B and k are at most c
       ∷ (read blind (blindRow 7 ∷ []) is (1 ∷ 0 ∷ 1 ∷ 7 ∷ []))
       ∷ (read blind (zeros 61 ∷ blindRow 7 ∷ zeros 61 ∷ []) is (3 ∷ 0 ∷ 3 ∷ 7 ∷ []))
+      ∷ []
+
+-- ---- the rows looked at for anchors and for counters, by the reading of a CL of zeros in a table C of these rows, in form; F grows with its
+-- number in the suite that computes, and with the byte before it, so counters come before anchors [02:W3.2 W3.3 W3.4 W3.5 W3.6 W3.7]
+
+abbrev pub lookedFor : Suite → List (List ℕ) → List ℕ
+lookedFor suite rows = anchorRows suite (length rows) (zeros 32) rows ∷ counterRows suite (length rows) (zeros 32) rows ∷ []
+
+module _ (suite : Suite) where
+  abbrev pub rowsBytes : List Equation
+  rowsBytes =
+      -- no used row
+      (lookedFor suite (zeros 61 ∷ []) is (0 ∷ 0 ∷ []))
+      -- anchor 1 comes after every counter, and no row follows; counter 1 is at the first row, and c = 1 ends it
+      ∷ (lookedFor suite (counterIs suite 1 (eight 0) (eight 7) ∷ []) is (1 ∷ 1 ∷ []))
+      -- counters 1, 2 and 3, where 3 is missing and no row follows: 1 + 2 + 2
+      ∷ (lookedFor suite (counterIs suite 1 (eight 0) (eight 7) ∷ counterIs suite 2 (eight 0) (eight 9) ∷ zeros 61 ∷ []) is (2 ∷ 5 ∷ []))
+      -- c of a kind: counter 3 is not looked up
+      ∷ (lookedFor suite (counterIs suite 1 (eight 0) (eight 7) ∷ counterIs suite 2 (eight 0) (eight 9) ∷ []) is (2 ∷ 3 ∷ []))
+      -- below all rows: the first row that follows is looked at
+      ∷ (lookedFor suite (counterIs suite 2 (eight 0) (eight 9) ∷ zeros 61 ∷ []) is (1 ∷ 1 ∷ []))
+      -- anchors 1 and 2, then counters 6 and 7, where anchor 1 follows counter 7
+      ∷ (lookedFor suite (counterIs suite 6 (eight 0) (eight 9) ∷ anchorIs suite 1 (eight 5) (eight 7) ∷ zeros 61 ∷ zeros 61 ∷ []) is (4 ∷ 3 ∷ []))
+      -- a tag that stands twice: a lookup ends at the first of them, one that follows goes past both
+      ∷ (lookedFor suite (counterIs suite 1 (eight 0) (eight 7) ∷ counterIs suite 1 (eight 0) (eight 9) ∷ []) is (2 ∷ 3 ∷ []))
+      -- every lookup at the first row, c of either kind
+      ∷ (lookedFor blind (blindRow 7 ∷ zeros 61 ∷ zeros 61 ∷ []) is (3 ∷ 3 ∷ []))
       ∷ []
 
 -- ---- an insert where anchor 1 (position 5, count 7) and counter 6 (count 9) are held: address 10, position 7, count 10 [01:OP1 OP3]

@@ -4,7 +4,7 @@ use Prim.Native.Nat.{ℕ, _+_}
 use mathlib.Core.List.{List, [], _∷_, _++_}
 use lib.ListN.{length, take, set}
 use Rattle.table.specs.Lists.{flat}
-use Rattle.answer.specs.Answer.{Answer, done, refused}
+use Rattle.answer.specs.Answer.{Answer, done, refused, withoutRows}
 use Rattle.answer.specs.Verdict.{verdict, answerOr}
 use Rattle.scheme.specs.Suite.{Suite}
 use Rattle.scheme.specs.Refusals.{insertTokenTests, fieldTokenTests, keyTests}
@@ -12,6 +12,7 @@ use Rattle.scheme.specs.Store.{make}
 use Rattle.scheme.specs.Erase
 use Rattle.scheme.specs.Find
 use Rattle.scheme.specs.Count
+use Rattle.scheme.specs.Count.{mostRows}
 use Rattle.scheme.specs.Insert
 use Rattle.scheme.specs.Compaction
 use Rattle.scheme.specs.Order
@@ -161,12 +162,16 @@ module _ (suite : Suite) where
   abbrev pub insertOver : List (List ℕ) → Answer
   insertOver rows = inserting (withC 0 (length rows + 1) (rows ++ (zeros 61 ∷ []))) 16 24 140 0
 
-  -- find and count, by the token's length; a find token's bytes are their places, and a count token is its third part
+  -- find and count, by the token's length; a find token's bytes are their places, and a count token is its third part. The rows that a count
+  -- looked at have examples of their own
   abbrev pub finding : List ℕ → ℕ → ℕ → Answer
   finding store token output = Find.find suite store (places 0 token) (zeros output) .answer
 
   abbrev pub counting : List ℕ → ℕ → Answer
-  counting store token = Count.count suite store (places 64 token) .answer
+  counting store token = withoutRows (Count.count suite store (places 64 token) .answer)
+
+  abbrev pub tallying : List ℕ → Answer
+  tallying store = Count.count suite store (places 64 32) .answer
 
   abbrev pub compacting : List ℕ → ℕ → ℕ → Answer
   compacting store nonces token = Compaction.compact suite store (zeros nonces) (zeros token) .answer
@@ -433,6 +438,24 @@ module _ (suite : Suite) where
       ∷ (finding (twoEntries 1 damagedShare) 96 15 gives by 13)
       ∷ (finding (set (twoEntries 1 damagedShare) 130 2) 96 15 gives by 11)
       ∷ (counting (set (twoEntries 1 damagedShare) 130 2) 32 gives by 11)
+      ∷ []
+
+  -- a count with the rows looked at: anchor 1 and counters 1 and 2 of each share; a refusal carries none [02:W3.8]
+  abbrev pub tallyCases : List Case
+  tallyCases =
+      (tallying (withC 1 2 (ofShare 0 1 (eight 0) (eight 3) ∷ ofShare 1 1 (eight 0) (eight 4) ∷ [])) gives done (7 ∷ 11 ∷ []))
+      ∷ (tallying (withC 0 2 (ofShare 0 1 (eight 0) (eight 3) ∷ ofShare 0 2 (eight 0) (eight 5) ∷ [])) gives done (5 ∷ 5 ∷ []))
+      ∷ (tallying (withC 0 2 (ofShare 0 1 (eight 0) (eight 3) ∷ ofShare 1 1 (eight 0) (eight 4) ∷ [])) gives done (3 ∷ 5 ∷ []))
+      ∷ (tallying one gives done (0 ∷ 0 ∷ []))
+      ∷ (tallying (withC 1 2 (ofShare 0 1 (eight 1) (eight 3) ∷ ofShare 1 1 (eight 0) (eight 4) ∷ [])) gives by 13)
+      ∷ (tallying (set one 8 2) gives by 11)
+      ∷ []
+
+  -- the most that these can be: 2 × c × (p + 1) × the used rows of C [02:W3.11]
+  abbrev pub boundBytes : List Equation
+  boundBytes =
+      (mostRows (withC 1 2 (ofShare 0 1 (eight 0) (eight 3) ∷ ofShare 1 1 (eight 0) (eight 4) ∷ [])) ∷ [] is (16 ∷ []))
+      ∷ (mostRows (withC 2 3 (counterIs 1 (eight 0) (eight 7) ∷ zeros 61 ∷ zeros 61 ∷ [])) ∷ [] is (18 ∷ []))
       ∷ []
 
   -- ids go to the start of the output and later bytes stay; a refusal leaves all of it [01:OP6 OP7 RS13]

@@ -15,7 +15,7 @@ use Rattle.scheme.specs.Count
 use Rattle.scheme.specs.Compaction
 use Rattle.scheme.specs.Order
 use Rattle.scheme.specs.Call
-use Rattle.scheme.specs.Call.{Call, Told}
+use Rattle.scheme.specs.Call.{Call, Told, compared}
 
 -- a token's making that is refused ends the call and changes nothing
 abbrev pub madeOr : Option Answer → Result → List ℕ → List ℕ → Result
@@ -49,14 +49,14 @@ perform suite (Call.count key f) before = countCall suite before key f
 perform suite (Call.compact key nonces) before = compactCall suite before key nonces
 perform suite Call.order before = Order.order before
 
--- what is told of a result
-abbrev pub toldBy : Result → Told
-toldBy r = record { answer = r .answer; output = r .output }
+-- what is told of a call's result
+abbrev pub toldBy : Call → Result → Told
+toldBy call r = record { answer = compared call (r .answer); output = r .output }
 
 -- what a list of calls tells, call after call, and the store after it
 abbrev pub storeTells : Suite → List Call → List ℕ → List Told
 storeTells suite [] before = []
-storeTells suite (call ∷ calls) before = toldBy (perform suite call before) ∷ storeTells suite calls (perform suite call before .store)
+storeTells suite (call ∷ calls) before = toldBy call (perform suite call before) ∷ storeTells suite calls (perform suite call before .store)
 
 abbrev pub storeAfter : Suite → List Call → List ℕ → List ℕ
 storeAfter suite [] before = before
