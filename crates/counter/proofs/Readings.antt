@@ -1,5 +1,5 @@
 -- What the walks and the two decrypted rows tell is the scheme's reading.
-use Prim.Native.Nat.{ℕ, zero, suc, _+_, _≤_}
+use Prim.Native.Nat.{ℕ, zero, suc, _+_, _≤_, min}
 use mathlib.Core.Path.{_≡_, refl, sym, ap, ap₂, _∙_}
 use mathlib.Core.Bool.{Bool, true, false, cond, not, _||_, true≢false}
 use mathlib.Core.Option.{some}
@@ -21,6 +21,7 @@ use Rattle.scheme.specs.Keys.{CT, CE}
 use Rattle.scheme.specs.Store.{counterTag, anchorTag, plainIn}
 use Rattle.scheme.specs.Reading.{limit, walk, Numbers, Reading, numbersAt, anchorsHeld, anchorNumbers, startOf, countersHeld, counterNumbers, isDamage, reading}
 use Rattle.scheme.specs.Reading.Reading.{counter, damage}
+use Rattle.scheme.specs.RowsRead.{lookedOver, anchorRows, counterRows, readingRows}
 use Rattle.scheme.specs.Compaction.{heldPlaces}
 use Rattle.suite.specs.Program.{program}
 use Rattle.format.specs.declared.Keys.{Keys}
@@ -28,8 +29,9 @@ use Rattle.format.specs.Tags.{Prepared, KeysOf}
 use Rattle.format.specs.Rows.{textIn}
 use Rattle.format.proofs.Tags.{counter-tag-is, anchor-tag-is}
 use Rattle.counter.specs.Walks.{counterTags, anchorTags, heldIn, lastPlace, placesOf, noted}
-use Rattle.counter.specs.Outcome.{numbersIn, numbersOr, anchorBad, counterBad, placesNoted}
-use Rattle.counter.proofs.Walks.{walk-held, walk-le}
+use Rattle.counter.specs.Outcome.{numbersIn, numbersOr, anchorBad, counterBad, placesNoted, talliedBy, rowsTold}
+use Rattle.counter.specs.declared.Lookup.{Lookup}
+use Rattle.counter.proofs.Walks.{walk-held, walk-le, tallied-sum}
 
 -- the tags of all numbers
 counter-tags : (k : Keyed) (cl : List ℕ) → Prepared k (CT program cl) → counterTags k ≡ counterTag program cl
@@ -153,6 +155,36 @@ module _ (c : ℕ) (cl : List ℕ) (t : Table) where
         g ∙ ap₂ (λ (tag : ℕ → List ℕ) (i : ℕ). noted tag t i k old) (counter-tags (keys .ct) cl (p .ct)) (start-is x e)
         ∙ ap (λ (j : ℕ). noted (counterTag program cl) t (startOf program c cl t) j old) f
         ∙ ap (λ (b : Bool). cond b old (noted (counterTag program cl) t (startOf program c cl t) (countersHeld program c cl t) old)) (sym h ∙ ap anchorBad e)
+
+  -- the rows that a reading says it looked at: none where it is damage
+  module _ (by : Lookup) where
+    pub rows-damage : damage ≡ reading program c cl t → 0 ≡ rowsTold by c cl t
+    unfolding reading rowsTold
+    rows-damage e = go (isDamage program c cl t) e
+      where
+        go : (d : Bool) → damage ≡ answer d → 0 ≡ cond d 0 (talliedBy by (readingRows program c cl t))
+        go true f = refl
+        go false f = absurd (let z : _≡_ {A = ℕ} 0 1 = cc in omega arith)
+
+    pub rows-counter : (b start k n rows : ℕ) → counter b start k n ≡ reading program c cl t → rows ≡ talliedBy by (readingRows program c cl t) → rows ≡ rowsTold by c cl t
+    unfolding reading rowsTold
+    rows-counter b start k n rows e r = go (isDamage program c cl t) e
+      where
+        go : (d : Bool) → counter b start k n ≡ answer d → rows ≡ cond d 0 (talliedBy by (readingRows program c cl t))
+        go true f = absurd (let z : _≡_ {A = ℕ} 0 1 = cc in omega arith)
+        go false f = r
+
+    -- the tallies of both walks make the reading's
+    pub rows-are : (keys : Keys) → KeysOf keys cl → (x : Numbers) → x ≡ anchorNumbers program c cl t → (b k m n : ℕ) → b ≡ anchorsHeld program c cl t → k ≡ countersHeld program c cl t
+        → m ≡ talliedBy by (lookedOver (anchorTags (keys .ct)) t 0 (min (suc b) c)) → n ≡ talliedBy by (lookedOver (counterTags (keys .ct)) t (x .a) (min (suc k) c))
+        → m + n ≡ talliedBy by (readingRows program c cl t)
+    unfolding readingRows anchorRows counterRows
+    rows-are keys p x e b k m n f g h i =
+        ap₂ (λ (y z : ℕ). y + z)
+        (h ∙ ap₂ (λ (tag : ℕ → List ℕ) (j : ℕ). talliedBy by (lookedOver tag t 0 (min (suc j) c))) (anchor-tags (keys .ct) cl (p .ct)) f)
+        (i ∙ ap₂ (λ (tag : ℕ → List ℕ) (j : ℕ). talliedBy by (lookedOver tag t j (min (suc k) c))) (counter-tags (keys .ct) cl (p .ct)) (start-is x e)
+        ∙ ap (λ (j : ℕ). talliedBy by (lookedOver (counterTag program cl) t (startOf program c cl t) (min (suc j) c))) g)
+        ∙ tallied-sum by (lookedOver (anchorTag program cl) t 0 (min (suc (anchorsHeld program c cl t)) c)) (lookedOver (counterTag program cl) t (startOf program c cl t) (min (suc (countersHeld program c cl t)) c))
 
   -- where the reading is a counter: the rows that a compaction frees
   pub places-held : (b start k n : ℕ) (old : List ℕ) → counter b start k n ≡ reading program c cl t → placesNoted c cl t old ≡ heldPlaces program cl t start k ++ drop k old

@@ -1,18 +1,28 @@
--- A walk goes on from where it stands: what is left decides. The row of the last number held is held. Places are noted one by one.
-use Prim.Native.Nat.{ℕ, zero, suc, _+_, _-_, _≤_, _<_}
+-- A walk goes on from where it stands: what is left decides. The row of the last number held is held. Places are noted one by one, and
+-- rows looked at are added up lookup by lookup.
+use Prim.Native.Nat.{ℕ, zero, suc, _+_, _-_, _≤_, _<_, min}
 use mathlib.Core.Path.{_≡_, refl, sym, ap, ap₂, _∙_}
 use mathlib.Core.Bool.{Bool, true, false, cond}
 use mathlib.Core.List.{List, [], _∷_, _++_, append-assoc}
-use native.Mathlib.Nat.{not-suc-le-zero, zero-add, add-zero}
+use native.Mathlib.Nat.{not-suc-le-zero, zero-add, add-zero, mul-le-mul-right}
 use native.Mathlib.Numerals.{add-one}
 use native.Mathlib.Omega.{arith}
 use borrow.Author.Tests.{lt-ltb, le-ltb}
 use lib.ListN.{length, length-append, length-drop, getD, drop, set}
 use lib.Seq.{drop-cons, set-at}
 use Rattle.table.specs.Table.{Table, placeOf}
+use Rattle.table.specs.Order.{usedRows}
+use Rattle.table.specs.Looked.{lookedAt}
 use Rattle.table.proofs.Walk.{place-holds}
+use Rattle.table.proofs.Order.{rows-counted}
+use Rattle.table.proofs.Looked.{looked-most}
 use Rattle.scheme.specs.Reading.{walk}
+use Rattle.scheme.specs.RowsRead.{lookedOver}
+use Rattle.scheme.proofs.RowsRead.{over-most, over-next}
 use Rattle.counter.specs.Walks.{heldIn, lastPlace, placesOf, noted}
+use Rattle.counter.specs.Outcome.{talliedBy}
+use Rattle.counter.specs.declared.Lookup.{Lookup}
+use Rattle.counter.specs.declared.Lookup.the-variants.{Search, Walk}
 
 module _ (held : ℕ → Bool) where
   walk-more : (left n : ℕ) → 0 < left → held (n + 1) ≡ true → walk held left n ≡ suc (walk held (left - 1) (n + 1))
@@ -114,3 +124,40 @@ module _ (tag : ℕ → List ℕ) (t : Table) where
         ∙ set-at (placesOf tag t i k) (getD old k 0) (drop (suc k) old) (placeOf (tag (i + k + 1)) t) k (places-length i k)
         ∙ sym (append-assoc (placesOf tag t i k) (placeOf (tag (i + k + 1)) t ∷ []) (drop (suc k) old))
         ∙ ap (λ (l : List ℕ). l ++ drop (suc k) old) (sym (places-next i k)) ∙ ap (λ (n : ℕ). noted tag t i n old) (sym (add-one k))
+
+-- ---- rows looked at
+
+pub tallied-sum : (by : Lookup) (a b : ℕ) → talliedBy by a + talliedBy by b ≡ talliedBy by (a + b)
+tallied-sum Search a b = omega arith
+tallied-sum Walk a b = refl
+
+pub tally-none : (by : Lookup) → 0 ≡ talliedBy by 0
+tally-none Search = refl
+tally-none Walk = refl
+
+pub tallied-most : (by : Lookup) (n : ℕ) → talliedBy by n ≤ n
+tallied-most Search n = omega arith
+tallied-most Walk n = omega arith
+
+module _ (by : Lookup) (tag : ℕ → List ℕ) (t : Table) (i : ℕ) where
+  -- one lookup more
+  pub tally-more : (k n more : ℕ) → n ≡ talliedBy by (lookedOver tag t i k) → more ≡ talliedBy by (lookedAt (tag (i + k + 1)) t) → n + more ≡ talliedBy by (lookedOver tag t i (k + 1))
+  tally-more k n more e f =
+      ap₂ (λ (a b : ℕ). a + b) e (f ∙ ap (λ (j : ℕ). talliedBy by (lookedAt (tag j) t)) (let s : i + k + 1 ≡ i + suc k = omega arith in s))
+      ∙ tallied-sum by (lookedOver tag t i k) (lookedAt (tag (i + suc k)) t)
+      ∙ ap (talliedBy by) (sym (over-next tag t i k)) ∙ ap (λ (j : ℕ). talliedBy by (lookedOver tag t i j)) (sym (add-one k))
+
+  -- the lookup that finds nothing is the last; where all c are held there is none
+  pub tally-stop : (k c n : ℕ) → k < c → n ≡ talliedBy by (lookedOver tag t i (k + 1)) → n ≡ talliedBy by (lookedOver tag t i (min (suc k) c))
+  tally-stop k c n h e = e ∙ ap (λ (j : ℕ). talliedBy by (lookedOver tag t i j)) (let m : k + 1 ≡ min (suc k) c = omega arith in m)
+
+  pub tally-end : (k c n : ℕ) → k ≡ c → n ≡ talliedBy by (lookedOver tag t i k) → n ≡ talliedBy by (lookedOver tag t i (min (suc k) c))
+  tally-end k c n h e = e ∙ ap (λ (j : ℕ). talliedBy by (lookedOver tag t i j)) (let m : k ≡ min (suc k) c = omega arith in m)
+
+  module _ (h : length t ≤ 4096) where
+    pub tally-small : (k n : ℕ) → k ≤ 4096 → n ≡ talliedBy by (lookedOver tag t i k) → n ≤ 16777216
+    tally-small k n l e =
+        omega (arith, tallied-most by (lookedOver tag t i k), over-most tag t i k, rows-counted t, mul-le-mul-right k (let m : length (usedRows t) ≤ 4096 = omega (arith, rows-counted t) in m))
+
+    pub more-small : (k more : ℕ) → more ≡ talliedBy by (lookedAt (tag k) t) → more ≤ 4096
+    more-small k more e = omega (arith, tallied-most by (lookedAt (tag k) t), looked-most (tag k) t, rows-counted t)

@@ -7,14 +7,17 @@ use lib.ListN.{length, getD, take, drop}
 use Rattle.table.specs.Table.{Table, body}
 use Rattle.scheme.specs.Suite.{valueOf}
 use Rattle.scheme.specs.Store.{counterTag}
-use Rattle.scheme.specs.Reading.{limit, Numbers as SchemeNumbers, Reading as SchemeReading, anchorNumbers, startOf, countersHeld, reading}
+use Rattle.scheme.specs.Reading.{limit, Numbers as SchemeNumbers, Reading as SchemeReading, anchorNumbers, startOf, countersHeld, isDamage, reading}
 use Rattle.scheme.specs.Reading.Reading.{counter, damage}
+use Rattle.scheme.specs.RowsRead.{readingRows}
 use Rattle.suite.specs.Program.{program}
 use Rattle.counter.specs.Walks.{noted}
 use Rattle.hmac.specs.declared.Keyed.{Keyed}
 use Rattle.format.specs.Tags.{numberedBy}
 use Rattle.format.specs.Rows.{textIn}
 use Rattle.counter.specs.declared.Numbers.{Numbers}
+use Rattle.counter.specs.declared.Lookup.{Lookup}
+use Rattle.counter.specs.declared.Lookup.the-variants.{Search, Walk}
 use Rattle.counter.specs.declared.Reading.{Reading}
 use Rattle.counter.specs.declared.Reading.the-variants.{Counter, Damage}
 
@@ -50,3 +53,23 @@ readingOf Damage = damage
 unfoldable pub placesNoted : ℕ → List ℕ → Table → List ℕ → List ℕ
 placesNoted c cl t old =
     cond (anchorBad (anchorNumbers program c cl t)) old (noted (counterTag program cl) t (startOf program c cl t) (countersHeld program c cl t) old)
+
+-- rows are tallied in a walk alone [02:W3.9]
+abbrev pub talliedBy : Lookup → ℕ → ℕ
+talliedBy Search n = 0
+talliedBy Walk n = n
+
+-- the tally of a reading; damage has none
+abbrev pub rowsIn : Reading → ℕ
+rowsIn (Counter c) = c .rows
+rowsIn Damage = 0
+
+unfoldable pub rowsTold : Lookup → ℕ → List ℕ → Table → ℕ
+rowsTold by c cl t = cond (isDamage program c cl t) 0 (talliedBy by (readingRows program c cl t))
+
+unfoldable pub shareTold : Lookup → Keyed → ℕ → Table → ℕ → ℕ
+shareTold by clx c t u = rowsTold by c (numberedBy clx u) t
+
+-- the rows looked at for a share, from the prepared F(KC, x) [02:W3.8]
+unfoldable pub shareLooked : Keyed → ℕ → Table → ℕ → ℕ
+shareLooked clx c t u = readingRows program c (numberedBy clx u) t

@@ -1,6 +1,10 @@
 -- Refused by the definition's tests, in its order; then the sum over the shares, read out of the part that holds C.
 use mathlib.Core.Path.{_≡_, refl, sym, _∙_}
+use mathlib.Core.List.{[]}
 use native.Mathlib.Omega.{arith}
+use Rattle.answer.specs.Answer.{refused, refusal, tallied}
+use Rattle.scheme.proofs.RowsRead.{promises}
+use Rattle.suite.specs.Program.{program}
 use Rattle.store.specs.declared.Checked.the-variants.{Fit}
 use Rattle.store.specs.Check.{checkedOf}
 use Rattle.store.proofs.Laws.{tableC, Fits, fit-range, fits, free-le, part-searchable}
@@ -19,7 +23,7 @@ inC c = fits (c .before .before .before .before .before .before .before .args .s
 
 returns : tie.Need-returns
 returns c =
-    let a = c .before .before .before .args in other-length (a .store .now) (a .token .now) (c .if1 .taken)
+    let a = c .before .before .before .args in promises program (a .store .now) (a .token .now) (refused 6 []) (other-length (a .store .now) (a .token .now) (c .if1 .taken))
 
 sub-sum-of-counts : tie.Need-sub-sum-of-counts
 sub-sum-of-counts c =
@@ -47,13 +51,15 @@ sum-of-counts-requires c κs =
 returns-2 : tie.Need-returns-2
 returns-2 c =
     let a = c .before .before .before .before .before .before .before .args in
-    unfit-store (a .store .now) (a .token .now) (c .before .before .before .before .if1 .left) (c .before .checked .given .0 .0) (sym (c .before .before .before .sizes .ensures) ∙ c .before .checked .given .1)
+    promises program (a .store .now) (a .token .now) (refusal (c .before .checked .given .0 .0))
+    (unfit-store (a .store .now) (a .token .now) (c .before .before .before .before .if1 .left) (c .before .checked .given .0 .0) (sym (c .before .before .before .sizes .ensures) ∙ c .before .checked .given .1))
 
 returns-3 : tie.Need-returns-3
 returns-3 c =
     let a = c .before .before .before .before .before .before .before .before .before .before .before .before .args in
-    c .sum-of-counts .ensures
-    ∙ fit-store (a .store .now) (a .token .now) (c .before .before .before .before .before .before .before .before .before .if1 .left) (c .before .before .before .before .before .before .checked2 .given .0 .0) (c .before .before .before .prepare .result) (passed (c .before .before .before .before .before)) (record { inner = c .before .before .before .prepare .ensures .0; outer = c .before .before .before .prepare .ensures .1 })
+    promises program (a .store .now) (a .token .now) (tallied (c .sum-of-counts .result))
+    (c .sum-of-counts .ensures
+    ∙ fit-store (a .store .now) (a .token .now) (c .before .before .before .before .before .before .before .before .before .if1 .left) (c .before .before .before .before .before .before .checked2 .given .0 .0) (c .before .before .before .prepare .result) (passed (c .before .before .before .before .before)) (record { inner = c .before .before .before .prepare .ensures .0; outer = c .before .before .before .prepare .ensures .1 }))
 
 pub count-spec : {M : Type 1} → statement M
 count-spec = tie.close (tie.spec returns (λ c κs. search needs) (λ c. search needs) (λ c. search needs) (λ c κs. search needs) sub-sum-of-counts part-sum-of-counts-start part-sum-of-counts-end sub-sum-of-counts-2 sum-of-counts-requires returns-2 returns-3)

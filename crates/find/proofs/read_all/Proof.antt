@@ -34,7 +34,7 @@ returns c =
     let l = r .before .before .loop in
     let a = r .before .before .before .before .args in
     let f = shareRead (a .clx) (a .c) (rows (widthOf tableC) (a .c) (a .t .now)) in
-    counts-damage f (a .p) (summed-damage f (l .u) (a .p) (omega (arith, r .before .loop-test .taken)) (sym (ap readingOf (c .enum-told .given .1)) ∙ r .read-share .ensures))
+    counts-damage f (a .p) (summed-damage f (l .u) (a .p) (omega (arith, r .before .loop-test .taken)) (sym (ap readingOf (c .enum-told .given .1)) ∙ r .read-share .ensures .0))
 
 -- one share more
 more : (c : tie.After-struct-known Inv-loop μ-loop) →
@@ -52,7 +52,7 @@ more c =
     let g = c .before .before .reading .given in
     let z = g .0 .0 in
     let f = shareRead (a .clx) (a .c) t in
-    let e = sym (ap readingOf (g .1)) ∙ r .read-share .ensures in (
+    let e = sym (ap readingOf (g .1)) ∙ r .read-share .ensures .0 in (
       summed-more f (l .u) (l .sum) (z .b .0) (z .start .0) (z .k) (z .count) (l .inv .1) e
           (reading-bounds (a .c) (numberedBy (a .clx) (l .u)) t (z .b .0) (z .start .0) (z .k) (z .count) e .count-limit),
       ap₂ (λ (x : List ℕ) (y : ℕ). set x (l .u) y) (l .inv .2) (ap countOf e) ∙ ap (λ (n : ℕ). filled (λ u. countOf (f u)) n (replicate 16 0)) (sym (add-one (l .u))),

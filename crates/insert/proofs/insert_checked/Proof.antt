@@ -33,7 +33,7 @@ label-key c = c .copy .ensures
 reading : (c : tie.After-read-keyed) → readingOf (c .read-keyed .result) ≡ insertReading program (c .before .before .before .before .before .before .before .before .before .before .before .before .before .before .before .before .before .before .before .args .store .now) (c .before .before .before .before .before .before .before .before .before .before .before .before .before .before .before .before .before .before .before .args .token .now)
 reading c =
     let s = c .before .before .before .before .before .before .before .before .before .before .before .before .before .before .before .before .before .before .before in
-    c .read-keyed .ensures ∙ reading-is (s .args .store .now) (s .args .token .now) (s .args .z) (s .pre .1) (c .before .before .before .before .before .before .before .before .copy .last .0) (label-key (c .before .before .before .before .before .before .before .before))
+    c .read-keyed .ensures .0 ∙ reading-is (s .args .store .now) (s .args .token .now) (s .args .z) (s .pre .1) (c .before .before .before .before .before .before .before .before .copy .last .0) (label-key (c .before .before .before .before .before .before .before .before))
 
 shared-slice-read-wide : tie.Need-shared-slice-read-wide
 shared-slice-read-wide c =

@@ -80,7 +80,7 @@ anchor-requires c κs =
             read = read k;
             some = positive (z .k) (c .before .before .if1 .left);
             long = omega (arith, bound, p .0 .1, long);
-            held = noted-held (a .cl .now) t (a .c) (z .b .0) (z .start .0) (z .k) (z .count) (read k) _ noted (c .before .before .before .before .before .before .before .before .read-by .ensures .1);
+            held = noted-held (a .cl .now) t (a .c) (z .b .0) (z .start .0) (z .k) (z .count) (read k) _ noted (c .before .before .before .before .before .before .before .before .read-by .ensures .1 .0);
           },
         ),
       ),
