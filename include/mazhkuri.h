@@ -157,6 +157,11 @@ int64_t mazhkuri_find(const uint8_t *store, size_t store_length, const uint8_t *
 int64_t mazhkuri_count(const uint8_t *store, size_t store_length, const uint8_t *token,
                        size_t token_length);
 
+/* The same, and writes to rows[0] how many counter rows were looked at for it: at most 2 * c *
+ * (p + 1) * the used counter rows. A refusal leaves rows[0]. */
+int64_t mazhkuri_count_tallied(const uint8_t *store, size_t store_length, const uint8_t *token,
+                               size_t token_length, uint64_t rows[1]);
+
 /* Compacts: for every field and share inserted under since the last compaction, frees its counter
  * rows and writes one anchor row in their place; then frees the log rows. At least as many nonces of
  * 12 bytes as the log has used rows. Returns anchors written * 2^32 + counters freed; or -4, -6,

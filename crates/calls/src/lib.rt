@@ -1,7 +1,7 @@
 // A call of a list, on its raw arguments: the making of its token, where it takes one, then the operation
 // with it (document 01, "The ledger", last paragraph). Each contract is the step of the claim. [01:LG16 OP16 SC6]
 ghost use mathlib.Core.Path.{_≡_};
-ghost use Rattle.answer.specs.Answer.{counted};
+ghost use Rattle.answer.specs.Answer.{counted, tallied};
 ghost use Rattle.scheme.specs.Call.{Call};
 ghost use Rattle.scheme.specs.Run.{perform};
 ghost use Rattle.suite.specs.Program.{program};
@@ -9,6 +9,7 @@ ghost use Rattle.client.specs.Making.{fieldOf};
 ghost use Rattle.compact.specs.Outcome.{compactionAnswer};
 use answer::Completion;
 use answer::Counted;
+use answer::Tallied;
 use compact::Compaction;
 use format::COMPACTION_TOKEN;
 use format::COUNT_TOKEN;
@@ -57,13 +58,13 @@ pub fn find(store: &[u8], key: &[u8], name: &[u8], value: &[u8], output: &mut [u
     }
 }
 
-// Counts the ids ever inserted under a field. [01:OP9]
-pub fn count(store: &[u8], key: &[u8], name: &[u8], value: &[u8]) -> Counted
-    ensures { λ r. ⌜ counted r ≡ perform program (Call.count (now (key .entry)) (fieldOf (now (name .entry)) (now (value .entry)))) (now (store .entry)) .answer ⌝ }
+// Counts the ids ever inserted under a field, and the rows looked at for it. [01:OP9] [02:W3.8]
+pub fn count(store: &[u8], key: &[u8], name: &[u8], value: &[u8]) -> Tallied
+    ensures { λ r. ⌜ tallied r ≡ perform program (Call.count (now (key .entry)) (fieldOf (now (name .entry)) (now (value .entry)))) (now (store .entry)) .answer ⌝ }
 {
     let mut token = [0u8; COUNT_TOKEN];
     match client::count_token(key, name, value, &mut token) {
-        Completion::Refused(r) => Counted::Refused(r),
+        Completion::Refused(r) => Tallied::Refused(r),
         Completion::Done => count::count(store, &token),
     }
 }

@@ -9,7 +9,7 @@ use mathlib.Core.Option.{Option, none, some}
 use mathlib.Core.List.{List, [], _∷_, _++_, map}
 use lib.Dec.{T, ltb, eqb, lit<, eqb→eq}
 use lib.ListN.{length, drop, length-append, length-map}
-use Rattle.answer.specs.Answer.{Answer, done, refused}
+use Rattle.answer.specs.Answer.{Answer, done, refused, withoutRows}
 use Rattle.answer.specs.Verdict.{Test, _⇒_, _⇒_carrying_, verdict, answerOr}
 use Rattle.table.specs.Lists.{anyOf, sum, upTo}
 use Rattle.table.specs.Table.{Table, used, lookup}
@@ -29,9 +29,10 @@ use Rattle.scheme.specs.Refusals.{tokenTests, eraseInputTests, insertInputTests
 use Rattle.scheme.specs.Insert.{insertReading, newCount, insertStateTests, insertVerdict, insert}
 use Rattle.scheme.specs.Erase.{isReverse, eraseVerdict, erase}
 use Rattle.scheme.specs.Find.{idOf, idsTo, shareReading, idsOfShare, idsHeld, idsFound, findVerdict, find}
-use Rattle.scheme.specs.Count.{countVerdict, sumOfCounts, count}
+use Rattle.scheme.specs.Count.{countVerdict, sumOfCounts, fullCount, count}
 use Rattle.scheme.specs.Compaction.{Treated, byReading, treatAll, logOf, logged, compactVerdict, treated, compact}
 use Rattle.scheme.specs.Order.{usedInAll, orderVerdict, order}
+use Rattle.scheme.proofs.RowsRead.{full-count}
 use Rattle.suite.specs.Program.{program}
 use Rattle.store.proofs.Laws.{good-header}
 use Rattle.counter.proofs.Readings.{reading-bounds}
@@ -106,9 +107,9 @@ erase-fits before id =
     bounded (eraseInputTests id ++ stateTests before) _
     (tt, λ _. (tt, λ h. (tt, λ _. (tt, λ _. record { small = omega (arith, good-header before h .range .m-most, used-most before tableV, count-le (isReverse before id) (used (cut before .table tableV))); gives = one }))))
 
-pub count-answer-fits : (before token : List ℕ) → Fits 1 (count program before token .answer)
-unfolding count countVerdict tokenTests stateTests sumOfCounts
-count-answer-fits before token =
+full-fits : (before token : List ℕ) → Fits 1 (fullCount program before token)
+unfolding fullCount countVerdict tokenTests stateTests sumOfCounts
+full-fits before token =
     bounded (tokenTests countTokenLength token ++ (stateTests before ++ ((anyOf (λ u. damaged (shareReading program before token u)) (upTo (sizesOf before .p)) ⇒ 13) ∷ []))) _ (
       tt,
       λ _. (
@@ -128,6 +129,9 @@ count-answer-fits before token =
         ),
       ),
     )
+
+pub count-answer-fits : (before token : List ℕ) → Fits 1 (withoutRows (count program before token .answer))
+count-answer-fits before token = subst (Fits 1) (sym (full-count program before token)) (full-fits before token)
 
 ids-few : (mt me : List ℕ) (t : Table) (n : ℕ) → length (idsTo program mt me t n) ≤ n
 ids-few mt me t zero = omega arith

@@ -3,7 +3,7 @@
 ghost use mathlib.Core.Path.{_≡_};
 ghost use Prim.Native.Nat.{_^_, _<_};
 ghost use lib.IntN.{pos, negℤ};
-ghost use Rattle.answer.specs.Answer.{carriedBy, refusal, completion as completionOf, counted as countedOf};
+ghost use Rattle.answer.specs.Answer.{carriedBy, refusal, completion as completionOf, counted as countedOf, tallied as talliedOf, withoutRows};
 ghost use Rattle.sha256.specs.Hash.{hashAnswer, hashDigest};
 ghost use Rattle.hmac.specs.Hmac.{macAnswer, macTag};
 ghost use Rattle.chacha20.specs.Call.{cipherAnswer, cipherText};
@@ -19,10 +19,11 @@ ghost use Rattle.scheme.specs.Order.{order as orderOf};
 ghost use Rattle.suite.specs.Program.{program};
 ghost use Rattle.client.specs.Making.{makingAnswer, makingToken, fieldOf};
 ghost use Rattle.compact.specs.Outcome.{compactionAnswer};
-ghost use Rattle.encoding.specs.Encoding.{packed, magnitude, encoded, answering};
+ghost use Rattle.encoding.specs.Encoding.{packed, magnitude, encoded, answering, rowsLent};
 use answer::Completion;
 use answer::Counted;
 use answer::Refusal;
+use answer::Tallied;
 use compact::Compaction;
 
 // An answer's number. [01:FM14]
@@ -90,6 +91,17 @@ fn counted(r: Counted) -> i64
     match r {
         Counted::Number(n) => positive(n),
         Counted::Refused(z) => refused(z),
+    }
+}
+
+// The number alone of an answer with the rows looked at. [02:W3.8]
+fn number_alone(r: Tallied) -> i64
+    requires { ⌜ magnitude (withoutRows (talliedOf r)) < 2 ^ 63 ⌝ }
+    ensures { λ k. ⌜ k ≡ encoded (withoutRows (talliedOf r)) ⌝ }
+{
+    match r {
+        Tallied::Number { n, rows: _ } => positive(n),
+        Tallied::Refused(z) => refused(z),
     }
 }
 
@@ -228,9 +240,25 @@ pub extern "C" fn mazhkuri_find(store: &[u8], token: &[u8], output: &mut [u8]) -
 // Counts the ids ever inserted under a field. [01:OP9]
 #[no_mangle]
 pub extern "C" fn mazhkuri_count(store: &[u8], token: &[u8]) -> i64
-    ensures { λ r. ⌜ r ≡ encoded (countOf program (now (store .entry)) (now (token .entry)) .answer) ⌝ }
+    ensures { λ r. ⌜ r ≡ encoded (withoutRows (countOf program (now (store .entry)) (now (token .entry)) .answer)) ⌝ }
 {
-    counted(count::count(store, token))
+    number_alone(count::count(store, token))
+}
+
+// Counts the ids ever inserted under a field, and writes the rows looked at, unless it is refused.
+// [01:OP9] [02:W3.8]
+#[no_mangle]
+pub extern "C" fn mazhkuri_count_tallied(store: &[u8], token: &[u8], rows: &mut [u64; 1]) -> i64
+    ensures { λ r. ⌜ r ≡ encoded (withoutRows (countOf program (now (store .entry)) (now (token .entry)) .answer)) ⌝ }
+    ensures { λ _. ⌜ now (rows .exit) ≡ rowsLent (countOf program (now (store .entry)) (now (token .entry)) .answer) (now (rows .entry)) ⌝ }
+{
+    match count::count(store, token) {
+        Tallied::Number { n, rows: looked } => {
+            rows[0] = looked;
+            positive(n)
+        }
+        Tallied::Refused(z) => refused(z),
+    }
 }
 
 // Compacts the counters of every field inserted under since the last compaction. [01:OP10 OP13]

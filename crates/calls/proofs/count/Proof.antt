@@ -53,7 +53,7 @@ unfolding countCall
 returns-2 c =
     let e = c .before .before in
     let a = e .before .before .before .before .before .before .before .before .args in
-    c .count .ensures ∙ ap (λ r. r .answer) (ap (Count.count program (a .store .now)) (token e) ∙ sym (call-made _ (Count.count program (a .store .now) (countToken program (a .key .now) (fieldOf (a .name .now) (a .value .now)))) (a .store .now) [] (passed e)))
+    c .count .ensures .0 ∙ ap (λ r. r .answer) (ap (Count.count program (a .store .now)) (token e) ∙ sym (call-made _ (Count.count program (a .store .now) (countToken program (a .key .now) (fieldOf (a .name .now) (a .value .now)))) (a .store .now) [] (passed e)))
 
 pub count-spec : {M : Type 1} → statement M
 count-spec =
