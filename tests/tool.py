@@ -5,7 +5,7 @@
   tool.py --kills N       with as many interrupted runs (default 1000; 300 where they take more than a minute)
   tool.py --only NAME     one test, by the name that its last line has
 
-Tests: the worked list of document 01 ('A day in the ledger'), ids with several entries, rows in byte order, bad words, office and server apart, files that are no store,
+Tests: the worked list of document 01 ('A day in the ledger'), ids with several entries, the rows a count looks at, rows in byte order, bad words, office and server apart, files that are no store,
 refusals from the state, the largest store on a small stack, a disk that is full, a folder that cannot
 be written, no randomness, links, owner and mode, what a lock says, several tools at once, each call of the
 system failing or never reached, every state that a power cut may leave, and runs interrupted by kill -9. What
@@ -217,6 +217,80 @@ def each_once(b):
     counts(141)
     expect(b.answer("erase", "store", ident(9)) == "128\n" and b.answer("erase", "store", ident(9)) == "0\n", "an erase of 128 entries")
     holds(9, B, A, C, D)
+
+
+def with_rows(b):
+    """`--rows` as the last word of a count, with the key and by token [02:W3.8]: the count alone on its line, then the rows looked at,
+    as many as the model looks at in the bytes that the tool left."""
+    model, key = scheme.Scheme(Real), b.key.read_bytes()
+    token = b.answer("token", "count", "key", "hue", "red")[:-1]
+    (b.folder / "token").write_text(token + "\n")
+    ways = (["key", "hue", "red"], ["--token", token], ["--token", "@token"])
+
+    def modelled(value="red"):
+        count, rows = model.count(b.store.read_bytes(), model.count_token(key, b"hue", value.encode())).values
+        return count, f"{count}\nrows looked at: {rows}\n"
+
+    def counts(n):
+        count, lines = modelled()
+        expect(count == n, f"the model counts {count}, expected {n}")
+        for words in ways:
+            expect(b.answer("count", "store", *words) == f"{n}\n", f"{words[0]}: a count of {n}, its rows not asked for")
+            out = b.answer("count", "store", *words, "--rows")
+            expect(out == lines, f"{words[0]}: a count of {n} with its rows prints {out!r}, expected {lines!r}")
+
+    # no row, rows of others alone, counters, anchors, both, every row of C used
+    counts(0)
+    expect(modelled()[1] == "0\nrows looked at: 0\n", "no row is looked at in an empty store")
+    for n in range(3):
+        b.answer("insert", "store", "key", "size", n, n % 2, ident(n))
+    counts(0)
+    for n in range(5):
+        b.answer("insert", "store", "key", "hue", "red", n % 2, ident(10 + n))
+        counts(n + 1)
+    for n in range(3):
+        b.answer("compact", "store", "key")
+        counts(5 + 2 * n)
+        b.answer("insert", "store", "key", "hue", "red", n % 2, ident(20 + n), ident(30 + n))
+        counts(7 + 2 * n)
+    while b.run("insert", "store", "key", "hue", "green", 0, ident(40))[0] != "refused 16\n":
+        pass
+    counts(11)
+
+    # --rows as a value, and as a token
+    b.answer("compact", "store", "key")
+    b.answer("insert", "store", "key", "hue", "--rows", 0, ident(50))
+    expect(b.answer("count", "store", "key", "hue", "--rows") == "1\n", "a count of the value --rows")
+    expect(b.answer("count", "store", "key", "hue", "--rows", "--rows") == modelled("--rows")[1], "a count of the value --rows with its rows")
+    b.refused(["count", "store", "--token", "--rows"], "refused 6", "6: ")
+
+    # another last word, one word more, another command
+    for words in ways:
+        for last in (["--row"], ["--rowss"], ["--ROWS"], [" --rows"], ["rows"], [""], [ident(1)], ["--rows", "--rows"], ["--rows", ""], ["", "--rows"]):
+            b.refused(["count", "store", *words, *last], "misused", "expected: mazhkuri count STORE KEYFILE FIELD VALUE [--rows], or count STORE --token TOKEN [--rows]: ")
+    for words in (["find", "store", "key", "hue", "red"], ["find", "store", "--token", token], ["token", "count", "key", "hue", "red"], ["compact", "store", "key"]):
+        b.refused([*words, "--rows"], "misused", f"expected: mazhkuri {words[0]} ")
+
+    # a refusal is told as without it
+    def same(words, first, part):
+        b.refused([*words, "--rows"], first, part)
+        expect(b.run(*words) == b.run(*words, "--rows"), f"{words}: a refusal is told in another way with --rows")
+
+    (b.folder / "short").write_bytes(b"x" * 31)
+    same(["count", "store", "short", "hue", "red"], "refused 1", "1: the key file")
+    same(["count", "store", "key", "", "red"], "refused 2", "2: FIELD")
+    same(["count", "store", "--token", token[2:]], "refused 6", "6: this is no token")
+    same(["count", "store", "none", "hue", "red"], "failed", "cannot open none")
+    damaged = bytearray(b.store.read_bytes())
+    rows = scheme.tables(damaged)["C"]
+    last = model.F(model.counter_key(key, b"hue", b"--rows"), scheme.number(0))
+    damaged[rows.start + rows.width * scheme.lookup(damaged, rows, model.counter_tag(last, 1)) + 45] ^= 1
+    b.store.write_bytes(damaged)
+    same(["count", "store", "key", "hue", "--rows"], "refused 13", "13: a counter in the file")
+    for content, first in ((b"", "refused 10"), (out_of_form(bytes(damaged), "C"), "refused 20")):
+        b.store.write_bytes(content)
+        for words in ways:
+            same(["count", "store", *words], first, f"{first[8:]}: ")
 
 
 def out_of_form(store, name="M"):
@@ -1114,7 +1188,7 @@ def main():
     global shim
     if not BUILT.exists():
         sys.exit("tests/tool.py: there is no target/bin/mazhkuri: run `rt check mazhkuri` first")
-    tests = [("the worked list", worked_list, [1, 4, 4, 4]), ("ids with several entries", each_once, [1, 150, 20, 20]), ("rows in byte order", in_order, [1, 8, 8, 8]), ("bad words", bad_words, [1, 4, 4, 4]), ("office and server", halves, [1, 8, 8, 8]), ("files that are no store", no_stores, [1, 4, 4, 4]),
+    tests = [("the worked list", worked_list, [1, 4, 4, 4]), ("ids with several entries", each_once, [1, 150, 20, 20]), ("counts with rows", with_rows, [1, 64, 24, 64]), ("rows in byte order", in_order, [1, 8, 8, 8]), ("bad words", bad_words, [1, 4, 4, 4]), ("office and server", halves, [1, 8, 8, 8]), ("files that are no store", no_stores, [1, 4, 4, 4]),
              ("refusals from the state", states, [0, 8, 4, 2]), ("the largest store", small_stack, [15, 4096, 4096, 4096]),
              ("writes that fail", lambda b: (b.answer("insert", "store", "key", "hue", "red", 0, ident(1)), no_room(b)), [1, 8, 8, 8]),
              ("links", links, [1, 4, 4, 4]), ("modes", modes, [1, 64, 64, 64]), ("lock", lock, [1, 4, 4, 4]), ("tools at once", at_once, [1, 200, 200, 200]),

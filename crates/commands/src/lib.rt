@@ -16,6 +16,7 @@ use outcome::Outcome;
 use outcome::of_compaction;
 use outcome::of_completion;
 use outcome::of_counted;
+use outcome::of_tallied;
 use store::Checked;
 
 // Makes a store over the whole of a slice.
@@ -108,7 +109,7 @@ pub fn count(store: &[u8], key: &[u8], name: &[u8], value: &[u8]) -> Outcome
     ensures { λ o. ⌜ Roomed (now (store .entry)) o ⌝ }
 {
     let room = advice::room_in(store);
-    of_counted(calls::count(store, key, name, value), room)
+    of_tallied(calls::count(store, key, name, value), room)
 }
 
 pub fn compact(store: &mut [u8], key: &[u8], nonces: &[u8]) -> Outcome

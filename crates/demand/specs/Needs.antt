@@ -6,7 +6,7 @@ use Rattle.advice.specs.Advise.{lengthOf, roomOf}
 use Rattle.request.specs.declared.Request.{Request}
 use Rattle.request.specs.declared.Request.the-variants.{Help, Misused, NotNumber, NotId, New, Key, Insert, Find, Count, Erase, Compact, Order, Show, InsertToken, FindToken, CountToken, CompactionToken, InsertBy, FindBy, CountBy, CompactBy}
 use Rattle.outcome.specs.declared.Outcome.{Outcome}
-use Rattle.outcome.specs.declared.Outcome.the-variants.{Number, Compacted, Damaged, WrongKey, Refused, Done, BadWords}
+use Rattle.outcome.specs.declared.Outcome.the-variants.{Number, Counted, Compacted, Damaged, WrongKey, Refused, Done, BadWords}
 use Rattle.demand.specs.declared.Needs.{Needs}
 use Rattle.demand.specs.declared.Needs.the-variants.{Words, KeyFile, KeyAlone, Store, Lock, NewStore}
 
@@ -19,7 +19,7 @@ needsOf (New p m c s) = NewStore (lengthOf m c s)
 needsOf Key = KeyFile
 needsOf (Insert u n) = Lock
 needsOf Find = Store
-needsOf Count = Store
+needsOf (Count rows) = Store
 needsOf Erase = Lock
 needsOf Compact = Lock
 needsOf Order = Lock
@@ -30,7 +30,7 @@ needsOf CountToken = KeyAlone
 needsOf CompactionToken = KeyAlone
 needsOf (InsertBy n) = Lock
 needsOf FindBy = Store
-needsOf CountBy = Store
+needsOf (CountBy rows) = Store
 needsOf CompactBy = Lock
 
 abbrev pub takesKey : Request → Bool
@@ -42,7 +42,7 @@ takesKey (New p m c s) = false
 takesKey Key = false
 takesKey (Insert u n) = true
 takesKey Find = true
-takesKey Count = true
+takesKey (Count rows) = true
 takesKey Erase = false
 takesKey Compact = true
 takesKey Order = false
@@ -53,7 +53,7 @@ takesKey CountToken = true
 takesKey CompactionToken = true
 takesKey (InsertBy n) = false
 takesKey FindBy = false
-takesKey CountBy = false
+takesKey (CountBy rows) = false
 takesKey CompactBy = false
 
 -- whether a token stands in the line, or in the file that its word 3 names
@@ -66,7 +66,7 @@ takesToken (New p m c s) = false
 takesToken Key = false
 takesToken (Insert u n) = false
 takesToken Find = false
-takesToken Count = false
+takesToken (Count rows) = false
 takesToken Erase = false
 takesToken Compact = false
 takesToken Order = false
@@ -77,7 +77,7 @@ takesToken CountToken = false
 takesToken CompactionToken = false
 takesToken (InsertBy n) = true
 takesToken FindBy = true
-takesToken CountBy = true
+takesToken (CountBy rows) = true
 takesToken CompactBy = true
 
 -- random bytes: a nonce for an insert's token, where it is made, one for each id and one for the counter; for a compaction, one for
@@ -91,7 +91,7 @@ randomOf (New p m c s) x = 0
 randomOf Key x = 0
 randomOf (Insert u n) x = 12 * (n + 2)
 randomOf Find x = 0
-randomOf Count x = 0
+randomOf (Count rows) x = 0
 randomOf Erase x = 0
 randomOf Compact x = 12 * roomOf x .logged
 randomOf Order x = 0
@@ -102,12 +102,13 @@ randomOf CountToken x = 0
 randomOf CompactionToken x = 0
 randomOf (InsertBy n) x = 12 * (n + 1)
 randomOf FindBy x = 0
-randomOf CountBy x = 0
+randomOf (CountBy rows) x = 0
 randomOf CompactBy x = 12 * roomOf x .logged
 
 -- a refusal changes nothing, and a compaction with another key is not kept
 abbrev pub made : Outcome → Bool
 made (Number n) = true
+made (Counted n rows) = true
 made (Compacted t) = true
 made (Damaged t) = true
 made (WrongKey t) = false
@@ -125,7 +126,7 @@ changes (New p m c s) o = made o
 changes Key o = false
 changes (Insert u n) o = made o
 changes Find o = false
-changes Count o = false
+changes (Count rows) o = false
 changes Erase o = made o
 changes Compact o = made o
 changes Order o = made o
@@ -136,5 +137,5 @@ changes CountToken o = false
 changes CompactionToken o = false
 changes (InsertBy n) o = made o
 changes FindBy o = false
-changes CountBy o = false
+changes (CountBy rows) o = false
 changes CompactBy o = made o

@@ -34,7 +34,7 @@ pub fn needed(q: Request) -> Needs
         Request::Key => Needs::KeyFile,
         Request::Insert { u: _, n: _ } => Needs::Lock,
         Request::Find => Needs::Store,
-        Request::Count => Needs::Store,
+        Request::Count { rows: _ } => Needs::Store,
         Request::Erase => Needs::Lock,
         Request::Compact => Needs::Lock,
         Request::Order => Needs::Lock,
@@ -45,7 +45,7 @@ pub fn needed(q: Request) -> Needs
         Request::CompactionToken => Needs::KeyAlone,
         Request::InsertBy { n: _ } => Needs::Lock,
         Request::FindBy => Needs::Store,
-        Request::CountBy => Needs::Store,
+        Request::CountBy { rows: _ } => Needs::Store,
         Request::CompactBy => Needs::Lock,
     }
 }
@@ -68,7 +68,7 @@ pub fn takes_key(q: Request) -> bool
         Request::Key => false,
         Request::Insert { u: _, n: _ } => true,
         Request::Find => true,
-        Request::Count => true,
+        Request::Count { rows: _ } => true,
         Request::Erase => false,
         Request::Compact => true,
         Request::Order => false,
@@ -79,7 +79,7 @@ pub fn takes_key(q: Request) -> bool
         Request::CompactionToken => true,
         Request::InsertBy { n: _ } => false,
         Request::FindBy => false,
-        Request::CountBy => false,
+        Request::CountBy { rows: _ } => false,
         Request::CompactBy => false,
     }
 }
@@ -102,7 +102,7 @@ pub fn takes_token(q: Request) -> bool
         Request::Key => false,
         Request::Insert { u: _, n: _ } => false,
         Request::Find => false,
-        Request::Count => false,
+        Request::Count { rows: _ } => false,
         Request::Erase => false,
         Request::Compact => false,
         Request::Order => false,
@@ -113,7 +113,7 @@ pub fn takes_token(q: Request) -> bool
         Request::CompactionToken => false,
         Request::InsertBy { n: _ } => true,
         Request::FindBy => true,
-        Request::CountBy => true,
+        Request::CountBy { rows: _ } => true,
         Request::CompactBy => true,
     }
 }
@@ -137,7 +137,7 @@ pub fn random_for(q: Request, store: &[u8]) -> usize
         Request::Key => 0,
         Request::Insert { u: _, n } => 12 * (n + 2),
         Request::Find => 0,
-        Request::Count => 0,
+        Request::Count { rows: _ } => 0,
         Request::Erase => 0,
         Request::Compact => 12 * advice::room_in(store).logged,
         Request::Order => 0,
@@ -148,7 +148,7 @@ pub fn random_for(q: Request, store: &[u8]) -> usize
         Request::CompactionToken => 0,
         Request::InsertBy { n } => 12 * (n + 1),
         Request::FindBy => 0,
-        Request::CountBy => 0,
+        Request::CountBy { rows: _ } => 0,
         Request::CompactBy => 12 * advice::room_in(store).logged,
     }
 }
@@ -158,6 +158,7 @@ fn made(o: Outcome) -> bool
 {
     match o {
         Outcome::Number(_) => true,
+        Outcome::Counted { n: _, rows: _ } => true,
         Outcome::Compacted(_) => true,
         Outcome::Damaged(_) => true,
         Outcome::WrongKey(_) => false,
@@ -185,7 +186,7 @@ pub fn changes(q: Request, o: Outcome) -> bool
         Request::Key => false,
         Request::Insert { u: _, n: _ } => made(o),
         Request::Find => false,
-        Request::Count => false,
+        Request::Count { rows: _ } => false,
         Request::Erase => made(o),
         Request::Compact => made(o),
         Request::Order => made(o),
@@ -196,7 +197,7 @@ pub fn changes(q: Request, o: Outcome) -> bool
         Request::CompactionToken => false,
         Request::InsertBy { n: _ } => made(o),
         Request::FindBy => false,
-        Request::CountBy => false,
+        Request::CountBy { rows: _ } => false,
         Request::CompactBy => made(o),
     }
 }

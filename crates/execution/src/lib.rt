@@ -4,6 +4,7 @@ use outcome::Outcome;
 use report::Ran;
 use report::answered;
 use report::blank;
+use report::told_count;
 use report::told_ids;
 use request::Request;
 use store::Checked;
@@ -79,12 +80,19 @@ pub fn find(line: &[u8], store: &[u8], key: &[u8], out: &mut [u8], err: &mut [u8
     told_ids(o, &ids, out, err)
 }
 
-pub fn count(line: &[u8], store: &[u8], key: &[u8], out: &mut [u8], err: &mut [u8]) -> Ran
+pub fn count(
+    line: &[u8],
+    rows: bool,
+    store: &[u8],
+    key: &[u8],
+    out: &mut [u8],
+    err: &mut [u8],
+) -> Ran
     requires { ⌜ (256 ≤ length (now out)) × (256 ≤ length (now err)) ⌝ }
-    ensures { λ r. ⌜ Ends Request.Count (now (line .entry)) (now (store .entry)) (now (key .entry)) [] (now (out .entry)) (now (err .entry)) r (now (store .entry)) (now (out .exit)) (now (err .exit)) ⌝ }
+    ensures { λ r. ⌜ Ends (Request.Count rows) (now (line .entry)) (now (store .entry)) (now (key .entry)) [] (now (out .entry)) (now (err .entry)) r (now (store .entry)) (now (out .exit)) (now (err .exit)) ⌝ }
 {
     let o = commands::count(store, key, line::word(line, 3), line::word(line, 4));
-    answered(o, 0, out, err)
+    told_count(o, rows, out, err)
 }
 
 pub fn erase(line: &[u8], store: &mut [u8], out: &mut [u8], err: &mut [u8]) -> Ran

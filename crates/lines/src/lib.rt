@@ -8,7 +8,7 @@ ghost use mathlib.Core.Path.{_≡_};
 ghost use Prim.Native.Nat.{_+_, _*_, _≤_};
 ghost use lib.ListN.{length};
 ghost use Rattle.buffer.specs.Put.{Put};
-ghost use Rattle.lines.specs.Answer.{refusedLine, answerLine};
+ghost use Rattle.lines.specs.Answer.{refusedLine, answerLine, countLines};
 ghost use Rattle.text.specs.Hex.{hexOf};
 ghost use Rattle.lines.specs.Ids.{hexLine, idLines};
 
@@ -28,6 +28,7 @@ pub fn answer(o: Outcome, to: &mut [u8]) -> usize
 {
     match o {
         Outcome::Number(n) => put_counted(to, 0, n, b"\n"),
+        Outcome::Counted { n, rows: _ } => put_counted(to, 0, n, b"\n"),
         Outcome::Compacted(t) => put_tally(to, 0, t),
         Outcome::Damaged(_) => put_refused(to, 13),
         Outcome::WrongKey(_) => put(to, 0, b"refused\n"),
@@ -35,6 +36,16 @@ pub fn answer(o: Outcome, to: &mut [u8]) -> usize
         Outcome::Done => 0,
         Outcome::BadWords => put(to, 0, b"misused\n"),
     }
+}
+
+// What standard output gets of a count with the rows that were looked at.
+pub fn count(n: u64, rows: u64, to: &mut [u8]) -> usize
+    requires { ⌜ 58 ≤ length (now to) ⌝ }
+    ensures { λ r. ⌜ Put (now (to .entry)) 0 (countLines n rows) (now (to .exit)) r ⌝ }
+{
+    let a = put_counted(to, 0, n, b"\n");
+    let e = put(to, a, b"rows looked at: ");
+    put_counted(to, e, rows, b"\n")
 }
 
 // The line of so many digits, which go to a lent slice first.

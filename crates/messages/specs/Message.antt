@@ -9,7 +9,7 @@ use Rattle.advice.specs.Advise.{adviceOf}
 use Rattle.advice.specs.declared.Advice.{Advice}
 use Rattle.advice.specs.declared.Advice.the-variants.{Key, Field, Share, Shares, Ids, Token, Sizes, NoStore, Marks, Order, TokenShares, Damage, Count, Entries, Compact, Larger, Log, Output, Fault}
 use Rattle.outcome.specs.declared.Outcome.{Outcome}
-use Rattle.outcome.specs.declared.Outcome.the-variants.{Number, Compacted, Damaged, WrongKey, Refused, Done, BadWords}
+use Rattle.outcome.specs.declared.Outcome.the-variants.{Number, Counted, Compacted, Damaged, WrongKey, Refused, Done, BadWords}
 use Rattle.buffer.specs.Decimal.{counted}
 use Rattle.tally.specs.Line.{tallyLine}
 
@@ -51,6 +51,7 @@ sentenceOf Fault given = ascii "the tool made a wrong call: please report this\n
 -- the ids given stand in what 15 says; a compaction that met damage says what it had done
 unfoldable pub messageLine : Outcome → ℕ → List ℕ
 messageLine (Number n) given = []
+messageLine (Counted n rows) given = []
 messageLine (Compacted t) given = []
 messageLine (Damaged t) given =
     ascii "13: a counter in the file does not hold what was written: it was damaged; anchors written and counters freed before it: "

@@ -10,11 +10,12 @@ use Rattle.compact.specs.declared.Tally.{Tally}
 use Rattle.advice.specs.declared.Room.{Room}
 use Rattle.store.specs.Check.{checkedOf}
 use Rattle.outcome.specs.declared.Outcome.{Outcome}
-use Rattle.outcome.specs.declared.Outcome.the-variants.{Number, Compacted, Damaged, WrongKey, Refused, Done, BadWords}
+use Rattle.outcome.specs.declared.Outcome.the-variants.{Number, Counted, Compacted, Damaged, WrongKey, Refused, Done, BadWords}
 
 -- the answer that an outcome tells; words that ask for nothing have no answer of a call, and 0 is no rule's number
 abbrev pub told : Outcome → Answer
 told (Number n) = done (n ∷ [])
+told (Counted n rows) = done (n ∷ rows ∷ [])
 told (Compacted t) = done (t .anchors ∷ t .counters ∷ [])
 told (WrongKey t) = done (t .anchors ∷ t .counters ∷ [])
 told (Damaged t) = refused 13 (t .anchors ∷ t .counters ∷ [])
@@ -37,6 +38,7 @@ compacted logged t = pickOutcome (isWrongKey logged (t .anchors)) (WrongKey t) (
 -- an outcome as a store with this room tells it: its refusal has the room, and its compaction goes by the rows of S that were used
 abbrev pub withRoom : Room → Outcome → Outcome
 withRoom x (Number n) = Number n
+withRoom x (Counted n rows) = Counted n rows
 withRoom x (Compacted t) = compacted (x .logged) t
 withRoom x (WrongKey t) = compacted (x .logged) t
 withRoom x (Damaged t) = Damaged t

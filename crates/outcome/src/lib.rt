@@ -1,19 +1,22 @@
 // What became of a command of the tool, made of the library's answers: a refusal goes with the room that the store had,
 // and a compaction may have been made with another key than the store's.
 ghost use mathlib.Core.Path.{_≡_};
-ghost use Rattle.answer.specs.Answer.{counted, completion};
+ghost use Rattle.answer.specs.Answer.{counted, tallied, completion};
 ghost use Rattle.compact.specs.Outcome.{compactionAnswer};
 ghost use Rattle.outcome.specs.Told.{told, isWrongKey, compacted, withRoom};
 use advice::Room;
 use answer::Completion;
 use answer::Counted;
 use answer::Refusal;
+use answer::Tallied;
 use compact::Compaction;
 use compact::Tally;
 
 // What became of a command.
 pub enum Outcome {
     Number(u64),
+    // A count, and the rows that were looked at for it. [02:W3.8]
+    Counted { n: u64, rows: u64 },
     Compacted(Tally),
     // 13 in a compaction, with what had been done.
     Damaged(Tally),
@@ -33,6 +36,16 @@ pub fn of_counted(r: Counted, room: Room) -> Outcome
     match r {
         Counted::Number(n) => Outcome::Number(n),
         Counted::Refused(why) => Outcome::Refused(why, room),
+    }
+}
+
+pub fn of_tallied(r: Tallied, room: Room) -> Outcome
+    ensures { λ o. ⌜ told o ≡ tallied r ⌝ }
+    ensures { λ o. ⌜ o ≡ withRoom room o ⌝ }
+{
+    match r {
+        Tallied::Number { n, rows } => Outcome::Counted { n, rows },
+        Tallied::Refused(why) => Outcome::Refused(why, room),
     }
 }
 

@@ -1,6 +1,7 @@
 -- What a run of each request gives, put together from what its pieces give.
 use Prim.Native.Nat.{ℕ}
 use mathlib.Core.Path.{_≡_, refl, sym, subst}
+use mathlib.Core.Bool.{Bool, true, false}
 use mathlib.Core.List.{List, [], _∷_, _++_}
 use lib.ListN.{length, replicate, length-replicate}
 use denote.Enum.Declared.{tagOf}
@@ -12,13 +13,13 @@ use Rattle.request.specs.declared.Request.{Request}
 use Rattle.request.specs.declared.Request.the-variants.{Help, Misused, NotNumber, NotId, Find, Count, Erase, Order, Show, InsertToken, FindToken, CountToken, CompactionToken, FindBy, CountBy}
 use Rattle.outcome.proofs.Outcome.{the-type as outcome}
 use Rattle.outcome.specs.declared.Outcome.{Outcome}
-use Rattle.outcome.specs.declared.Outcome.the-variants.{Number, Compacted, Damaged, WrongKey, Refused, Done, BadWords}
+use Rattle.outcome.specs.declared.Outcome.the-variants.{Number, Counted, Compacted, Damaged, WrongKey, Refused, Done, BadWords}
 use Rattle.buffer.specs.Put.{Put}
 use Rattle.buffer.proofs.Laws.{nothing}
 use Rattle.lines.specs.Answer.{answerLine}
 use Rattle.usage.specs.Usage.{usageLine, helpText}
 use Rattle.report.specs.declared.Ran.{Ran}
-use Rattle.report.specs.Run.{lent, Performed, foundText, badWord, outText, errText, Ends}
+use Rattle.report.specs.Run.{lent, Performed, foundText, countText, badWord, outText, errText, Ends}
 
 -- the same outcome, where the result holds it
 pub ended : (q : Request) (line before key random after : List ℕ) {out err outAfter errAfter : List ℕ} (o : Outcome) (r : Ran) → r .outcome ≡ o
@@ -45,7 +46,8 @@ module _ {line before key out err after outAfter errAfter : List ℕ} {r : Ran} 
   pub found-any : Ends Find line before key [] out err r after outAfter errAfter → Ends Find line before key random out err r after outAfter errAfter
   found-any x = record { performed = x .performed; output = x .output; errors = x .errors }
 
-  pub counted-any : Ends Count line before key [] out err r after outAfter errAfter → Ends Count line before key random out err r after outAfter errAfter
+  pub counted-any : {rows : Bool} → Ends (Count rows) line before key [] out err r after outAfter errAfter
+      → Ends (Count rows) line before key random out err r after outAfter errAfter
   counted-any x = record { performed = x .performed; output = x .output; errors = x .errors }
 
   pub erased-any : Ends Erase line before [] [] out err r after outAfter errAfter → Ends Erase line before key random out err r after outAfter errAfter
@@ -57,7 +59,8 @@ module _ {line before key out err after outAfter errAfter : List ℕ} {r : Ran} 
   pub found-by-any : Ends FindBy line before key [] out err r after outAfter errAfter → Ends FindBy line before key random out err r after outAfter errAfter
   found-by-any x = record { performed = x .performed; output = x .output; errors = x .errors }
 
-  pub counted-by-any : Ends CountBy line before key [] out err r after outAfter errAfter → Ends CountBy line before key random out err r after outAfter errAfter
+  pub counted-by-any : {rows : Bool} → Ends (CountBy rows) line before key [] out err r after outAfter errAfter
+      → Ends (CountBy rows) line before key random out err r after outAfter errAfter
   counted-by-any x = record { performed = x .performed; output = x .output; errors = x .errors }
 
   pub shown-any : Ends Show [] before [] [] out err r after outAfter errAfter → Ends Show line before key random out err r after outAfter errAfter
@@ -110,11 +113,24 @@ lent-length = of 65536
     of n = length-replicate n 0
 
 -- every outcome of a find but a number is told by its line
-pub unnumbered : (o : Outcome) (ids : List ℕ) → OneOf (1 ∷ 2 ∷ 3 ∷ 4 ∷ 5 ∷ 6 ∷ []) (tagOf outcome o) → answerLine o ≡ foundText o ids
-unnumbered (Number n) ids h = absurd (miss (1 ∷ 2 ∷ 3 ∷ 4 ∷ 5 ∷ 6 ∷ []) 0 tt h)
+pub unnumbered : (o : Outcome) (ids : List ℕ) → OneOf (1 ∷ 2 ∷ 3 ∷ 4 ∷ 5 ∷ 6 ∷ 7 ∷ []) (tagOf outcome o) → answerLine o ≡ foundText o ids
+unnumbered (Number n) ids h = absurd (miss (1 ∷ 2 ∷ 3 ∷ 4 ∷ 5 ∷ 6 ∷ 7 ∷ []) 0 tt h)
+unnumbered (Counted n rows) ids h = refl
 unnumbered (Compacted t) ids h = refl
 unnumbered (Damaged t) ids h = refl
 unnumbered (WrongKey t) ids h = refl
 unnumbered (Refused r room) ids h = refl
 unnumbered Done ids h = refl
 unnumbered BadWords ids h = refl
+
+-- every outcome of a count but one with rows is told by its line, whatever is asked for
+pub unrowed : (rows : Bool) (o : Outcome) → OneOf (0 ∷ 2 ∷ 3 ∷ 4 ∷ 5 ∷ 6 ∷ 7 ∷ []) (tagOf outcome o) → answerLine o ≡ countText rows o
+unrowed false o h = refl
+unrowed true (Number n) h = refl
+unrowed true (Counted n rows) h = absurd (miss (0 ∷ 2 ∷ 3 ∷ 4 ∷ 5 ∷ 6 ∷ 7 ∷ []) 1 tt h)
+unrowed true (Compacted t) h = refl
+unrowed true (Damaged t) h = refl
+unrowed true (WrongKey t) h = refl
+unrowed true (Refused r room) h = refl
+unrowed true Done h = refl
+unrowed true BadWords h = refl

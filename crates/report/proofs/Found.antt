@@ -1,6 +1,6 @@
 -- A find that is answered found no more ids than its output has room for.
 use Prim.Native.Nat.{ℕ, _*_, _≤_}
-use mathlib.Core.Path.{_≡_, refl, sym, ap, _∙_}
+use mathlib.Core.Path.{_≡_, refl, ap, _∙_}
 use mathlib.Core.Bool.{Bool, true, false}
 use mathlib.Core.Option.{Option, none, some}
 use mathlib.Core.List.{List, [], _∷_, _++_}
@@ -22,7 +22,7 @@ use Rattle.scheme.proofs.Verdicts.{after-none, passed}
 use Rattle.suite.specs.Program.{program}
 use Rattle.outcome.specs.Told.{told}
 use Rattle.outcome.specs.declared.Outcome.{Outcome}
-use Rattle.outcome.specs.declared.Outcome.the-variants.{Number, Compacted, Damaged, WrongKey, Refused, Done, BadWords}
+use Rattle.outcome.specs.declared.Outcome.the-variants.{Number, Counted, Compacted, Damaged, WrongKey, Refused, Done, BadWords}
 use Rattle.report.specs.Run.{Holds}
 
 -- no refusal is an answer
@@ -73,6 +73,7 @@ call-room before key output f n e = go (verdict (fieldTokenTests key f)) refl e
 -- what a find's outcome tells has room
 pub holds : (o : Outcome) (room : ℕ) → ((n : ℕ) → told o ≡ done (n ∷ []) → 16 * n ≤ room) → Holds o room
 holds (Number n) room h = h n refl
+holds (Counted n rows) room h = tt
 holds (Compacted t) room h = tt
 holds (Damaged t) room h = tt
 holds (WrongKey t) room h = tt

@@ -1,6 +1,7 @@
 -- A run of the tool on bytes: what it makes of a command line, a store, a key and random bytes, and what it prints.
 use Prim.Native.Nat.{ℕ, _*_, _+_, _≤_}
 use mathlib.Core.Path.{_≡_}
+use mathlib.Core.Bool.{Bool, true, false}
 use mathlib.Core.List.{List, [], _++_}
 use lib.ListN.{take, drop, replicate}
 use Rattle.scheme.specs.Labels.{Field}
@@ -28,9 +29,9 @@ use Rattle.advice.specs.Advise.{noRoom, roomFor, roomOf}
 use Rattle.outcome.specs.Told.{told, withRoom, Roomed}
 use Rattle.commands.specs.Insert.{insertResult}
 use Rattle.outcome.specs.declared.Outcome.{Outcome}
-use Rattle.outcome.specs.declared.Outcome.the-variants.{Number, Compacted, Damaged, WrongKey, Refused, Done, BadWords}
+use Rattle.outcome.specs.declared.Outcome.the-variants.{Number, Counted, Compacted, Damaged, WrongKey, Refused, Done, BadWords}
 use Rattle.buffer.specs.Put.{Put}
-use Rattle.lines.specs.Answer.{answerLine}
+use Rattle.lines.specs.Answer.{answerLine, countLines}
 use Rattle.lines.specs.Ids.{hexLine, idLines}
 use Rattle.messages.specs.Message.{messageLine}
 use Rattle.show.specs.Show.{shapeLines}
@@ -72,7 +73,7 @@ module _ (line before key random : List ℕ) where
       × Roomed before o)
   Performed Find o after =
       (told o ≡ perform program (Call.find key (fieldIn line) lent) before .answer) × ((after ≡ before) × Roomed before o)
-  Performed Count o after =
+  Performed (Count rows) o after =
       (told o ≡ perform program (Call.count key (fieldIn line)) before .answer) × ((after ≡ before) × Roomed before o)
   Performed Erase o after =
       (told o ≡ perform program (Call.erase (idOf (wordAt 2 line))) before .answer)
@@ -95,7 +96,7 @@ module _ (line before key random : List ℕ) where
       × ((after ≡ Insert.insert program before (idsOf 4 n line) random (tokenIn insertTokenLength line key) .store) × Roomed before o)
   Performed FindBy o after =
       (told o ≡ Find.find program before (tokenIn findTokenLength line key) lent .answer) × ((after ≡ before) × Roomed before o)
-  Performed CountBy o after =
+  Performed (CountBy rows) o after =
       (told o ≡ Count.count program before (tokenIn countTokenLength line key) .answer) × ((after ≡ before) × Roomed before o)
   Performed CompactBy o after =
       (told o ≡ Compaction.compact program before random (tokenIn compactionTokenLength line key) .answer)
@@ -104,6 +105,7 @@ module _ (line before key random : List ℕ) where
 -- a find's ids, each on a line; or its refusal
 abbrev pub foundText : Outcome → List ℕ → List ℕ
 foundText (Number n) ids = idLines n ids
+foundText (Counted n rows) ids = answerLine (Counted n rows)
 foundText (Compacted t) ids = answerLine (Compacted t)
 foundText (Damaged t) ids = answerLine (Damaged t)
 foundText (WrongKey t) ids = answerLine (WrongKey t)
@@ -111,9 +113,26 @@ foundText (Refused r room) ids = answerLine (Refused r room)
 foundText Done ids = answerLine Done
 foundText BadWords ids = answerLine BadWords
 
+-- a count, and on another line the rows looked at; or its refusal [02:W3.8]
+abbrev pub rowsText : Outcome → List ℕ
+rowsText (Number n) = answerLine (Number n)
+rowsText (Counted n rows) = countLines n rows
+rowsText (Compacted t) = answerLine (Compacted t)
+rowsText (Damaged t) = answerLine (Damaged t)
+rowsText (WrongKey t) = answerLine (WrongKey t)
+rowsText (Refused r room) = answerLine (Refused r room)
+rowsText Done = answerLine Done
+rowsText BadWords = answerLine BadWords
+
+-- the rows are told where they are asked for
+abbrev pub countText : Bool → Outcome → List ℕ
+countText true o = rowsText o
+countText false o = answerLine o
+
 -- so many bytes hold a find's ids
 abbrev pub Holds : Outcome → ℕ → Type 0
 Holds (Number n) room = 16 * n ≤ room
+Holds (Counted n rows) room = Unit {0}
 Holds (Compacted t) room = Unit {0}
 Holds (Damaged t) room = Unit {0}
 Holds (WrongKey t) room = Unit {0}
@@ -124,6 +143,7 @@ Holds BadWords room = Unit {0}
 -- a token's digits on a line; or the refusal of its making
 abbrev pub madeText : Outcome → List ℕ → List ℕ
 madeText (Number n) token = answerLine (Number n)
+madeText (Counted n rows) token = answerLine (Counted n rows)
 madeText (Compacted t) token = answerLine (Compacted t)
 madeText (Damaged t) token = answerLine (Damaged t)
 madeText (WrongKey t) token = answerLine (WrongKey t)
@@ -146,7 +166,7 @@ outText (New p m c s) line before key random o = answerLine o
 outText Key line before key random o = answerLine o
 outText (Insert u n) line before key random o = answerLine o
 outText Find line before key random o = foundText o (perform program (Call.find key (fieldIn line) lent) before .output)
-outText Count line before key random o = answerLine o
+outText (Count rows) line before key random o = countText rows o
 outText Erase line before key random o = answerLine o
 outText Compact line before key random o = answerLine o
 outText Order line before key random o = answerLine o
@@ -157,7 +177,7 @@ outText CountToken line before key random o = madeText o (countToken program key
 outText CompactionToken line before key random o = madeText o (compactionToken program key)
 outText (InsertBy n) line before key random o = answerLine o
 outText FindBy line before key random o = foundText o (Find.find program before (tokenIn findTokenLength line key) lent .output)
-outText CountBy line before key random o = answerLine o
+outText (CountBy rows) line before key random o = countText rows o
 outText CompactBy line before key random o = answerLine o
 
 -- a word, and what it is not
@@ -174,7 +194,7 @@ errText (New p m c s) line o = messageLine o 0
 errText Key line o = messageLine o 0
 errText (Insert u n) line o = messageLine o n
 errText Find line o = messageLine o 0
-errText Count line o = messageLine o 0
+errText (Count rows) line o = messageLine o 0
 errText Erase line o = messageLine o 0
 errText Compact line o = messageLine o 0
 errText Order line o = messageLine o 0
@@ -185,7 +205,7 @@ errText CountToken line o = messageLine o 0
 errText CompactionToken line o = messageLine o 0
 errText (InsertBy n) line o = messageLine o n
 errText FindBy line o = messageLine o 0
-errText CountBy line o = messageLine o 0
+errText (CountBy rows) line o = messageLine o 0
 errText CompactBy line o = messageLine o 0
 
 -- what a run of a request gives: its outcome, the store after it and the texts at the start of two lent slices

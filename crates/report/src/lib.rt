@@ -7,7 +7,7 @@ ghost use lib.ListN.{length};
 ghost use Rattle.buffer.specs.Put.{Put};
 ghost use Rattle.lines.specs.Answer.{answerLine};
 ghost use Rattle.messages.specs.Message.{messageLine};
-ghost use Rattle.report.specs.Run.{lent, foundText, Holds};
+ghost use Rattle.report.specs.Run.{lent, foundText, countText, Holds};
 
 // The outcome, and how many bytes each lent slice holds of what is printed.
 pub struct Ran {
@@ -37,6 +37,28 @@ pub fn answered(o: Outcome, given: u64, out: &mut [u8], err: &mut [u8]) -> Ran
         out: n,
         err: m,
     }
+}
+
+// A count on a line, and the rows looked at on another where they are asked for; or its refusal. [02:W3.8]
+pub fn told_count(o: Outcome, rows: bool, out: &mut [u8], err: &mut [u8]) -> Ran
+    requires { ⌜ (256 ≤ length (now out)) × (256 ≤ length (now err)) ⌝ }
+    ensures { λ r. ⌜ r .outcome ≡ o ⌝ }
+    ensures { λ r. ⌜ Put (now (out .entry)) 0 (countText rows o) (now (out .exit)) (r .out) ⌝ }
+    ensures { λ r. ⌜ Put (now (err .entry)) 0 (messageLine o 0) (now (err .exit)) (r .err) ⌝ }
+{
+    let Outcome::Counted { n, rows: looked } = o else {
+        return answered(o, 0, out, err);
+    };
+    if rows {
+        let k = lines::count(n, looked, out);
+        let m = messages::message(o, 0, err);
+        return Ran {
+            outcome: o,
+            out: k,
+            err: m,
+        };
+    }
+    answered(o, 0, out, err)
 }
 
 // The ids that a find gave, each on a line; or its refusal.

@@ -9,8 +9,10 @@ use native.Mathlib.Omega.{arith}
 use lib.Dec.{ltb, eqb}
 use lib.ListN.{length, getD, take, replicate}
 use lib.Seq.{take-add}
+use Rattle.octets.specs.Compare.{same}
 use Rattle.octets.specs.Part.{back}
 use Rattle.octets.proofs.Parts.{take-back, part-back}
+use Rattle.text.specs.Ascii.{ascii}
 use Rattle.text.specs.Hex.{isIdOf, unhexOf, hexOf}
 use Rattle.text.proofs.Digits.{is-digits, unhex-back}
 use Rattle.words.specs.Line.{wordAt, wordCount}
@@ -22,7 +24,7 @@ use Rattle.words.specs.declared.Command.{Command}
 use Rattle.words.specs.declared.Command.the-variants.{New as New₀, Key as Key₀, Insert as Insert₀, Find as Find₀, Count as Count₀, Erase as Erase₀, Compact as Compact₀, Order as Order₀, Token as Token₀, Show as Show₀, Help as Help₀, Unknown}
 use Rattle.request.specs.Ids.{idOf, idsOf}
 use Rattle.request.specs.Token.{tokenOf}
-use Rattle.request.specs.Request.{withNumber, withIds, idsFrom, firstBad, idsGiven, newOf, insertOf, insertByOf, eraseOf, insertTokenOf, makingBy, makingOf, pickRequest, hasToken, requestBy, requestWith, requestOf, idsIn}
+use Rattle.request.specs.Request.{withNumber, withIds, idsFrom, firstBad, idsGiven, newOf, insertOf, insertByOf, countOf, eraseOf, insertTokenOf, makingBy, makingOf, pickRequest, hasToken, requestBy, requestWith, requestOf, idsIn}
 use Rattle.request.specs.declared.Request.{Request}
 use Rattle.request.specs.declared.Request.the-variants.{Misused, NotId, Insert, Find, Count, Erase, Compact, FindToken, CountToken, CompactionToken, InsertBy, FindBy, CountBy, CompactBy}
 
@@ -125,6 +127,11 @@ few-ids : (line : List ℕ) (first : ℕ) (f : ℕ → Request) → ((n : ℕ) �
 few-ids line first f h =
     few-pick (ltb (firstBad (idsGiven first line) first line) (first + idsGiven first line)) (NotId (firstBad (idsGiven first line) first line)) (f (idsGiven first line)) (omega arith) (h (idsGiven first line) (omega arith))
 
+few-count : (n : ℕ) (p q : Request) (line : List ℕ) → idsIn p ≤ 65 → idsIn q ≤ 65 → idsIn (countOf n p q line) ≤ 65
+unfolding countOf
+few-count n p q line h k =
+    few-pick (eqb (wordCount line) n) p _ h (few-pick (eqb (wordCount line) (n + 1)) _ (Misused Count₀) (few-pick (same (wordAt n line) (ascii "--rows")) q (Misused Count₀) k (omega arith)) (omega arith))
+
 few-by : (c : Command) (b : Bool) (line : List ℕ) → idsIn (requestBy c b line) ≤ 65
 unfolding newOf insertOf insertByOf eraseOf makingOf
 few-by New₀ b line =
@@ -133,7 +140,8 @@ few-by Key₀ b line = omega arith
 few-by Insert₀ b line =
     few-pick b _ _ (few-ids line 4 InsertBy (λ n h. h)) (few-number (decimalOf (wordAt 5 line)) 5 _ (λ u. few-ids line 6 (Insert u) (λ n h. h)))
 few-by Find₀ b line = few-pick b FindBy Find (omega arith) (omega arith)
-few-by Count₀ b line = few-pick b CountBy Count (omega arith) (omega arith)
+few-by Count₀ b line =
+    few-pick b _ _ (few-count 4 (CountBy false) (CountBy true) line (omega arith) (omega arith)) (few-count 5 (Count false) (Count true) line (omega arith) (omega arith))
 few-by Erase₀ b line = few-pick (isIdOf (wordAt 2 line)) Erase (NotId 2) (omega arith) (omega arith)
 few-by Compact₀ b line = few-pick b CompactBy Compact (omega arith) (omega arith)
 few-by Order₀ b line = omega arith

@@ -56,6 +56,12 @@ insertOf line = numberAt 5 line (λ u. idsFrom 6 line (Insert u))
 unfoldable pub insertByOf : List ℕ → Request
 insertByOf line = idsFrom 4 line InsertBy
 
+-- a count takes so many words; --rows after them, and nothing else, asks for the rows looked at too [02:W3.8]
+unfoldable pub countOf : ℕ → Request → Request → List ℕ → Request
+countOf n plain rows line =
+    pickRequest (eqb (wordCount line) n) plain
+    (pickRequest (eqb (wordCount line) (n + 1)) (pickRequest (same (wordAt n line) (ascii "--rows")) rows (Misused Count₀)) (Misused Count₀))
+
 -- erase STORE ID
 unfoldable pub eraseOf : List ℕ → Request
 eraseOf line = pickRequest (isIdOf (wordAt 2 line)) Erase (NotId 2)
@@ -88,7 +94,7 @@ requestBy New₀ b line = newOf line
 requestBy Key₀ b line = Key
 requestBy Insert₀ b line = pickRequest b (insertByOf line) (insertOf line)
 requestBy Find₀ b line = pickRequest b FindBy Find
-requestBy Count₀ b line = pickRequest b CountBy Count
+requestBy Count₀ b line = pickRequest b (countOf 4 (CountBy false) (CountBy true) line) (countOf 5 (Count false) (Count true) line)
 requestBy Erase₀ b line = eraseOf line
 requestBy Compact₀ b line = pickRequest b CompactBy Compact
 requestBy Order₀ b line = Order
@@ -117,7 +123,7 @@ idsIn (New p m c s) = 0
 idsIn Key = 0
 idsIn (Insert u n) = n
 idsIn Find = 0
-idsIn Count = 0
+idsIn (Count rows) = 0
 idsIn Erase = 0
 idsIn Compact = 0
 idsIn Order = 0
@@ -128,5 +134,5 @@ idsIn CountToken = 0
 idsIn CompactionToken = 0
 idsIn (InsertBy n) = n
 idsIn FindBy = 0
-idsIn CountBy = 0
+idsIn (CountBy rows) = 0
 idsIn CompactBy = 0

@@ -1,10 +1,11 @@
 // What a command line asks for: the command with its numbers, or which word is wrong.
 ghost use mathlib.Core.Path.{_≡_};
+ghost use mathlib.Core.Bool.{true, false};
 ghost use Prim.Native.Nat.{_+_, _*_, _≤_};
 ghost use lib.ListN.{length};
 ghost use Rattle.words.specs.Decimal.{decimalOf};
 ghost use Rattle.words.specs.Line.{wordAt};
-ghost use Rattle.request.specs.Request.{firstBad, idsGiven, newOf, insertOf, insertByOf, eraseOf, insertTokenOf, makingOf, requestBy, requestOf, idsIn};
+ghost use Rattle.request.specs.Request.{firstBad, idsGiven, newOf, insertOf, insertByOf, countOf, eraseOf, insertTokenOf, makingOf, requestBy, requestOf, idsIn};
 ghost use Rattle.request.specs.Ids.{idOf, idsOf};
 
 pub mod token;
@@ -27,7 +28,8 @@ pub enum Request {
     // At share u, so many ids.
     Insert { u: u64, n: usize },
     Find,
-    Count,
+    // Whether the rows looked at are told too.
+    Count { rows: bool },
     Erase,
     Compact,
     Order,
@@ -40,7 +42,7 @@ pub enum Request {
     // With a token in place of key file, field, value and share; so many ids.
     InsertBy { n: usize },
     FindBy,
-    CountBy,
+    CountBy { rows: bool },
     CompactBy,
 }
 
@@ -145,6 +147,47 @@ fn insert_by(line: &[u8]) -> Request
     Request::InsertBy { n }
 }
 
+// A count that takes n words: this request, and the other where `--rows` follows them.
+fn with_rows(line: &[u8], n: usize, plain: Request, rows: Request) -> Request
+    requires { ⌜ n ≤ 5 ⌝ }
+    ensures { λ r. ⌜ r ≡ countOf n plain rows (now (line .entry)) ⌝ }
+{
+    let given = line::count(line);
+    if given == n {
+        return plain;
+    }
+    if given != n + 1 {
+        return Request::Misused(Command::Count);
+    }
+    if words::is(line::word(line, n), b"--rows") {
+        rows
+    } else {
+        Request::Misused(Command::Count)
+    }
+}
+
+fn count(line: &[u8]) -> Request
+    ensures { λ r. ⌜ r ≡ countOf 5 (Request.Count false) (Request.Count true) (now (line .entry)) ⌝ }
+{
+    with_rows(
+        line,
+        5,
+        Request::Count { rows: false },
+        Request::Count { rows: true },
+    )
+}
+
+fn count_by(line: &[u8]) -> Request
+    ensures { λ r. ⌜ r ≡ countOf 4 (Request.CountBy false) (Request.CountBy true) (now (line .entry)) ⌝ }
+{
+    with_rows(
+        line,
+        4,
+        Request::CountBy { rows: false },
+        Request::CountBy { rows: true },
+    )
+}
+
 fn erase(line: &[u8]) -> Request
     ensures { λ r. ⌜ r ≡ eraseOf (now (line .entry)) ⌝ }
 {
@@ -206,11 +249,7 @@ fn by_command(c: Command, token: bool, line: &[u8]) -> Request
         } else {
             Request::Find
         },
-        Command::Count => if token {
-            Request::CountBy
-        } else {
-            Request::Count
-        },
+        Command::Count => if token { count_by(line) } else { count(line) },
         Command::Erase => erase(line),
         Command::Compact => if token {
             Request::CompactBy

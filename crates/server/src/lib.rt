@@ -10,6 +10,7 @@ ghost use Rattle.outcome.specs.Told.{told, Roomed};
 use outcome::Outcome;
 use outcome::of_compaction;
 use outcome::of_counted;
+use outcome::of_tallied;
 
 pub fn insert(store: &mut [u8], ids: &[u8], nonces: &[u8], token: &[u8]) -> Outcome
     ensures { λ o. ⌜ told o ≡ insertOf program (now (store .entry)) (now (ids .entry)) (now (nonces .entry)) (now (token .entry)) .answer ⌝ }
@@ -34,7 +35,7 @@ pub fn count(store: &[u8], token: &[u8]) -> Outcome
     ensures { λ o. ⌜ Roomed (now (store .entry)) o ⌝ }
 {
     let room = advice::room_in(store);
-    of_counted(count::count(store, token), room)
+    of_tallied(count::count(store, token), room)
 }
 
 pub fn compact(store: &mut [u8], nonces: &[u8], token: &[u8]) -> Outcome

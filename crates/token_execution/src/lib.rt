@@ -7,6 +7,7 @@ use format::INSERT_TOKEN;
 use report::Ran;
 use report::answered;
 use report::blank;
+use report::told_count;
 use report::told_ids;
 use request::Request;
 use request::token;
@@ -67,14 +68,21 @@ pub fn find_by(line: &[u8], store: &[u8], key: &[u8], out: &mut [u8], err: &mut 
     told_ids(o, &ids, out, err)
 }
 
-pub fn count_by(line: &[u8], store: &[u8], key: &[u8], out: &mut [u8], err: &mut [u8]) -> Ran
+pub fn count_by(
+    line: &[u8],
+    rows: bool,
+    store: &[u8],
+    key: &[u8],
+    out: &mut [u8],
+    err: &mut [u8],
+) -> Ran
     requires { ⌜ (256 ≤ length (now out)) × (256 ≤ length (now err)) ⌝ }
-    ensures { λ r. ⌜ Ends Request.CountBy (now (line .entry)) (now (store .entry)) (now (key .entry)) [] (now (out .entry)) (now (err .entry)) r (now (store .entry)) (now (out .exit)) (now (err .exit)) ⌝ }
+    ensures { λ r. ⌜ Ends (Request.CountBy rows) (now (line .entry)) (now (store .entry)) (now (key .entry)) [] (now (out .entry)) (now (err .entry)) r (now (store .entry)) (now (out .exit)) (now (err .exit)) ⌝ }
 {
     let mut token = [0u8; COUNT_TOKEN];
     let t = token::read(line, key, &mut token);
     let o = server::count(store, &token[..t]);
-    answered(o, 0, out, err)
+    told_count(o, rows, out, err)
 }
 
 pub fn compact_by(

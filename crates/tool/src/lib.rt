@@ -106,7 +106,7 @@ pub fn run(
         Request::Key => report::answered(Outcome::Done, 0, out, err),
         Request::Insert { u, n } => execution::insert(line, u, n, store, key, random, out, err),
         Request::Find => execution::find(line, store, key, out, err),
-        Request::Count => execution::count(line, store, key, out, err),
+        Request::Count { rows } => execution::count(line, rows, store, key, out, err),
         Request::Erase => execution::erase(line, store, out, err),
         Request::Compact => { report::answered(commands::compact(store, key, random), 0, out, err) }
         Request::Order => execution::order(store, out, err),
@@ -133,7 +133,7 @@ pub fn run(
             err,
         ),
         Request::FindBy => token_execution::find_by(line, store, key, out, err),
-        Request::CountBy => token_execution::count_by(line, store, key, out, err),
+        Request::CountBy { rows } => token_execution::count_by(line, rows, store, key, out, err),
         Request::CompactBy => token_execution::compact_by(line, store, key, random, out, err),
     }
 }

@@ -18,8 +18,8 @@ const INSERT: [u8; 170] =
 const FIND: [u8; 95] =
     *b"mazhkuri find STORE KEYFILE FIELD VALUE, or find STORE --token TOKEN: prints each id on a line\n";
 
-const COUNT: [u8; 135] =
-    *b"mazhkuri count STORE KEYFILE FIELD VALUE, or count STORE --token TOKEN: prints how many ids were ever inserted, erased ones among them\n";
+const COUNT: [u8; 190] =
+    *b"mazhkuri count STORE KEYFILE FIELD VALUE [--rows], or count STORE --token TOKEN [--rows]: prints how many ids were ever inserted, erased ones among them; with --rows, the rows looked at too\n";
 
 const ERASE: [u8; 87] =
     *b"mazhkuri erase STORE ID: erases an id from every field; prints how many entries it had\n";

@@ -129,7 +129,7 @@ pub fn fit(c: Command, token: bool, n: usize) -> bool
         Command::Key => n == 2,
         Command::Insert => if token { 4 <= n } else { 6 <= n },
         Command::Find => if token { n == 4 } else { n == 5 },
-        Command::Count => if token { n == 4 } else { n == 5 },
+        Command::Count => if token { 4 <= n } else { 5 <= n },
         Command::Erase => n == 3,
         Command::Compact => if token { n == 4 } else { n == 3 },
         Command::Order => n == 2,

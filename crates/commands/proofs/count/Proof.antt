@@ -8,7 +8,7 @@ use Rattle.commands.proofs.count.Tie as tie
 returns : tie.Need-returns
 returns c =
     let e = c .before .count .ensures in
-    (c .of-counted .ensures .0 ∙ e, roomed _ _ _ (c .of-counted .ensures .1) (c .before .before .room-in .ensures .0))
+    (c .of-tallied .ensures .0 ∙ e, roomed _ _ _ (c .of-tallied .ensures .1) (c .before .before .room-in .ensures .0))
 
 pub count-spec : {M : Type 1} → statement M
 count-spec = tie.close (tie.spec (λ c κs. search needs) (λ c κs. search needs) (λ c κs. search needs) returns)

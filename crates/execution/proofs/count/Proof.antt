@@ -15,9 +15,9 @@ use Rattle.execution.proofs.count.Tie as tie
 returns : tie.Need-returns
 returns c =
     let s = c .before .before .before .before .before .before .before .before .before .before .before .before .before .before .before .args in
-    let a = c .before .before .before .before .answered in
+    let a = c .before .before .before .before .told-count in
     let o = c .before .before .before .before .before .before .before .count in
-    ended Count (s .line .now) (s .store .now) (s .key .now) [] (s .store .now) (o .result) (a .result) (a .ensures .0) (
+    ended (Count (s .rows)) (s .line .now) (s .store .now) (s .key .now) [] (s .store .now) (o .result) (a .result) (a .ensures .0) (
       o .ensures .0 ∙ ap (λ (f : Field). perform program (Call.count (s .key .now) f) (s .store .now) .answer) (ap₂ fieldOf (c .before .before .before .before .before .before .before .before .before .word .ensures) (c .before .before .before .before .before .before .before .before .word2 .ensures)),
       (refl, o .ensures .1),
     ) (a .ensures .1 .0) (a .ensures .1 .1)

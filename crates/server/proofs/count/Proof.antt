@@ -6,7 +6,7 @@ use Rattle.server.proofs.count.Statement.{statement}
 use Rattle.server.proofs.count.Tie as tie
 
 returns : tie.Need-returns
-returns c = (c .of-counted .ensures .0 ∙ c .before .count .ensures, roomed _ _ _ (c .of-counted .ensures .1) (c .before .before .room-in .ensures .0))
+returns c = (c .of-tallied .ensures .0 ∙ c .before .count .ensures .0, roomed _ _ _ (c .of-tallied .ensures .1) (c .before .before .room-in .ensures .0))
 
 pub count-spec : {M : Type 1} → statement M
 count-spec =

@@ -1,6 +1,6 @@
 -- The call with the line's token.
 use Prim.Native.Nat.{ℕ}
-use mathlib.Core.Path.{refl, sym, ap, subst, _∙_}
+use mathlib.Core.Path.{refl, sym, ap, _∙_}
 use mathlib.Core.List.{List, []}
 use lib.Seq.{length-take-le}
 use Rattle.suite.specs.Program.{program}
@@ -17,9 +17,9 @@ slice-aggregate-count c = sym (length-take-le (c .before .before .read .result) 
 
 returns : tie.Need-returns
 returns c =
-    ended CountBy (c .before .before .before .before .before .before .before .before .before .before .before .before .before .before .before .before .before .args .line .now) (c .before .before .before .before .before .before .before .before .before .before .before .before .before .before .before .before .before .args .store .now) (c .before .before .before .before .before .before .before .before .before .before .before .before .before .before .before .before .before .args .key .now) [] (c .before .before .before .before .before .before .before .before .before .before .before .before .before .before .before .before .before .args .store .now) (c .before .before .before .before .before .before .before .count .result) (c .before .before .before .before .answered .result) (c .before .before .before .before .answered .ensures .0)
+    ended (CountBy (c .before .before .before .before .before .before .before .before .before .before .before .before .before .before .before .before .before .args .rows)) (c .before .before .before .before .before .before .before .before .before .before .before .before .before .before .before .before .before .args .line .now) (c .before .before .before .before .before .before .before .before .before .before .before .before .before .before .before .before .before .args .store .now) (c .before .before .before .before .before .before .before .before .before .before .before .before .before .before .before .before .before .args .key .now) [] (c .before .before .before .before .before .before .before .before .before .before .before .before .before .before .before .before .before .args .store .now) (c .before .before .before .before .before .before .before .count .result) (c .before .before .before .before .told-count .result) (c .before .before .before .before .told-count .ensures .0)
     (c .before .before .before .before .before .before .before .count .ensures .0 ∙ ap (λ (t : List ℕ). Count.count program (c .before .before .before .before .before .before .before .before .before .before .before .before .before .before .before .before .before .args .store .now) t .answer) (c .before .before .before .before .before .before .before .before .before .before .read .ensures .0), (refl, c .before .before .before .before .before .before .before .count .ensures .1))
-    (c .before .before .before .before .answered .ensures .1 .0) (c .before .before .before .before .answered .ensures .1 .1)
+    (c .before .before .before .before .told-count .ensures .1 .0) (c .before .before .before .before .told-count .ensures .1 .1)
 
 pub count-by-spec : {M : Type 1} → statement M
 count-by-spec =

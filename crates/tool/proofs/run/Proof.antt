@@ -23,7 +23,7 @@ insert-requires : tie.Need-insert-requires
 insert-requires c κs = (subst (λ (z : Request). idsIn z ≤ 65) (c .before .before .before .before .q6 .given .1) (c .before .before .before .before .before .before .read .ensures .1), search needs)
 
 insert-by-requires : tie.Need-insert-by-requires
-insert-by-requires c κs = (subst (λ (z : Request). idsIn z ≤ 65) (c .before .before .before .before .q8 .given .1) (c .before .before .before .before .before .before .read .ensures .1), search needs)
+insert-by-requires c κs = (subst (λ (z : Request). idsIn z ≤ 65) (c .before .before .before .before .q9 .given .1) (c .before .before .before .before .before .before .read .ensures .1), search needs)
 
 returns : tie.Need-returns
 returns c = arm (sym (c .before .before .before .before .before .before .before .read .ensures .0) ∙ c .before .before .before .before .before .q .given .1) (helped (c .before .before .before .before .before .before .before .before .before .before .before .before .before .before .args .line .now) (c .before .before .before .before .before .before .before .before .before .before .before .before .before .before .args .store .now) (c .before .before .before .before .before .before .before .before .before .before .before .before .before .before .args .key .now) (c .before .before .before .before .before .before .before .before .before .before .before .before .before .before .args .random .now) (c .before .before .help .result) _ (c .before .before .help .ensures .0 .0) (c .before .before .help .ensures .0 .1) (c .before .before .help .ensures .1))
@@ -50,43 +50,43 @@ returns-8 : tie.Need-returns-8
 returns-8 c = arm (sym (c .before .before .before .before .before .before .before .before .before .before .read .ensures .0) ∙ c .before .before .before .before .before .before .before .before .enum-told2 .given .1) (found-any (c .before .before .before .before .before .before .before .before .before .before .before .before .before .before .before .before .before .args .random .now) (c .before .before .before .before .find .ensures))
 
 returns-9 : tie.Need-returns-9
-returns-9 c = arm (sym (c .before .before .before .before .before .before .before .before .before .before .read .ensures .0) ∙ c .before .before .before .before .before .before .before .before .enum-told3 .given .1) (counted-any (c .before .before .before .before .before .before .before .before .before .before .before .before .before .before .before .before .before .args .random .now) (c .before .before .before .before .count .ensures))
+returns-9 c = arm (sym (c .before .before .before .before .before .before .before .before .before .before .before .read .ensures .0) ∙ c .before .before .before .before .before .before .before .before .before .q7 .given .1) (counted-any (c .before .before .before .before .before .before .before .before .before .before .before .before .before .before .before .before .before .before .args .random .now) (c .before .before .before .before .count .ensures))
 
 returns-10 : tie.Need-returns-10
-returns-10 c = arm (sym (c .before .before .before .before .before .before .before .before .before .before .before .before .read .ensures .0) ∙ c .before .before .before .before .before .before .before .before .before .before .enum-told4 .given .1) (erased-any (c .before .before .before .before .before .before .before .before .before .before .before .before .before .before .before .before .before .before .before .args .random .now) (c .before .before .before .before .before .before .erase .ensures))
+returns-10 c = arm (sym (c .before .before .before .before .before .before .before .before .before .before .before .before .read .ensures .0) ∙ c .before .before .before .before .before .before .before .before .before .before .enum-told3 .given .1) (erased-any (c .before .before .before .before .before .before .before .before .before .before .before .before .before .before .before .before .before .before .before .args .random .now) (c .before .before .before .before .before .before .erase .ensures))
 
 returns-11 : tie.Need-returns-11
-returns-11 c = arm (sym (c .before .before .before .before .before .before .before .before .before .before .before .before .before .read .ensures .0) ∙ c .before .before .before .before .before .before .before .before .before .before .before .enum-told5 .given .1) (ended Compact (c .before .before .before .before .before .before .before .before .before .before .before .before .before .before .before .before .before .before .before .before .args .line .now) (c .before .before .before .before .before .before .before .before .before .before .before .before .before .before .before .before .before .before .before .before .args .store .now) (c .before .before .before .before .before .before .before .before .before .before .before .before .before .before .before .before .before .before .before .before .args .key .now) (c .before .before .before .before .before .before .before .before .before .before .before .before .before .before .before .before .before .before .before .before .args .random .now) (c .before .before .before .before .before .before .before .before .before .compact .last .0) (c .before .before .before .before .before .before .before .before .before .compact .result) (c .before .before .before .before .answered3 .result) (c .before .before .before .before .answered3 .ensures .0) (c .before .before .before .before .before .before .before .before .before .compact .ensures) (c .before .before .before .before .answered3 .ensures .1 .0) (c .before .before .before .before .answered3 .ensures .1 .1))
+returns-11 c = arm (sym (c .before .before .before .before .before .before .before .before .before .before .before .before .before .read .ensures .0) ∙ c .before .before .before .before .before .before .before .before .before .before .before .enum-told4 .given .1) (ended Compact (c .before .before .before .before .before .before .before .before .before .before .before .before .before .before .before .before .before .before .before .before .args .line .now) (c .before .before .before .before .before .before .before .before .before .before .before .before .before .before .before .before .before .before .before .before .args .store .now) (c .before .before .before .before .before .before .before .before .before .before .before .before .before .before .before .before .before .before .before .before .args .key .now) (c .before .before .before .before .before .before .before .before .before .before .before .before .before .before .before .before .before .before .before .before .args .random .now) (c .before .before .before .before .before .before .before .before .before .compact .last .0) (c .before .before .before .before .before .before .before .before .before .compact .result) (c .before .before .before .before .answered3 .result) (c .before .before .before .before .answered3 .ensures .0) (c .before .before .before .before .before .before .before .before .before .compact .ensures) (c .before .before .before .before .answered3 .ensures .1 .0) (c .before .before .before .before .answered3 .ensures .1 .1))
 
 returns-12 : tie.Need-returns-12
-returns-12 c = arm (sym (c .before .before .before .before .before .before .before .before .before .before .before .before .read .ensures .0) ∙ c .before .before .before .before .before .before .before .before .before .before .enum-told6 .given .1) (ordered-any (c .before .before .before .before .before .before .before .before .before .before .before .before .before .before .before .before .before .before .before .args .random .now) (c .before .before .before .before .before .before .order .ensures))
+returns-12 c = arm (sym (c .before .before .before .before .before .before .before .before .before .before .before .before .read .ensures .0) ∙ c .before .before .before .before .before .before .before .before .before .before .enum-told5 .given .1) (ordered-any (c .before .before .before .before .before .before .before .before .before .before .before .before .before .before .before .before .before .before .before .args .random .now) (c .before .before .before .before .before .before .order .ensures))
 
 returns-13 : tie.Need-returns-13
-returns-13 c = arm (sym (c .before .before .before .before .before .before .before .before .before .before .read .ensures .0) ∙ c .before .before .before .before .before .before .before .before .enum-told7 .given .1) (shown-any (c .before .before .before .before .before .before .before .before .before .before .before .before .before .before .before .before .before .args .random .now) (c .before .before .before .before .show .ensures))
+returns-13 c = arm (sym (c .before .before .before .before .before .before .before .before .before .before .read .ensures .0) ∙ c .before .before .before .before .before .before .before .before .enum-told6 .given .1) (shown-any (c .before .before .before .before .before .before .before .before .before .before .before .before .before .before .before .before .before .args .random .now) (c .before .before .before .before .show .ensures))
 
 returns-14 : tie.Need-returns-14
-returns-14 c = arm (sym (c .before .before .before .before .before .before .before .before .before .before .read .ensures .0) ∙ c .before .before .before .before .before .before .before .before .q7 .given .1) (insert-token-any (c .before .before .before .before .before .before .before .before .before .before .before .before .before .before .before .before .before .args .store .now) (c .before .before .before .before .insert-token .ensures))
+returns-14 c = arm (sym (c .before .before .before .before .before .before .before .before .before .before .read .ensures .0) ∙ c .before .before .before .before .before .before .before .before .q8 .given .1) (insert-token-any (c .before .before .before .before .before .before .before .before .before .before .before .before .before .before .before .before .before .args .store .now) (c .before .before .before .before .insert-token .ensures))
 
 returns-15 : tie.Need-returns-15
-returns-15 c = arm (sym (c .before .before .before .before .before .before .before .before .before .read .ensures .0) ∙ c .before .before .before .before .before .before .before .enum-told8 .given .1) (find-token-any (c .before .before .before .before .before .before .before .before .before .before .before .before .before .before .before .before .args .store .now) (c .before .before .before .before .before .before .before .before .before .before .before .before .before .before .before .before .args .random .now) (c .before .before .before .before .find-token .ensures))
+returns-15 c = arm (sym (c .before .before .before .before .before .before .before .before .before .read .ensures .0) ∙ c .before .before .before .before .before .before .before .enum-told7 .given .1) (find-token-any (c .before .before .before .before .before .before .before .before .before .before .before .before .before .before .before .before .args .store .now) (c .before .before .before .before .before .before .before .before .before .before .before .before .before .before .before .before .args .random .now) (c .before .before .before .before .find-token .ensures))
 
 returns-16 : tie.Need-returns-16
-returns-16 c = arm (sym (c .before .before .before .before .before .before .before .before .before .read .ensures .0) ∙ c .before .before .before .before .before .before .before .enum-told9 .given .1) (count-token-any (c .before .before .before .before .before .before .before .before .before .before .before .before .before .before .before .before .args .store .now) (c .before .before .before .before .before .before .before .before .before .before .before .before .before .before .before .before .args .random .now) (c .before .before .before .before .count-token .ensures))
+returns-16 c = arm (sym (c .before .before .before .before .before .before .before .before .before .read .ensures .0) ∙ c .before .before .before .before .before .before .before .enum-told8 .given .1) (count-token-any (c .before .before .before .before .before .before .before .before .before .before .before .before .before .before .before .before .args .store .now) (c .before .before .before .before .before .before .before .before .before .before .before .before .before .before .before .before .args .random .now) (c .before .before .before .before .count-token .ensures))
 
 returns-17 : tie.Need-returns-17
-returns-17 c = arm (sym (c .before .before .before .before .before .before .before .before .before .read .ensures .0) ∙ c .before .before .before .before .before .before .before .enum-told10 .given .1) (compaction-token-any (c .before .before .before .before .before .before .before .before .before .before .before .before .before .before .before .before .args .store .now) (c .before .before .before .before .before .before .before .before .before .before .before .before .before .before .before .before .args .random .now) (c .before .before .before .before .compaction-token .ensures))
+returns-17 c = arm (sym (c .before .before .before .before .before .before .before .before .before .read .ensures .0) ∙ c .before .before .before .before .before .before .before .enum-told9 .given .1) (compaction-token-any (c .before .before .before .before .before .before .before .before .before .before .before .before .before .before .before .before .args .store .now) (c .before .before .before .before .before .before .before .before .before .before .before .before .before .before .before .before .args .random .now) (c .before .before .before .before .compaction-token .ensures))
 
 returns-18 : tie.Need-returns-18
-returns-18 c = arm (sym (c .before .before .before .before .before .before .before .before .before .before .before .before .before .read .ensures .0) ∙ c .before .before .before .before .before .before .before .before .before .before .before .q8 .given .1) (c .before .before .before .before .before .before .insert-by .ensures)
+returns-18 c = arm (sym (c .before .before .before .before .before .before .before .before .before .before .before .before .before .read .ensures .0) ∙ c .before .before .before .before .before .before .before .before .before .before .before .q9 .given .1) (c .before .before .before .before .before .before .insert-by .ensures)
 
 returns-19 : tie.Need-returns-19
-returns-19 c = arm (sym (c .before .before .before .before .before .before .before .before .before .before .read .ensures .0) ∙ c .before .before .before .before .before .before .before .before .enum-told11 .given .1) (found-by-any (c .before .before .before .before .before .before .before .before .before .before .before .before .before .before .before .before .before .args .random .now) (c .before .before .before .before .find-by .ensures))
+returns-19 c = arm (sym (c .before .before .before .before .before .before .before .before .before .before .read .ensures .0) ∙ c .before .before .before .before .before .before .before .before .enum-told10 .given .1) (found-by-any (c .before .before .before .before .before .before .before .before .before .before .before .before .before .before .before .before .before .args .random .now) (c .before .before .before .before .find-by .ensures))
 
 returns-20 : tie.Need-returns-20
-returns-20 c = arm (sym (c .before .before .before .before .before .before .before .before .before .before .read .ensures .0) ∙ c .before .before .before .before .before .before .before .before .enum-told12 .given .1) (counted-by-any (c .before .before .before .before .before .before .before .before .before .before .before .before .before .before .before .before .before .args .random .now) (c .before .before .before .before .count-by .ensures))
+returns-20 c = arm (sym (c .before .before .before .before .before .before .before .before .before .before .before .read .ensures .0) ∙ c .before .before .before .before .before .before .before .before .before .q10 .given .1) (counted-by-any (c .before .before .before .before .before .before .before .before .before .before .before .before .before .before .before .before .before .before .args .random .now) (c .before .before .before .before .count-by .ensures))
 
 returns-21 : tie.Need-returns-21
-returns-21 c = arm (sym (c .before .before .before .before .before .before .before .before .before .before .before .before .read .ensures .0) ∙ c .before .before .before .before .before .before .before .before .before .before .enum-told13 .given .1) (c .before .before .before .before .before .before .compact-by .ensures)
+returns-21 c = arm (sym (c .before .before .before .before .before .before .before .before .before .before .before .before .read .ensures .0) ∙ c .before .before .before .before .before .before .before .before .before .before .enum-told11 .given .1) (c .before .before .before .before .before .before .compact-by .ensures)
 
 pub run-spec : {M : Type 1} → statement M
 run-spec =
