@@ -1,8 +1,7 @@
 /* How the time of each operation has changed: two archives, linked as shared objects and loaded apart from one another,
- * are measured in turn, many rounds, and the best round of each counts. The archive before is measured on a store that it
- * filled itself, whose rows stand as they came, and on one in form, which the archive after filled by the same calls; the
- * archive after on the latter. Each round checks that the answers agree, and that an order of what the archive before left
- * of a store in form gives the bytes that the archive after left.
+ * are measured in turn, many rounds, and the best round of each counts. Both work on the same store, in form, which both
+ * fill by the same calls. Each round checks that the answers agree, and the whole stores after it; after each
+ * measurement of a count, that the count which tells its rows answers the same.
  *   before_after BEFORE.so AFTER.so [ROUNDS]
  * The script bench/before_after builds both.
  */
@@ -26,13 +25,14 @@ typedef struct {
   int64_t (*erase)(uint8_t *, size_t, const uint8_t *, size_t);
   int64_t (*find)(const uint8_t *, size_t, const uint8_t *, size_t, uint8_t *, size_t);
   int64_t (*count)(const uint8_t *, size_t, const uint8_t *, size_t);
+  int64_t (*count_tallied)(const uint8_t *, size_t, const uint8_t *, size_t, uint64_t *); /* NULL where there is none */
   int64_t (*compact)(uint8_t *, size_t, const uint8_t *, size_t, const uint8_t *, size_t);
-  int64_t (*order)(uint8_t *, size_t); /* NULL in the archive before */
 } Library;
 
 static Library before, after;
-/* What the archive before filled, what the archive after filled, and a copy for each measurement. */
-static uint8_t own[884744], base[884744], work[3][884744], out[3][65536], nonces[12 * 4096];
+/* What the archive before filled, what the archive after filled; both work in one place, since where a store lies changes
+ * the time of a small call; and what each left. */
+static uint8_t own[884744], base[884744], work[884744], out[65536], left[2][884744 + 65536], nonces[12 * 4096];
 static size_t size;
 static int rounds = 40;
 static const uint8_t key[32] = {1, 2, 3, 4, 5, 6, 7, 8, 9}, empty[1];
@@ -46,7 +46,7 @@ static void *named(void *from, const char *name, int wanted) {
   return found;
 }
 
-static void load(Library *l, const char *path, int new) {
+static void load(Library *l, const char *path) {
   void *from = dlmopen(LM_ID_NEWLM, path, RTLD_NOW | RTLD_LOCAL);
   if (!from) {
     printf("%s\n", dlerror());
@@ -61,8 +61,8 @@ static void load(Library *l, const char *path, int new) {
   *(void **)&l->erase = named(from, "mazhkuri_erase", 1);
   *(void **)&l->find = named(from, "mazhkuri_find", 1);
   *(void **)&l->count = named(from, "mazhkuri_count", 1);
+  *(void **)&l->count_tallied = named(from, "mazhkuri_count_tallied", 0);
   *(void **)&l->compact = named(from, "mazhkuri_compact", 1);
-  *(void **)&l->order = named(from, "mazhkuri_order", new);
 }
 
 static void check(int ok, const char *what) {
@@ -121,7 +121,7 @@ static int64_t perform(const Library *l, const Call *c, uint8_t *store, uint8_t 
     case ERASE:
       return l->erase(store, size, c->ids, 16);
     case FIND:
-      return l->find(store, size, c->token, 96, output, sizeof out[0]);
+      return l->find(store, size, c->token, 96, output, sizeof out);
     case COUNT:
       return l->count(store, size, c->token, 32);
     default:
@@ -129,26 +129,33 @@ static int64_t perform(const Library *l, const Call *c, uint8_t *store, uint8_t 
   }
 }
 
+/* Where the archive has it. */
+static void check_tallied(const Library *l, const Call *c, int64_t wanted) {
+  uint64_t rows = 0;
+  if (l->count_tallied) check(l->count_tallied(base, size, c->token, 32, &rows) == wanted && rows > 0, "count with rows");
+}
+
 static void measure(const char *name, const Call *c, int times, int64_t wanted) {
-  const Library *by[3] = {&before, &before, &after};
-  uint8_t *from[3] = {own, base, base};
-  double best[3] = {1e18, 1e18, 1e18};
-  int64_t told[3] = {0};
+  const Library *by[2] = {&before, &after};
+  double best[2] = {1e18, 1e18};
+  check(memcmp(own, base, size) == 0, "set up");
   for (int r = 0; r < times; r++) {
-    for (int k = 0; k < 3; k++) {
-      memcpy(work[k], from[k], size);
+    for (int i = 0; i < 2; i++) {
+      int k = (i + r) % 2; /* each is first in turn */
+      memcpy(work, base, size);
+      memset(out, 0, sizeof out);
       double began = now();
-      told[k] = perform(by[k], c, work[k], out[k]);
+      int64_t told = perform(by[k], c, work, out);
       double took = now() - began;
       if (took < best[k]) best[k] = took;
+      check(told == wanted, name);
+      memcpy(left[k], work, size);
+      memcpy(left[k] + size, out, sizeof out);
     }
-    check(told[0] == wanted && told[1] == wanted && told[2] == wanted, name);
-    check(after.order(work[1], size) >= 0 && memcmp(work[1], work[2], size) == 0, name);
-    if (c->kind == FIND)
-      check(memcmp(out[0], out[2], 16 * (size_t)wanted) == 0 && memcmp(out[1], out[2], 16 * (size_t)wanted) == 0, name);
+    check(memcmp(left[0], left[1], size + sizeof out) == 0, name);
   }
-  printf("%-44s %9.1f us %9.1f us %9.1f us   %6.2f and %6.2f times faster\n", name, best[0], best[1], best[2],
-         best[0] / best[2], best[1] / best[2]);
+  if (c->kind == COUNT) check_tallied(&before, c, wanted), check_tallied(&after, c, wanted);
+  printf("%-44s %9.1f us %9.1f us   %6.2f times faster\n", name, best[0], best[1], best[0] / best[1]);
   fflush(stdout);
 }
 
@@ -160,20 +167,13 @@ static void inserts(const char *name, size_t j, int64_t wanted, unsigned p) {
   measure(name, &c, rounds, wanted);
 }
 
-static void counts(const char *name, unsigned f, int64_t wanted) {
-  Call c = {.kind = COUNT};
+/* A count or a find of a field. */
+static void reads(const char *name, int kind, unsigned f, int64_t wanted) {
+  Call c = {.kind = kind};
   uint8_t text[3];
   field(text, f);
-  after.count_token(key, 32, text, 3, empty, 0, c.token);
-  measure(name, &c, rounds, wanted);
-}
-
-static void finds(const char *name, unsigned f, int64_t wanted) {
-  Call c = {.kind = FIND};
-  uint8_t text[3];
-  field(text, f);
-  after.find_token(key, 32, text, 3, empty, 0, c.token);
-  measure(name, &c, wanted > 100 ? rounds / 8 + 2 : rounds, wanted);
+  (kind == COUNT ? after.count_token : after.find_token)(key, 32, text, 3, empty, 0, c.token);
+  measure(name, &c, kind == FIND && wanted > 100 ? rounds / 8 + 2 : rounds, wanted);
 }
 
 static void erases(const char *name, const uint8_t *id, int64_t wanted) {
@@ -196,10 +196,10 @@ int main(int count, char **arguments) {
     printf("before_after BEFORE.so AFTER.so [ROUNDS]\n");
     return 2;
   }
-  load(&before, arguments[1], 0);
-  load(&after, arguments[2], 1);
+  load(&before, arguments[1]);
+  load(&after, arguments[2]);
   if (count > 3) rounds = atoi(arguments[3]);
-  printf("m = c = s = 4,096, p = 0: before on its own store, before on one in form, after\n");
+  printf("m = c = s = 4,096, p = 0: before, after\n");
   static const size_t full[3] = {0, 2048, 3891};
   static const char *how[3] = {"empty", "half full", "95 % full"};
   for (int i = 0; i < 3; i++) {
@@ -217,23 +217,23 @@ int main(int count, char **arguments) {
     fresh();
     for (unsigned i = 0; i < n; i++) add(1, 1, NULL);
     snprintf(name, sizeof name, "count after %u uncompacted inserts", n);
-    counts(name, 1, n);
+    reads(name, COUNT, 1, n);
   }
   static const unsigned ids[3] = {10, 1000, 4000};
   for (int i = 0; i < 3; i++) {
     fresh();
     entries(1, ids[i], NULL);
     snprintf(name, sizeof name, "find of %u ids", ids[i]);
-    finds(name, 1, ids[i]);
+    reads(name, FIND, 1, ids[i]);
   }
   fresh();
   entries(1, 3000, NULL);
   entries(2, 1000, NULL);
-  finds("find of 1000 ids in a store of 4,000", 2, 1000);
+  reads("find of 1000 ids in a store of 4,000", FIND, 2, 1000);
   fresh();
   entries(1, 3990, NULL);
   entries(2, 10, NULL);
-  finds("find of 10 ids in a store of 4,000", 2, 10);
+  reads("find of 10 ids in a store of 4,000", FIND, 2, 10);
   memcpy(id, base + 8 + 61 * 4096 + 49 * 2000 + 1, 16);
   erases("erase of one entry of 4,000", id, 1);
   fresh();

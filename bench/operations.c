@@ -115,12 +115,13 @@ static void bench_count(const char *name, unsigned f, double floor) {
   uint8_t token[32], text[4];
   double ours = 1e18, theirs = 1e18;
   int64_t a = 0, b = 0;
+  uint64_t rows = 0, looked = 1;
   size_t n = field(text, f);
   mazhkuri_count_token(key, 32, text, n, empty, 0, token);
   for (int r = 0; r < rounds; r++) {
-    MEASURE(ours, a = mazhkuri_count(base, size, token, 32));
-    MEASURE(theirs, b = reference_count(base, size, token));
-    check(a == b && a >= 0, name);
+    MEASURE(ours, a = mazhkuri_count_tallied(base, size, token, 32, &rows));
+    MEASURE(theirs, b = reference_count(base, size, token, &looked));
+    check(a == b && a >= 0 && rows == looked && rows > 0 && a == mazhkuri_count(base, size, token, 32), name);
   }
   line(name, ours, theirs, floor);
 }
@@ -247,6 +248,7 @@ static void bench_token(void) {
 static void bench_prepared(void) {
   uint8_t find[96], count[32], text[4], id[16];
   double found = 1e18, counted = 1e18, reference_found = 1e18, reference_counted = 1e18;
+  uint64_t rows;
   size_t n = field(text, 1);
   size = 8 + 110 + 106ul * 4096;
   check(mazhkuri_make(0, 1, 4096, 4096, base, size) == 0, "make");
@@ -262,7 +264,7 @@ static void bench_prepared(void) {
     MEASURE(found, check(mazhkuri_find(base, size, find, 96, out1, sizeof out1) == 0, "find"));
     MEASURE(counted, check(mazhkuri_count(base, size, count, 32) == 1000, "count"));
     MEASURE(reference_found, check(reference_find(base, size, find, out2, sizeof out2) == 0, "find"));
-    MEASURE(reference_counted, check(reference_count(base, size, count) == 1000, "count"));
+    MEASURE(reference_counted, check(reference_count(base, size, count, &rows) == 1000, "count"));
   }
   double ours = (found - counted) / 1000, theirs = (reference_found - reference_counted) / 1000;
   printf("%-48s %10.3f us %10.3f us   ratio %5.2f   floor %9.3f us\n", "F, prepared key", ours, theirs,

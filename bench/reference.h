@@ -11,7 +11,8 @@ int64_t reference_insert(uint8_t *store, size_t n, const uint8_t *ids, size_t id
                          const uint8_t *nonces, size_t nonce_bytes, const uint8_t token[141]);
 int64_t reference_erase(uint8_t *store, size_t n, const uint8_t id[16]);
 int64_t reference_find(uint8_t *store, size_t n, const uint8_t token[96], uint8_t *output, size_t room);
-int64_t reference_count(uint8_t *store, size_t n, const uint8_t token[32]);
+/* Tells the rows looked at too. */
+int64_t reference_count(uint8_t *store, size_t n, const uint8_t token[32], uint64_t *rows);
 int64_t reference_compact(uint8_t *store, size_t n, const uint8_t *nonces, size_t nonce_bytes,
                           const uint8_t token[32]);
 int64_t reference_order(uint8_t *store, size_t n);

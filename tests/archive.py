@@ -1,13 +1,15 @@
 """The static library against the model, through the C interface: hash, F and E, on published vectors too;
 random lists of calls against the model store and the model ledger; ids with thousands of entries against the
-ledger; calls on hostile stores against the model store; stores that the version before filled. Expected values come from
+ledger; calls on hostile stores against the model store; stores that the version before filled; counts with the rows looked
+at. Expected values come from
 tests/model, Python's hashlib and hmac, OpenSSL's libcrypto and published files, never from our own code. Exit status 1 at the
 first difference.
 
   archive.py LIBRARY [--lists N] [--hostile N] [--seed N] [--long]
 
 LIBRARY is the archive linked as a shared object (tests/run makes it). --long runs ten times as many.
-A table's rows fix its bytes [02:W2.5], so whole stores are compared byte for byte.
+A table's rows fix its bytes [02:W2.5], so whole stores are compared byte for byte. Every count is made by both of its
+functions: the one that tells rows gives the same number, and the model's rows, or leaves what it was lent [02:W3.8].
 """
 import argparse
 import collections
@@ -28,6 +30,7 @@ import calls  # noqa: E402
 import compare  # noqa: E402
 import form  # noqa: E402
 import hostile  # noqa: E402
+import looked  # noqa: E402
 import older  # noqa: E402
 import scheme  # noqa: E402
 import vectors  # noqa: E402
@@ -39,6 +42,8 @@ from primitives import Real  # noqa: E402
 from repeats import Repeats  # noqa: E402
 
 GUARD = bytes([0xA5]) * 32
+# What stands in the rows that a count is lent; no count has as many.
+LENT = 0xA5A5A5A5A5A5A5A5
 
 
 class Difference(Exception):
@@ -112,10 +117,12 @@ class Library:
     CALLS = {  # r: bytes that are read; w: bytes that are written; a: an array; n: a number
         "sha256": "ra", "hmac": "rra", "chacha20": "rrw", "insert_token": "rrrnnra",
         "find_token": "rrra", "count_token": "rrra", "compaction_token": "ra", "make": "nnnnw",
-        "insert": "wrrr", "erase": "wr", "find": "rrw", "count": "rr", "compact": "wrr", "order": "w"}
+        "insert": "wrrr", "erase": "wr", "find": "rrw", "count": "rr", "count_tallied": "rra", "compact": "wrr",
+        "order": "w"}
 
     def __init__(self, path):
         self.library = ctypes.CDLL(str(path))
+        self.counts = collections.Counter()  # counts by both functions: done with and without rows, or a refusal's number
         self.arenas = [Arena() for _ in range(7)]
         for name, kinds in self.CALLS.items():
             function = getattr(self.library, "mazhkuri_" + name)
@@ -152,6 +159,25 @@ def encoded(answer):
     if isinstance(answer, Refused):
         return -(answer.number + 256 * packed(answer.carried))
     return packed(answer.values)
+
+
+def counted(library, store, token):
+    """A count by both functions: the number, which is the same, and the rows; where it is refused, what was lent for them
+    is left, and there are none."""
+    lent = LENT.to_bytes(8, sys.byteorder)
+    told, rows = library.count_tallied(store, token, lent)
+    same("Count, without rows and with them", library.count(store, token)[0], told)
+    if told < 0:
+        same("Count, rows of a refusal", rows, lent)
+    rows = None if told < 0 else int.from_bytes(rows, sys.byteorder)
+    library.counts[-told if told < 0 else "rows" if rows else "no rows"] += 1
+    return told, rows
+
+
+def returned(call, answer):
+    """What the library returns for an answer of the model; of a count with the rows looked at."""
+    told = encoded(calls.compared(call, answer))
+    return (told, answer.values[1] if isinstance(answer, Done) else None) if isinstance(call, calls.Count) else told
 
 
 def same(what, got, wanted):
@@ -241,12 +267,12 @@ def token_of(library, model, call, generator):
 
 
 def by_library(library, store, kind, token, call):
-    """What the library returns, the output after it, and the store after it."""
+    """What the library returns, a count's rows with it, the output after it, and the store after it."""
     if kind == "Find":
         told, output = library.find(store, token, call.output)
         return told, output, store
     if kind == "Count":
-        return library.count(store, token)[0], None, store
+        return counted(library, store, token), None, store
     if kind == "Insert":
         told, after = library.insert(store, call.ids, call.nonces, token)
     elif kind == "Erase":
@@ -283,7 +309,7 @@ def operate(library, model, store, kind, token, call):
     alike."""
     told, output, after = by_library(library, store, kind, token, call)
     answer, wanted_output, wanted = by_model(model, store, kind, token, call)
-    same(kind, told, encoded(answer))
+    same(kind, told, returned(call, answer))
     same(kind + ", output", output, wanted_output)
     same(kind + ", store", after, wanted)
     return answer, output, after
@@ -335,7 +361,7 @@ def one_list(library, model, drawn, listed, tally, repeats):
                 answer, output = model.token(call), call.output if kind == "Find" else None
             else:
                 answer, output, store = operate(library, model, store, kind, token, call)
-            if (answer, output) != (wanted, wanted_output):
+            if (calls.compared(call, answer), output) != (wanted, wanted_output):
                 raise Difference("%s: the library gives %r, the ledger %r" % (kind, answer, wanted))
             note(tally, kind, answer)
             repeats.call(ledger, call, answer)
@@ -404,7 +430,13 @@ class Filled:
         wanted, wanted_output = self.ledger.call(call)
         kind, token = type(call).__name__, self.model.token(call)
         told, output, self.store = by_library(self.library, self.store, kind, token, call)
-        same(kind, told, encoded(wanted))
+        if kind == "Count":
+            # The ledger has no rows; the model store is not slow here.
+            answer = self.model.count(self.store, token)
+            same("the model's count", calls.compared(call, answer), wanted)
+            same(kind, told, returned(call, answer))
+        else:
+            same(kind, told, encoded(wanted))
         same(kind + ", output", output, wanted_output)
         same(kind + ", in form", form.in_form(self.store), True)
         self.repeats.call(self.ledger, call, wanted)
@@ -676,7 +708,7 @@ def stores_before(library, number, seed):
         for field in older.FIELDS:
             for call in (calls.Find(older.KEY, *field, bytes(16 * 4096)), calls.Count(older.KEY, *field)):
                 answer, output, _ = operate(library, model, after, type(call).__name__, model.token(call), call)
-                same("%s after an order" % type(call).__name__, (answer, output), told.pop(0))
+                same("%s after an order" % type(call).__name__, (calls.compared(call, answer), output), told.pop(0))
         for call in others:
             _, _, after = operate(library, model, after, type(call).__name__, model.token(call), call)
     if out < number // 2:
@@ -726,7 +758,8 @@ def last_and_first(library, seed):
     def told(store, wanted):
         nonlocal tried
         tried += 1
-        same("a count", library.count(bytes(store), token)[0], wanted)
+        rows = None if wanted else model.rows_read(store, token)
+        same("a count", counted(library, bytes(store), token), (wanted, rows))
 
     told(full, 0)
     for name, t in scheme.tables(full).items():
@@ -815,6 +848,82 @@ def searches(library, number, seed):
     return "%d stores, done %s, told %s" % (number, often, numbers_told(tally))
 
 
+def refused_counts(generator, store, token):
+    """A count's store and token in each of the ways that refuse it but damage, with the refusal's number."""
+    r, t = generator, scheme.tables(store)["C"]
+    for length in (0, 31, 33, 64):
+        yield store, (token * 2)[:length], 6
+    for at, byte in ((0, 2), (1, 16), (4, 17), (5, 0)):
+        yield store[:at] + bytes([byte]) + store[at + 1:], token, 10
+    for n in (0, 7, 8, len(store) - 1):
+        yield store[:n], token, 10
+    yield store + b"\0", token, 10
+    i = r.randrange(t.rows)
+    yield store[:t.start + 61 * i] + bytes([r.choice((2, 255))]) + store[t.start + 61 * i + 1:], token, 11
+    broken = bytearray(store)
+    form.break_form(r, broken, "C")
+    if not form.in_form(broken):
+        yield bytes(broken), token, 20
+
+
+def rows_looked_at(library, number, seed):
+    """Counts with the rows looked at, on stores made for them, and refused in each way on some of those [01:FM7]
+    [02:W3.1 W3.2 W3.3 W3.4 W3.5 W3.6 W3.7 W3.8 W3.9 W3.10 W3.11 W3.12]."""
+    drawn, met, model, refused = looked.Stores(seed, Other), looked.Looked(), scheme.Scheme(Other), collections.Counter()
+
+    def tried(store, token):
+        answer, _, _ = operate(library, model, store, "Count", token, calls.Count(b"", b"", b""))
+        return answer
+
+    for i in range(number):
+        store, token = drawn.draw()
+        fault = met.fault(model, store, token, tried(store, token))
+        if fault:
+            raise Difference("%s: store %d, seed %d: %s, token %s" % (fault, i, seed, store.hex(), token.hex()))
+        for broken, other, wanted in refused_counts(drawn.r, store, token) if i % 10 == 0 else ():
+            same("refused", (tried(broken, other), counted(library, broken, other)), (Refused(wanted, ()), (-wanted, None)))
+            refused[wanted] += 1
+    seldom = met.too_seldom(number // 200)
+    seldom.update({n: times for n, times in refused.items() if times < number // 20})
+    if seldom or len(refused) != 4:
+        raise Difference("not tried often enough: %s" % seldom)
+    return "%d stores, refused besides damage %s, %s; %s" % (number, dict(refused), met, whole_tables(library, drawn))
+
+
+def whole_tables(library, drawn):
+    """The largest tables with c anchors and with c counters held, and one less: each held row is looked up once and ends its own
+    lookup, so that c of them look at 1 + 2 + .. + c rows, whatever their order; the other lookups are the model's."""
+    model, told = drawn.model, []
+    for c in (4096, 4095, 100):
+        for missing in (0, 1):
+            for name in ("anchor", "counter"):
+                store, token = bytearray(scheme.length_of(1, c, 1)), drawn.r.randbytes(32)
+                model.make(store, 0, 1, c, 1)
+                cl, n = model.F(token, scheme.number(0)), c - missing
+                tag, other = (model.anchor_tag, model.counter_tag) if name == "anchor" else (model.counter_tag, model.anchor_tag)
+                # Anchor n reads Start 7 and the count 9; counter n reads 0 and the count 9.
+                first = 7 if name == "anchor" else 0
+                model.put(store, "C", *(model.c_row(cl, tag(cl, i + 1), drawn.r.randbytes(12), first, 9) for i in range(n)))
+                tags = model.tags_met(store)
+                once = model.rows_at(tags, other(cl, 8 if name == "anchor" else 1))
+                miss = model.rows_at(tags, tag(cl, n + 1)) if missing else 0
+                wanted = n * (n + 1) // 2 + once + miss
+                same("%d %ss of %d" % (n, name, c), counted(library, bytes(store), token), (9, wanted))
+                told.append(wanted)
+    if max(told) < 4096 * 4097 // 2:
+        raise Difference("no table was walked whole")
+    return "%d tables with c or c - 1 of a kind held, up to %d rows looked at" % (len(told), max(told))
+
+
+def counts_made(library):
+    """How often a count was done and refused, by both functions, in all parts."""
+    made = library.counts
+    seldom = {told: made[told] for told in ("rows", "no rows", 6, 10, 11, 13, 20) if made[told] < 50}
+    if seldom:
+        raise Difference("not counted often enough: %s" % seldom)
+    return ", ".join("%s %d" % (told, n) for told, n in sorted(made.items(), key=str))
+
+
 def main():
     options = argparse.ArgumentParser(description=__doc__.split("\n")[0])
     options.add_argument("library")
@@ -837,11 +946,13 @@ def main():
              ("ids with many entries", lambda: repeated(library, given.seed)),
              ("first and last rows of the largest tables", lambda: last_and_first(library, given.seed)),
              ("searches", lambda: searches(library, many * 400, given.seed)),
+             ("rows that a count looks at", lambda: rows_looked_at(library, many * 2000, given.seed)),
              ("stores of the version before", lambda: stores_before(library, many * given.lists // 4, given.seed)),
              ("two histories", lambda: two_histories(library, many * given.lists // 4, given.seed)),
              ("lists", lambda: lists(library, many * given.lists, given.seed)),
              ("hostile stores", lambda: hostile_stores(library, many * given.hostile, given.seed)),
-             ("counts past the rows", lambda: long_walks(library, many * 40, given.seed))]
+             ("counts past the rows", lambda: long_walks(library, many * 40, given.seed)),
+             ("counts, by both functions", lambda: counts_made(library))]
     for name, part in parts:
         began = time.time()
         try:

@@ -59,7 +59,8 @@ def by_library(library, lines, inserted, compacted):
     store = library.insert(store[1], ID, NONCES, lines["insert token"])
     same("insert", store, (1, inserted))
     same("find", library.find(store[1], lines["find token"], bytes(16)), (1, ID))
-    same("count", library.count(store[1], lines["count token"])[0], 1)
+    # One used row of C, which each lookup looks at: anchor 1 and counter 1 in both shares, c = 1 ends each kind [02:W3.7].
+    same("count", archive.counted(library, store[1], lines["count token"]), (1, 4))
     same("compaction", library.compact(store[1], ANCHOR_NONCE, lines["compaction token"]),
          (2**32 + 1, compacted))
     # Of one row a table's order is that of the version before, whose stores an order takes [02:W2.6 W2.8].
@@ -68,7 +69,7 @@ def by_library(library, lines, inserted, compacted):
     for name, table in scheme.tables(inserted).items():
         left = bytearray(compacted if name == "S" else store_without(inserted, table))
         left[table.start + table.width - 1] = 7
-        same("bytes left in a free row of " + name, library.count(bytes(left), lines["count token"])[0], -20)
+        same("bytes left in a free row of " + name, archive.counted(library, bytes(left), lines["count token"]), (-20, None))
         cured = bytearray(left)
         cured[table.start + table.width - 1] = 0
         same("order of it", library.order(bytes(left)), (3, bytes(cured)))

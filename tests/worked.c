@@ -1,6 +1,6 @@
 /* The worked list of calls of document 01 (G1 to G8) through the C interface, then a list whose ids have
- * several entries and one with rows out of form (document 02, requests 1 and 2), with every answer and find
- * checked. Each argument has a heap block of exactly its size, so that valgrind sees a read or write past it;
+ * several entries, one with rows out of form, and the rows that a count looks at (document 02, requests 1 to 3), with
+ * every answer and find checked. Each argument has a heap block of exactly its size, so that valgrind sees a read or write past it;
  * tests/run runs it so. */
 #include "../include/mazhkuri.h"
 
@@ -92,13 +92,38 @@ static void find(const char *what, const char *const field[2], const char *lette
   free(name), free(value), free(ids), free(token);
 }
 
-static void count(const char *what, const char *const field[2], int64_t wanted) {
+/* What stands in the rows that are lent: a refused count leaves it. */
+static const uint64_t LENT = 0xa5a5a5a5a5a5a5a5;
+static int counts, refused_counts;
+
+/* A count by both functions, with a token of so many bytes; the rows that were told. */
+static uint64_t count_by(const char *what, const uint8_t *token, size_t n, int64_t wanted) {
+  uint64_t *rows = (uint64_t *)block(&LENT, 0, sizeof LENT), told;
+  expect(what, mazhkuri_count(store, store_length, token, n), wanted);
+  expect(what, mazhkuri_count_tallied(store, store_length, token, n, rows), wanted);
+  told = *rows;
+  free(rows);
+  counts++, refused_counts += wanted < 0;
+  if (wanted < 0) expect("a refused count leaves the rows", told == LENT, 1);
+  return told;
+}
+
+static uint8_t *count_token(const char *const field[2]) {
   uint8_t *name = bytes_of(field[0]), *value = bytes_of(field[1]);
   uint8_t *token = block(NULL, 0, MAZHKURI_COUNT_TOKEN);
   expect("count token",
          mazhkuri_count_token(key, 32, name, strlen(field[0]), value, strlen(field[1]), token), 32);
-  expect(what, mazhkuri_count(store, store_length, token, 32), wanted);
-  free(name), free(value), free(token);
+  free(name), free(value);
+  return token;
+}
+
+/* The rows are at most 2 c (p + 1) times the used rows of C [02:W3.11]. */
+static void count(const char *what, const char *const field[2], int64_t wanted) {
+  size_t m = 256u * store[2] + store[3], c = 256u * store[4] + store[5], used = 0;
+  uint8_t *token = count_token(field);
+  for (size_t i = 0; i < c; i++) used += store[8 + 110 * m + 61 * i];
+  expect("rows of a count", count_by(what, token, 32, wanted) <= 2 * c * (store[1] + 1u) * used, 1);
+  free(token);
 }
 
 static void compact(const char *what, size_t nonces, int64_t wanted) {
@@ -133,6 +158,11 @@ static void empty(void) {
   expect("find by nothing", mazhkuri_find(none, 0, out, 0, token, 0), -6);
   expect("find in nothing", mazhkuri_find(none, 0, token, 96, out, 0), -10);
   expect("count by nothing", mazhkuri_count(none, 0, out, 0), -6);
+  uint64_t *rows = (uint64_t *)block(&LENT, 0, sizeof LENT);
+  expect("count by nothing", mazhkuri_count_tallied(none, 0, out, 0, rows), -6);
+  expect("count in nothing", mazhkuri_count_tallied(none, 0, out, 32, rows), -10);
+  expect("its rows", *rows == LENT, 1);
+  free(rows);
   expect("compaction of nothing", mazhkuri_compact(none, 0, out, 0, out + 1, 0), -6);
   free(none), free(out), free(token);
 }
@@ -177,7 +207,7 @@ static void cured(const char *what, const uint8_t *kept, int64_t rows) {
   expect(what, mazhkuri_insert(store, store_length, some, 16, some, 24, some, 141), -20);
   expect(what, mazhkuri_erase(store, store_length, some, 16), -20);
   expect(what, mazhkuri_find(store, store_length, some, 96, output, 16), -20);
-  expect(what, mazhkuri_count(store, store_length, some, 32), -20);
+  count_by(what, some, 32, -20);
   expect(what, mazhkuri_compact(store, store_length, some, 0, some, 32), -20);
   expect("its refusal", mazhkuri_refusal(-20), 20);
   expect("a refusal leaves the store", memcmp(store, before, store_length), 0);
@@ -231,6 +261,60 @@ static void rows(void) {
   free(store);
 }
 
+/* A count in the store as it is: so many, and so many rows looked at; a refused one leaves them. */
+static void looks(const char *what, int64_t wanted, int64_t rows) {
+  uint8_t *token = count_token(HUE);
+  uint64_t told = count_by(what, token, 32, wanted);
+  if (wanted >= 0) expect(what, (int64_t)told, rows);
+  free(token);
+}
+
+/* These are the used rows of C: a letter l for a row below every tag, h for one above. */
+static void c_rows(const char *rows) {
+  size_t m = 256u * store[2] + store[3], c = 256u * store[4] + store[5];
+  uint8_t *table = store + 8 + 110 * m;
+  memset(table, 0, 61 * c);
+  for (size_t i = 0; rows[i]; i++) memset(table + 61 * i, rows[i] == 'h' ? 0xff : 0, 61), table[61 * i] = 1;
+}
+
+/* The rows that a count looks at, where the order of tags does not matter: with one used row each lookup looks at
+ * it; rows below every tag are looked at by each, and of those above the first [02:W3.2 W3.3 W3.4 W3.5 W3.7 W3.8]. */
+static void tallied(void) {
+  uint8_t *token = count_token(HUE);
+  make(1, 4, 4, 4);
+  looks("an empty table", 0, 0);
+  insert("one id", HUE, 0, "A", 1);
+  looks("anchor 1, counters 1 and 2, then anchor 1 and counter 1", 1, 5);
+  uint8_t *kept = block(store, 0, store_length);
+  compact("it", 1, 4294967296 + 1);
+  looks("anchors 1 and 2, counter 2, then anchor 1 and counter 1", 1, 5);
+  static const struct {
+    const char *rows;
+    int64_t looked;
+  } made[] = {{"l", 4}, {"lll", 12}, {"llll", 16}, {"h", 4}, {"hhhh", 4}, {"lh", 8}, {"llh", 12}, {"llhh", 12}};
+  for (size_t i = 0; i < sizeof made / sizeof made[0]; i++) c_rows(made[i].rows), looks(made[i].rows, 0, made[i].looked);
+  c_rows("hl");
+  looks("rows out of order", -20, 0);
+  memcpy(store, kept, store_length);
+  looks("as before", 1, 5);
+  store[8 + 440 + 45] ^= 1; /* the first number in the row */
+  looks("damage", -13, 0);
+  store[8 + 440] = 2;
+  looks("a mark", -11, 0);
+  store[0] = 2;
+  looks("a header", -10, 0);
+  count_by("a token too short", token, 31, -6);
+  free(kept);
+  free(store);
+  make(1, 1, 1, 1);
+  insert("one id", HUE, 0, "A", 1);
+  looks("c counters: anchor 1 and counter 1, twice", 1, 4);
+  compact("it", 1, 4294967296 + 1);
+  looks("c anchors: anchor 1 and counter 2, then anchor 1 and counter 1", 1, 4);
+  free(store);
+  free(token);
+}
+
 int main(void) {
   key = block("0123456789abcdef0123456789abcdef", 0, 32);
   make(1, 4, 4, 4);
@@ -270,7 +354,11 @@ int main(void) {
   free(store);
   repeated();
   rows();
+  tallied();
   free(key);
-  if (!failed) printf("G1 to G8, ids with several entries and rows in byte order, over the archive: as the papers say\n");
+  expect("counts made", counts >= 36 && refused_counts >= 20, 1);
+  if (!failed)
+    printf("G1 to G8, ids with several entries, rows in byte order and %d counts, %d of them refused, over the archive: as the "
+           "papers say\n", counts, refused_counts);
   return failed;
 }

@@ -16,6 +16,15 @@ Compact = namedtuple("Compact", "key nonces")
 # Puts the store in form; takes nothing but the store [02:W2.6].
 Order = namedtuple("Order", "")
 
+
+def compared(call, answer):
+    """What is compared of a store's answer with the ledger's: the ledger knows no rows, so those that a count looked at
+    are left out [02:W3.8]."""
+    if isinstance(call, Count) and isinstance(answer, Done):
+        return Done(answer.values[:1])
+    return answer
+
+
 INSERT_TOKEN = 141
 FIND_TOKEN = 96
 COUNT_TOKEN = 32

@@ -5,7 +5,8 @@ exit status 1 at the first difference, with the list of calls. `--mutants` shows
 comparison can fail: each deliberately wrong version has to be caught. Whole lists, from a fresh
 store of any sizes [01:LG2 LG5 LG6 LG14 LG15 LG17 LG18 LG19]; ids with several entries in each way that a find may
 meet them [02:W1.1 W1.2 W1.3 W1.4 W1.5 W1.6]; rows in byte order after every call [02:W2.1 W2.2 W2.3 W2.4 W2.5], and
-stores that the version before filled, put in form on the way [02:W2.6 W2.7 W2.8 W2.10].
+stores that the version before filled, put in form on the way [02:W2.6 W2.7 W2.8 W2.10]; then counts, with the rows looked at
+[02:W3.1 W3.2 W3.3 W3.4 W3.5 W3.6 W3.7 W3.8 W3.11 W3.12].
 """
 import argparse
 import random
@@ -15,12 +16,17 @@ import time
 import examples
 import form
 import hostile
+import looked
 import older
 import scheme
-from calls import Compact, Count, Done, Erase, Find, Insert, Order, Refused, field_lengths_wrong
+from calls import Compact, Count, Done, Erase, Find, Insert, Order, Refused, compared, field_lengths_wrong
 from ledger import Ledger
 from primitives import Cheap, Real
 from repeats import Repeats
+
+# What the lookups of counts meet in lists often; the rest is met on stores made for counts.
+IN_LISTS = ("no used row", "below all rows", "above all rows", "between two rows", "at the first row", "at the last row", "c anchors held",
+            "c counters held", "a counter after an anchor", "several shares with rows")
 
 FIELDS = [(b"hue", b"red"), (b"ab", b"c"), (b"a", b"bc"), (b"a", b""), (b"n" * 128, b"v" * 7)]
 WRONG_FIELDS = [(b"", b"c"), (b"n" * 256, b""), (b"a", b"v" * 1025)]
@@ -157,21 +163,26 @@ def told(pair):
     return "%r %s" % (pair[0], "" if pair[1] is None else pair[1].hex())
 
 
-def run_list(calls, stores, ledger, tell=None, alike=None):
-    """One list on each store (a model and its bytes) and on the ledger; `alike` tells how the stores differ."""
+def run_list(calls, stores, ledger, tell=None, alike=None, rows=None):
+    """One list on each store (a model and its bytes) and on the ledger; `alike` tells how the stores differ, `rows` what is wrong
+    with the whole answer of a count by the first."""
     for at, call in enumerate(calls):
         wanted = ledger.call(call)
         if tell:
             tell(ledger, call, wanted)
         for model, store in stores:
             before = bytes(store)
-            got = model.call(store, call)
+            answer, output = model.call(store, call)
+            got = compared(call, answer), output
             if got != wanted:
                 raise Difference("call %d: the store tells %s, the ledger %s"
                                  % (at, told(got), told(wanted)))
             if isinstance(got[0], Refused) and bytes(store) != before:
                 raise Difference("call %d: refused, and the store changed" % at)
         found = alike and alike([store for _, store in stores])
+        model, store = stores[0]
+        if rows and isinstance(call, Count) and isinstance(wanted[0], Done):
+            found = found or rows(model, bytes(store), model.token(call), model.count(store, model.token(call)))
         if found:
             raise Difference("call %d: %s" % (at, found))
 
@@ -252,6 +263,7 @@ def stores_for(builders, lists):
 def compare(suite, seed, number, longest, premise):
     """`number` lists over one suite; a tally of what was told and one of repeats, or None at a difference."""
     lists, tally, repeats, began, shown = Lists(seed, longest), {}, Repeats(), time.time(), time.time()
+    met = looked.Looked()
 
     def tell(ledger, call, said):
         answer = said[0].number if isinstance(said[0], Refused) else "done"
@@ -267,7 +279,7 @@ def compare(suite, seed, number, longest, premise):
         try:
             if i % premise == 0 and not tags_differ(models[0], lists.key, lists.p, calls):
                 raise Difference("the premise's tags do not differ")
-            run_list(calls, stores_for(models, lists), Ledger(lists.p, *lists.sizes), tell, stores_alike)
+            run_list(calls, stores_for(models, lists), Ledger(lists.p, *lists.sizes), tell, stores_alike, met.fault)
         except Difference as difference:
             show(lists, calls, difference, "list %d, seed %d" % (i, seed))
             return None
@@ -277,6 +289,10 @@ def compare(suite, seed, number, longest, premise):
     print("%s suite: %d lists alike, %d calls, %.1f s"
           % (suite.name, number, sum(tally.values()), time.time() - began), flush=True)
     print("%s suite: %s" % (suite.name, repeats), flush=True)
+    print("%s suite: counts: %d rows looked at, %d at most" % (suite.name, met.rows, met.greatest), flush=True)
+    if number >= 1000 and min(met.tally[kind] for kind in IN_LISTS) < number // 40:
+        print("NOT TRIED OFTEN ENOUGH, %d times: %s" % (number // 40, met.tally))
+        return None
     return tally, repeats
 
 
@@ -301,14 +317,30 @@ def hostile_stores(given):
     tallies = hostile.check(given.seed, given.hostile, Cheap)
     if tallies is None:
         return 1
-    tally, forms, orders = tallies
+    tally, forms, orders, counts = tallies
     told_numbers = sorted({n for _, n in tally if n != "done"})
-    print("hostile stores: %d calls, told %s, %s, %s" % (sum(tally.values()), told_numbers, forms, orders), flush=True)
+    print("hostile stores: %d calls, told %s, %s, %s, %d rows looked at by counts" % (
+        sum(tally.values()), told_numbers, forms, orders, counts.rows), flush=True)
     missing = {10, 11, 12, 13, 14, 15, 16, 17, 18, 19, 20} - set(told_numbers)
     seldom = {**forms.too_seldom(given.hostile // 3000), **orders.too_seldom(given.hostile // 1500)}
     if given.hostile >= 6000 and (missing or seldom):
         print("NOT TRIED %s %s" % (sorted(missing), seldom))
         return 1
+    return 0
+
+
+def counts(given):
+    """Counts on stores made for them: the rows looked at, their bound, every kind of lookup."""
+    for suite, number in ((Cheap, given.counts), (Real, given.counts // 10)):
+        met = looked.check(given.seed, number, suite)
+        if isinstance(met, str):
+            print("counts: %s" % met)
+            return 1
+        print("counts, %s suite: %d stores, %s" % (suite.name, number, met), flush=True)
+        seldom = met.too_seldom(number // 200)
+        if number >= 1000 and seldom:
+            print("NOT TRIED OFTEN ENOUGH, %d times: %s" % (number // 200, seldom))
+            return 1
     return 0
 
 
@@ -339,10 +371,12 @@ def main():
     options.add_argument("--premise", type=int, default=10,
                          help="the premise's tags are computed for one list in this many")
     options.add_argument("--hostile", type=int, default=9000, help="calls on hostile stores")
+    options.add_argument("--counts", type=int, default=3000, help="stores made for counts")
     options.add_argument("--mutants", action="store_true", help="wrong versions are caught")
     given = options.parse_args()
     examples.all_examples()
-    print("L1 to L6, G1 to G8, ids with several entries, rows in byte order and the forged stores: as the papers say", flush=True)
+    print("L1 to L6, G1 to G8, ids with several entries, rows in byte order, rows that a count looks at and the forged stores:"
+          " as the papers say", flush=True)
     if given.mutants:
         import mutants
         return mutants.caught(given)
@@ -351,7 +385,7 @@ def main():
         told_all = compare(suite, given.seed, number, given.longest, given.premise)
         if told_all is None or (number >= 1000 and not all_told(*told_all, number // 40)):
             return 1
-    return older_stores(given) or hostile_stores(given)
+    return counts(given) or older_stores(given) or hostile_stores(given)
 
 
 if __name__ == "__main__":

@@ -1,10 +1,10 @@
 """Fixed examples: document 01's L1 to L6 and its worked list G1 to G8, on store and ledger both, and a list
 with ids that come more than once and one with orders between (document 02, requests 1 and 2); tables in form and out of
-it; and refusals 7 to 20 on made and forged stores, in the paper's order.
+it; the rows that a count looks at (request 3); and refusals 7 to 20 on made and forged stores, in the paper's order.
 """
 import form
 import scheme
-from calls import Compact, Count, Done, Erase, Find, Insert, Order, Refused
+from calls import Compact, Count, Done, Erase, Find, Insert, Order, Refused, compared
 from ledger import Ledger
 from primitives import Cheap, Real, chacha20_block, number
 
@@ -156,7 +156,8 @@ def run_calls(build, build_ledger, sizes, calls):
         ledger = build_ledger(*sizes)
         for name, call, wanted in calls:
             expect(name + " in the ledger", ledger.call(call), wanted)
-            expect(name + " in the store", model.call(store, call), wanted)
+            answer, output = model.call(store, call)
+            expect(name + " in the store", (compared(call, answer), output), wanted)
 
 
 def making():
@@ -268,7 +269,7 @@ def damage():
                         ([("anchor", 1, 2, 3), ("counter", 1, 9, 9), ("counter", 3, 0, 4)], 4),
                         ([("anchor", 2, 2 ** 40, 1), ("counter", 2, 1, 1)], 0)):
         model, store = forged(rows)
-        expect("a count", model.count(store, model.count_token(KEY, *HUE)), Done((count,)))
+        expect("a count", model.count(store, model.count_token(KEY, *HUE)).values[0], count)
 
 
 def limits():
@@ -442,12 +443,163 @@ def hold(name, table, good):
     expect("an order of what is in form", not good or bytes(store) == before, True)
 
 
+def shown_tag(first, message):
+    return (bytes([first]) + message).ljust(31, b"\0") + b"\x80"
+
+
+class Shown:
+    """A suite in which tags show what they are of, so that rows can be counted by hand. Share u's tags begin with 16 (u + 1):
+    all counters of a share come before its anchors, each by its number. E changes nothing."""
+
+    name = "shown"
+
+    @staticmethod
+    def F(key, message):
+        if len(message) == 9:
+            return shown_tag(key[0], message)
+        return bytes([16 * (message[7] + 1) if key == TOKEN else key[0]]) + bytes(31)
+
+    @staticmethod
+    def E(key, nonce, text):
+        return text
+
+
+class Blind(Shown):
+    """Every tag is the same: one row is every counter and every anchor."""
+
+    @staticmethod
+    def F(key, message):
+        return b"U" * 32
+
+
+TOKEN = b"T" * 32
+LOW, HIGH = b"\1" + bytes(60), b"\1" + b"\xff" * 60
+EQUAL = b"\1" + b"U" * 32 + bytes(28)
+
+
+def counter(position, count, u=0, first=0, rest=0):
+    """A counter's row."""
+    tag = shown_tag(16 * (u + 1), b"\1" + number(position))
+    return b"\1" + tag + bytes([rest]) * 12 + number(first) + number(count)
+
+
+def anchor(n, start, count, u=0):
+    """An anchor's row."""
+    return b"\1" + shown_tag(16 * (u + 1), b"\2" + number(n)) + bytes(12) + number(start) + number(count)
+
+
+def beside(r, last):
+    """A row whose tag has another last byte."""
+    return r[:32] + bytes([last]) + r[33:]
+
+
+# p, c, the used rows of C, the count, and the rows looked at, by lookup: (anchors, counters) for each share.
+LOOKED = [
+    # No used row [02:W3.2 W3.3].
+    (0, 4, [], 0, [([0], [0])]),
+    (2, 1, [], 0, [([0], [0])] * 3),
+    # Below all rows: the one that follows is looked at, not those behind it.
+    (0, 4, [HIGH], 0, [([1], [1])]),
+    (0, 4, [HIGH] * 2, 0, [([1], [1])]),
+    (0, 4, [HIGH] * 4, 0, [([1], [1])]),
+    # Above all rows: none follows, in a table with free rows and in a full one.
+    (0, 4, [LOW], 0, [([1], [1])]),
+    (0, 4, [LOW] * 3, 0, [([3], [3])]),
+    (0, 4, [LOW] * 4, 0, [([4], [4])]),
+    (0, 64, [LOW] * 4, 0, [([4], [4])]),
+    # Between.
+    (0, 4, [LOW, LOW, HIGH], 0, [([3], [3])]),
+    (1, 4, [LOW, LOW, HIGH, HIGH], 0, [([3], [3])] * 2),
+    # At the first row, the last, the one and only; the lookup that finds nothing is told too [02:W3.4 W3.5].
+    (0, 4, [counter(1, 5)], 5, [([1], [1, 1])]),
+    (0, 4, [counter(1, 5), HIGH], 5, [([2], [1, 2])]),
+    (0, 4, [LOW, LOW, counter(1, 5)], 5, [([3], [3, 3])]),
+    (0, 4, [LOW, LOW, LOW, counter(1, 5)], 5, [([4], [4, 4])]),
+    (0, 4, [LOW, counter(1, 5), HIGH], 5, [([3], [2, 3])]),
+    (0, 4, [counter(1, 5), anchor(1, 0, 9)], 5, [([2, 2], [1, 2])]),
+    # A number that is missing ends it: counter 2 and anchor 2 are not looked for.
+    (0, 4, [counter(2, 5)], 0, [([1], [1])]),
+    (0, 4, [counter(2, 5), anchor(2, 0, 7)], 0, [([2], [1])]),
+    # A tag that differs in its last byte; what stands after the tag decides nothing.
+    (0, 4, [beside(counter(1, 5), 0x81)], 0, [([1], [1])]),
+    (0, 4, [beside(counter(1, 5), 0x7F), HIGH], 0, [([2], [2])]),
+    (0, 4, [counter(1, 5), beside(counter(1, 5), 0x81)], 5, [([2], [1, 2])]),
+    (0, 4, [beside(counter(1, 5), 0x7F), counter(1, 5), beside(counter(1, 5), 0x81)], 5, [([3], [2, 3])]),
+    (0, 4, [counter(1, 5, rest=255)], 5, [([1], [1, 1])]),
+    # Several held, and the next number; c of a kind held, and no lookup after them [02:W3.7].
+    (0, 4, [counter(1, 5), counter(2, 6), counter(3, 7)], 7, [([3], [1, 2, 3, 3])]),
+    (0, 3, [counter(1, 5), counter(2, 6), counter(3, 7)], 7, [([3], [1, 2, 3])]),
+    (0, 1, [counter(1, 5)], 5, [([1], [1])]),
+    (0, 4, [anchor(1, 9, 9), anchor(2, 9, 9), anchor(3, 5, 7)], 7, [([1, 2, 3, 3], [1])]),
+    (0, 3, [anchor(1, 9, 9), anchor(2, 9, 9), anchor(3, 5, 7)], 7, [([1, 2, 3], [1])]),
+    (0, 1, [anchor(1, 5, 7)], 7, [([1], [1])]),
+    # Counters from Start + 1 on, whatever stands at lower positions.
+    (0, 4, [counter(6, 9), anchor(1, 5, 7)], 9, [([2, 2], [1, 2])]),
+    (0, 4, [counter(1, 8), counter(6, 9), counter(7, 10), anchor(1, 5, 7)], 10, [([4, 4], [2, 3, 4])]),
+    (0, 4, [counter(1, 8), counter(2, 9), anchor(1, 5, 7)], 7, [([3, 3], [3])]),
+    # A tag twice: the first of them ends its own lookup, and both are passed by one that goes on.
+    (0, 2, [counter(1, 7), counter(1, 9)], 7, [([2], [1, 2])]),
+    (0, 4, [counter(1, 7), counter(1, 7), counter(2, 8)], 8, [([3], [1, 3, 3])]),
+    (0, 4, [anchor(1, 5, 7), anchor(1, 5, 7), anchor(1, 5, 7)], 7, [([1, 3], [1])]),
+    # Several shares, each through the whole table [02:W3.8].
+    (1, 4, [counter(1, 5), counter(1, 6, u=1)], 11, [([2], [1, 2]), ([2], [2, 2])]),
+    (1, 2, [counter(1, 5), counter(1, 6, u=1)], 11, [([2], [1, 2]), ([2], [2, 2])]),
+    (1, 2, [counter(1, 5), counter(2, 6)], 6, [([2], [1, 2]), ([2], [2])]),
+    (2, 5, [counter(1, 5), anchor(1, 1, 5, u=1), counter(1, 2, u=2), counter(2, 3, u=2)], 13,
+     [([2], [1, 2]), ([2, 3], [2]), ([4], [3, 4, 4])]),
+]
+# The same in a suite where every tag is the same: c of either kind are held, and every lookup looks at all used rows or
+# ends at the first; where the row is the last, the bound is reached [02:W3.11].
+BLIND = [
+    (0, 1, [EQUAL], 0, [([1], [1])]),
+    (1, 3, [EQUAL], 0, [([1] * 3, [1] * 3)] * 2),
+    (1, 3, [LOW, EQUAL], 0, [([2] * 3, [2] * 3)] * 2),
+    (1, 3, [LOW, LOW, EQUAL], 0, [([3] * 3, [3] * 3)] * 2),
+    (1, 3, [EQUAL, EQUAL, HIGH], 0, [([1] * 3, [1] * 3)] * 2),
+    (0, 3, [LOW, HIGH], 0, [([2], [2])]),
+]
+# What refuses a count; a refusal carries no rows.
+REFUSED = [
+    (13, 0, 4, [counter(1, 5, first=1)]), (13, 0, 4, [counter(1, GREATEST + 1)]), (13, 0, 4, [anchor(1, GREATEST + 1, 0)]),
+    (13, 0, 4, [anchor(1, 0, GREATEST + 1), HIGH]), (13, 1, 4, [counter(1, 5), counter(1, 6, u=1, first=1)]),
+    (13, 0, 1, [counter(1, 5, first=1)]),
+    (20, 0, 4, [HIGH, LOW]), (20, 0, 4, [counter(2, 6), counter(1, 5)]), (11, 0, 4, [b"\2" + LOW[1:]]),
+]
+
+
+def with_c(build, suite, p, size, rows):
+    model, store = made(build, suite, p, 1, size, 1)
+    at = scheme.tables(store)["C"].start
+    store[at:at + 61 * len(rows)] = b"".join(rows)
+    return model, store
+
+
+def looked(build):
+    """The rows that a count looks at, each number written by hand, and the bound [02:W3.11]; the count is that of the
+    full reading [02:W3.12]."""
+    reached = 0
+    for suite, cases in ((Shown, LOOKED), (Blind, BLIND)):
+        for p, size, rows, count, by_share in cases:
+            model, store = with_c(build, suite, p, size, rows)
+            expect("what was written", len(by_share), p + 1)
+            wanted = sum(n for anchors, counters in by_share for n in anchors + counters)
+            expect("rows of a count: %r" % ((p, size, [r.hex() for r in rows]),), model.count(store, TOKEN), Done((count, wanted)))
+            most = 2 * size * (p + 1) * len(rows)
+            expect("the bound", wanted <= most, True)
+            reached += 0 < wanted == most
+    for refusal, p, size, rows in REFUSED:
+        model, store = with_c(build, Shown, p, size, rows)
+        expect("rows of a count: refused", model.count(store, TOKEN), Refused(refusal, ()))
+    expect("bounds reached", reached, 6)
+
+
 def shared(build, build_ledger):
     """The examples that a wrong version of store or ledger is held against."""
     labels(build)
     run_calls(build, build_ledger, (1, 4, 4, 4), worked())
     run_calls(build, build_ledger, (1, 9, 6, 6), repeated())
     run_calls(build, build_ledger, (1, 6, 4, 4), ordered())
+    looked(build)
 
 
 def all_examples():

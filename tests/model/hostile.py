@@ -11,6 +11,7 @@ from collections import Counter
 
 import calls
 import form
+import looked
 import scheme
 from primitives import number
 from scheme import GREATEST, Scheme, row, set_row, tables, used, used_rows
@@ -248,7 +249,7 @@ class Orders:
 
 def check(seed, number_of, suite):
     """Runs `number_of` calls on broken stores; the tallies of what was told and met, or None at a fault."""
-    drawn, tally, forms, orders = Hostile(seed, suite), {}, form.Forms(), Orders()
+    drawn, tally, forms, orders, counts = Hostile(seed, suite), {}, form.Forms(), Orders(), looked.Looked()
     model = Scheme(suite)
     for i in range(number_of):
         store, call = drawn.draw()
@@ -259,13 +260,15 @@ def check(seed, number_of, suite):
         key = (type(call).__name__, answer.number if isinstance(answer, calls.Refused) else "done")
         tally[key] = tally.get(key, 0) + 1
         fault = fault_of(call, answer, output, before, bytes(store))
+        if key[0] == "Count" and key[1] in ("done", 13):
+            fault = fault or counts.fault(model, before, model.token(call), answer)
         if fault:
             print("FAULT %s: list %d, seed %d: %r told %r" % (fault, i, seed, call, answer))
             return None
         if scheme.header(before) and not scheme.marks_wrong(before):
             forms.store(before)
         orders.call(model, before, key[0], model.token(call), call, answer)
-    return tally, forms, orders
+    return tally, forms, orders, counts
 
 
 def fault_of(call, answer, output, before, after):
@@ -286,6 +289,8 @@ def fault_of(call, answer, output, before, after):
             return None
     if kind in ("Find", "Count") and before != after:
         return "a reading call changed the store"
+    if kind == "Count" and not 0 <= answer.values[1] <= looked.most(before):
+        return "a count looked at more rows than it may"
     if kind == "Find" and len(set(scheme.parts(output[:16 * answer.values[0]], 16))) < answer.values[0]:
         return "a find gave an id twice"
     if before != after and not form.in_form(after):

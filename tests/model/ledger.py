@@ -1,5 +1,5 @@
 """The ledger of document 01, 'The ledger', from its paragraph alone, with requests 1 and 2 of
-document 02.
+document 02; request 3 changes nothing in it.
 
 It is fed each call's raw arguments and never an answer or a byte of the store [01:LG3]; with
 the store it shares the form of an answer and the conditions 1 to 6 [01:LG4].

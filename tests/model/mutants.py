@@ -1,15 +1,17 @@
-"""Wrong versions of store and ledger: each has to be caught by the examples, by the random lists or on hostile
-stores, so that the comparison is known to be able to fail. Only a difference counts; an exception of
+"""Wrong versions of store and ledger: each has to be caught by the examples, by the random lists, on hostile
+stores or on stores made for counts, so that the comparison is known to be able to fail. Only a difference counts; an exception of
 a wrong version's own is a fault of this test. The first three are the slips that document 01, 'A day
 in the ledger', names.
 """
 import sys
 import traceback
+from bisect import bisect_left, bisect_right
 
 import calls
 import examples
 import form
 import hostile
+import looked
 import scheme
 from calls import Done, Refused, first
 from ledger import Ledger
@@ -822,6 +824,226 @@ class LedgerOrderCompacts(Ledger):
         return answer
 
 
+class NoRowThatFollows(Scheme):
+    """One row too few where a row follows the smaller ones."""
+    def rows_at(self, tags, tag):
+        return bisect_left(tags, tag)
+
+
+class OneMoreAtTheEnd(Scheme):
+    """One row too many where none follows."""
+    def rows_at(self, tags, tag):
+        return bisect_left(tags, tag) + (len(tags) > 0)
+
+
+class OneInAnEmptyTable(Scheme):
+    def rows_at(self, tags, tag):
+        return max(1, super().rows_at(tags, tag))
+
+
+class PastEqualTags(Scheme):
+    """The walk ends at a greater tag, not at an equal one."""
+    def rows_at(self, tags, tag):
+        return min(bisect_right(tags, tag) + 1, len(tags))
+
+
+class EndsAtAnEqualTagOnly(Scheme):
+    def rows_at(self, tags, tag):
+        return tags.index(tag) + 1 if tag in tags else len(tags)
+
+
+class ToTheLastUsedRow(Scheme):
+    def rows_at(self, tags, tag):
+        return len(tags)
+
+
+class ByEightBytes(Scheme):
+    """The first 8 bytes of tags alone are compared."""
+    def rows_at(self, tags, tag):
+        return super().rows_at([t[:8] for t in tags], tag[:8])
+
+
+class TagsWithoutLastByte(Scheme):
+    def rows_at(self, tags, tag):
+        return super().rows_at([t[:31] for t in tags], tag[:31])
+
+
+class TagsAsSignedBytes(Scheme):
+    def rows_at(self, tags, tag):
+        smaller = sum(form.signed(t) < form.signed(tag) for t in tags)
+        return smaller + (smaller < len(tags))
+
+
+class HalvesTheTable(Scheme):
+    """The rows that a binary search looks at."""
+    def rows_at(self, tags, tag):
+        low, high, looked_at = 0, len(tags), 0
+        while low < high:
+            middle, looked_at = (low + high) // 2, looked_at + 1
+            low, high = (middle + 1, high) if tags[middle] < tag else (low, middle)
+        return looked_at
+
+
+class EqualTagsOnce(Scheme):
+    def tags_met(self, store):
+        return sorted(set(super().tags_met(store)))
+
+
+class RowsOfM(Scheme):
+    def tags_met(self, store):
+        return sorted(r[1:33] for r in used_rows(store, tables(store)["M"]))
+
+
+def size_kept(rows_at):
+    """A wrong version that knows how many rows the table has, used and free."""
+    class Wrong(Scheme):
+        def tags_met(self, store):
+            self.size = scheme.header(store).c
+            return super().tags_met(store)
+
+        def rows_at(self, tags, tag):
+            return rows_at(bisect_left(tags, tag), len(tags), self.size)
+    return Wrong
+
+
+class FreeRowsCounted(size_kept(lambda smaller, used, size: smaller + 1 if smaller < used else size)):
+    pass
+
+
+class FreeRowThatFollowsCounted(size_kept(lambda smaller, used, size: smaller + (smaller < size))):
+    pass
+
+
+class TableIsAlwaysWalkedWhole(size_kept(lambda smaller, used, size: size)):
+    pass
+
+
+class LookupsBeyondC(Scheme):
+    def lookups(self, store, held):
+        return held + 1
+
+
+class LookupsFewerThanC(Scheme):
+    """A kind of which c are held ends one too soon."""
+    def lookups(self, store, held):
+        return max(1, min(held + 1, scheme.header(store).c - 1))
+
+
+class MissLeftOut(Scheme):
+    """The lookup that finds nothing."""
+    def lookups(self, store, held):
+        return held
+
+
+def other_lookups(change):
+    """A wrong version that looks up other tags: those it should, the CL, the reading."""
+    class Wrong(Scheme):
+        def looked_up(self, store, cl):
+            return change(self, super().looked_up(store, cl), cl, self.read(store, cl))
+    return Wrong
+
+
+class LastAnchorTwice(other_lookups(lambda self, tags, cl, x: tags + [self.anchor_tag(cl, n) for n in [x.anchors] if n])):
+    """Anchor B is looked up again to read its numbers."""
+
+
+class LastCounterTwice(other_lookups(lambda self, tags, cl, x: tags + [self.counter_tag(cl, x.start + n) for n in [x.k] if n])):
+    pass
+
+
+class EachLookupTwice(other_lookups(lambda self, tags, cl, x: tags + tags)):
+    pass
+
+
+class TwoAnchorsPastTheLast(other_lookups(lambda self, tags, cl, x: tags + [self.anchor_tag(cl, x.anchors + 2)])):
+    pass
+
+
+def anchors_among(model, tags, cl, counter):
+    """The tags that are looked up for anchors."""
+    return set(tags) & {model.anchor_tag(cl, n + 1) for n in range(counter.anchors + 1)}
+
+
+class AnchorsLeftOut(other_lookups(lambda self, tags, cl, x: set(tags) - anchors_among(self, tags, cl, x))):
+    pass
+
+
+class CountersLeftOut(other_lookups(anchors_among)):
+    pass
+
+
+class CountersFromOne(Scheme):
+    """Counters are looked up from 1 on, not from Start + 1."""
+    def looked_up(self, store, cl):
+        x = self.read(store, cl)
+        return ([self.anchor_tag(cl, n + 1) for n in range(self.lookups(store, x.anchors))]
+                + [self.counter_tag(cl, n + 1) for n in range(self.lookups(store, x.k))])
+
+
+def shares_read(shares):
+    """A wrong version that takes the rows of other shares than 0 to p."""
+    class Wrong(Scheme):
+        def rows_read(self, store, token):
+            tags = self.tags_met(store)
+            return sum(self.rows_at(tags, tag) for u in shares(scheme.header(store).p)
+                       for tag in self.looked_up(store, self.F(token, number(u))))
+    return Wrong
+
+
+class LastShareLeftOut(shares_read(lambda p: range(max(1, p)))):
+    """Where there are several."""
+
+
+class FirstShareLeftOut(shares_read(lambda p: range(min(1, p), p + 1))):
+    pass
+
+
+class ShareZeroForEach(shares_read(lambda p: [0] * (p + 1))):
+    pass
+
+
+class OneShareMore(Scheme):
+    def rows_read(self, store, token):
+        tags, past = self.tags_met(store), self.F(token, number(scheme.header(store).p + 1))
+        return super().rows_read(store, token) + sum(self.rows_at(tags, tag(past, 1)) for tag in (self.anchor_tag, self.counter_tag))
+
+
+class RowsOfTheLastShareAlone(shares_read(lambda p: [p])):
+    """The tally begins again at each share."""
+
+
+def other_answer(change):
+    class Wrong(Scheme):
+        def count(self, store, token):
+            answer = super().count(store, token)
+            return change(self, store, token, answer)
+    return Wrong
+
+
+class RowsBeforeTheCount(other_answer(lambda self, store, token, x: Done(x.values[::-1]) if isinstance(x, Done) else x)):
+    pass
+
+
+class CountTellsNoRows(other_answer(lambda self, store, token, x: Done(x.values[:1]) if isinstance(x, Done) else x)):
+    pass
+
+
+class DamageCarriesRows(other_answer(lambda self, store, token, x: Refused(13, (0,)) if x == Refused(13, ()) else x)):
+    pass
+
+
+class CountStopsAtC(other_answer(lambda self, store, token, x: Done((min(x.values[0], scheme.header(store).c), x.values[1]))
+                                 if isinstance(x, Done) else x)):
+    """The count is that of a shorter reading."""
+
+
+class LedgerTellsRows(Ledger):
+    """The ledger knows no rows."""
+    def count(self, call):
+        answer = super().count(call)
+        return Done(answer.values + (0,)) if isinstance(answer, Done) else answer
+
+
 # What document 02, request 1, could be taken for [02:W1.1 W1.2 W1.3 W1.6]; the lists have to catch each of these, the ledger's
 # below among them [02:W1.4 W1.5 W1.6].
 REPEATS = [FindGivesRepeats, FindAtLastPlace, FindDropsNeighboursOnly, FindOnceWithinShare,
@@ -847,16 +1069,25 @@ FORMS = [TiesByTag, TiesByNonce, LastByteLeftOut, FreedLogStays, UsedAfterFreeAc
          OrderLeavesFreeBytes, OrderLeavesLastTable, OrderBringsUsedRowsUp, LeavesFormAtDamage, SearchTakesAnyOfTag,
          EraseFreesOneRowOfTag] + FORMS_IN_LISTS
 LEDGERS_FORMS = [LedgerOrderWithoutAnchors, LedgerOrderCountsIdsOnce, LedgerOrderWithoutLog, LedgerOrderCompacts]
+# What request 3 could be taken for [02:W3.2 W3.3 W3.4 W3.5 W3.6 W3.7 W3.8 W3.12]: the examples and the stores made for counts both have to
+# catch each of these.
+ROWS = [NoRowThatFollows, OneMoreAtTheEnd, OneInAnEmptyTable, PastEqualTags, EndsAtAnEqualTagOnly, ToTheLastUsedRow, ByEightBytes,
+        TagsWithoutLastByte, TagsAsSignedBytes, HalvesTheTable, EqualTagsOnce, RowsOfM, FreeRowsCounted, FreeRowThatFollowsCounted,
+        TableIsAlwaysWalkedWhole, LookupsBeyondC, LookupsFewerThanC, MissLeftOut, LastAnchorTwice, LastCounterTwice, EachLookupTwice,
+        TwoAnchorsPastTheLast, AnchorsLeftOut, CountersLeftOut, CountersFromOne, LastShareLeftOut, FirstShareLeftOut, ShareZeroForEach,
+        OneShareMore, RowsOfTheLastShareAlone, RowsBeforeTheCount, CountTellsNoRows, DamageCarriesRows, CountStopsAtC]
+ROWS_IN_LISTS = [RowsBeforeTheCount, CountStopsAtC]
+LEDGERS_ROWS = [LedgerTellsRows]
 STORES = [CountsFromZeroAfterAnchor, NextAddressFromIdsListed, AnchorPerSRow, AnchorCountOneShort,
           AnchorNumberAgain, EraseLeavesM, EraseLeavesV, EraseFirstOnly, CompactionLeavesS,
           CompactionLeavesCounters, CompactionNeverTreats, InsertWritesNoCounter,
           InsertWritesOnlyFirst, FindStopsAtMissing, FindOneAddressShort, FindOnlyShareZero,
           FindWritesBeforeRefusing, FindCarriesRoom, FindAlwaysEmpty, RoomInAnotherOrder,
-          RefusesWhenFull, CompactionByLabels, LabelWithoutLength, LabelBigGroupsFirst, SharesAlike] + REPEATS + FORMS
+          RefusesWhenFull, CompactionByLabels, LabelWithoutLength, LabelBigGroupsFirst, SharesAlike] + REPEATS + FORMS + ROWS
 LEDGERS = [LedgerMadeFromIdsListed, LedgerAnchorPerInsert, LedgerSixteenTooLate,
-           LedgerAnchorsNotKept] + LEDGERS_REPEATS + LEDGERS_FORMS
+           LedgerAnchorsNotKept] + LEDGERS_REPEATS + LEDGERS_FORMS + LEDGERS_ROWS
 # Caught by the lists, whatever the examples say.
-IN_LISTS = REPEATS + LEDGERS_REPEATS + FORMS_IN_LISTS + LEDGERS_FORMS
+IN_LISTS = REPEATS + LEDGERS_REPEATS + FORMS_IN_LISTS + LEDGERS_FORMS + ROWS_IN_LISTS + LEDGERS_ROWS
 
 
 def by_examples(build, build_ledger):
@@ -901,6 +1132,38 @@ def by_hostile(build, given):
     return None
 
 
+def by_counts(build, given):
+    """The number of stores made for counts after which the wrong version told something else than a walk from row to row, or
+    None."""
+    drawn = looked.Stores(given.seed, Cheap)
+    wrong, right = build(Cheap), Scheme(Cheap)
+    for i in range(given.counts):
+        store, token = drawn.draw()
+        if looked.Looked().fault(right, store, token, wrong.count(store, token)):
+            return i + 1
+    return None
+
+
+def by_whole_answers(given):
+    """The number of lists after which a comparison that leaves nothing out found the rows of a count, or None: the ledger
+    knows no rows, so right versions differ in it [02:W3.8]."""
+    import compare
+    kept, compare.compared = compare.compared, lambda call, answer: answer
+    try:
+        return by_lists(Scheme, Ledger, given, False)
+    finally:
+        compare.compared = kept
+
+
+def found(wrong, example, after, stores, counts):
+    """Whether a wrong version was caught where it has to be."""
+    if wrong in ROWS and not (example and counts):
+        return False
+    if wrong in IN_LISTS:
+        return bool(after)
+    return bool(after or stores if wrong in FORMS else example or after)
+
+
 def caught(given):
     missed = faults = 0
     for wrong in STORES + LEDGERS:
@@ -908,16 +1171,19 @@ def caught(given):
         try:
             example = by_examples(*pair)
             stores = by_hostile(wrong, given) if wrong in FORMS else None
+            counts = by_counts(wrong, given) if wrong in ROWS else None
             # Lists that can show nothing are left out, for their time.
-            after = by_lists(*pair, given, wrong in FORMS) if wrong in IN_LISTS or not stores else None
+            after = by_lists(*pair, given, wrong in FORMS) if wrong in IN_LISTS or not (stores or counts) else None
         except Exception:
             print("FAULT in %s, which shows nothing:" % wrong.__name__)
             traceback.print_exc(file=sys.stdout)
             faults += 1
             continue
-        print("%-30s examples: %-16s lists: %-10s hostile stores: %s"
-              % (wrong.__name__, example or "-", "after %d" % after if after else "-", "after %d" % stores if stores else "-"),
-              flush=True)
-        missed += not (after if wrong in IN_LISTS else after or stores if wrong in FORMS else example or after)
-    print("%d wrong versions, %d not caught, %d at fault" % (len(STORES + LEDGERS), missed, faults))
+        shown = ["after %d" % n if n else "-" for n in (after, stores, counts)]
+        print("%-30s examples: %-16s lists: %-10s hostile stores: %-11s counts: %s" % (wrong.__name__, example or "-", *shown), flush=True)
+        missed += not found(wrong, example, after, stores, counts)
+    whole = by_whole_answers(given)
+    print("rows of a count compared with the ledger: a difference %s" % ("after %d lists" % whole if whole else "was not found"))
+    missed += not whole
+    print("%d wrong versions, %d not caught, %d at fault" % (len(STORES + LEDGERS) + 1, missed, faults))
     return 1 if missed or faults else 0

@@ -111,11 +111,12 @@ FIELDS = [(b"hue", b"red"), (b"a", b"bc"), (b"size", b"L")]
 
 
 def readings(model, store, p):
-    """What every find and count tells."""
+    """What every find and count tells, the rows that a count looks at left out: the version before told none."""
     told = []
     for field in FIELDS:
-        told.append(model.call(store, calls.Find(KEY, *field, bytes(16 * 4096))))
-        told.append(model.call(store, calls.Count(KEY, *field)))
+        for call in (calls.Find(KEY, *field, bytes(16 * 4096)), calls.Count(KEY, *field)):
+            answer, output = model.call(store, call)
+            told.append((calls.compared(call, answer), output))
     return told
 
 

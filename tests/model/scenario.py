@@ -1,6 +1,6 @@
 """The records and lines of the program crates/scenario: document 01's worked list G1 to G8, then
 every refusal at both sides of its limit, damage, forged and hostile stores, ids with several entries, tables in form and
-out of it. The lines come from the model of this folder, which was written from the papers, and never from our own program.
+out of it, the rows that a count looks at. The lines come from the model of this folder, which was written from the papers, and never from our own program.
 
   scenario.py            compares crates/scenario/stdin and stdout with what is derived here
   scenario.py --write    writes them
@@ -15,9 +15,10 @@ import sys
 
 import examples
 import form
+import looked
 import older
 import scheme
-from calls import Compact, Count, Done, Erase, Find, Insert, Order, Refused
+from calls import Compact, Count, Done, Erase, Find, Insert, Order, Refused, compared
 from examples import GREATEST, HUE, KEY, NONCE, SIZE, id_of
 from primitives import Real
 
@@ -250,7 +251,7 @@ def worked(s):
     calls = examples.worked()
     for name, call, wanted in calls:
         answer = s.call("%s %s" % (name, type(call).__name__.lower()), call)
-        assert answer == wanted[0], name
+        assert compared(call, answer) == wanted[0], name
     s.tags("the premise for this list", KEY, 1, [HUE, SIZE], len(calls))
 
 
@@ -626,7 +627,7 @@ def repeats(s):
     s.make("a store, p = 1, m = 9, c = s = 6", 1, 9, 6, 6)
     for name, call, wanted in examples.repeated():
         answer = s.call("%s %s" % (name, type(call).__name__.lower()), call)
-        assert answer == wanted[0], name
+        assert compared(call, answer) == wanted[0], name
 
     a, b, c = (id_of(x) for x in "ABC")
     s.make("a store", 1, 20, 6, 6)
@@ -699,6 +700,27 @@ def repeats(s):
         finds("few entries at %d addresses" % (2048 + count), 3, 5)
 
 
+def looked_at(s):
+    """Counts on tables C made for them: the tag below and above all rows, at the first and at the last, tags that stand twice, c
+    anchors and c counters held, several shares, damage; the line tells the count and the rows looked at
+    [02:W3.1 W3.2 W3.3 W3.4 W3.5 W3.6 W3.7 W3.8 W3.9 W3.11 W3.12]."""
+    drawn, met = looked.Stores(3, Real), looked.Looked()
+
+    def tried(title, store, token):
+        h = scheme.header(store)
+        s.make("a store", h.p, h.m, h.c, h.s)
+        s.becomes(store)
+        answer = s.count(title, token)
+        fault = met.fault(s.model, bytes(s.store), token, answer)
+        assert not fault, fault
+
+    for turn in range(240):
+        tried("rows %d" % turn, *drawn.draw())
+    for p, c, shape in ((0, 64, "c anchors"), (0, 64, "c counters"), (15, 16, "c counters"), (2, 200, "any")):
+        tried("%d rows, %s" % (c, shape), *drawn.with_sizes(p, c, shape))
+    assert not met.too_seldom(2), met.too_seldom(2)
+
+
 def hostile(s):
     """Any bytes behind a good header and good marks; mostly put in form, so that more than 20 is told."""
     pick, told = random.Random(1), set()
@@ -738,7 +760,7 @@ def hostile(s):
 def main():
     s = Scenario()
     for part in (worked, token_makings, makings, call_inputs, states, damage, limits, compactions, rows, repeats, forms,
-                 version_before, hostile):
+                 version_before, looked_at, hostile):
         before = len(s.records)
         part(s)
         print("%s: %d records" % (part.__name__.replace("_", " "), len(s.records) - before), flush=True)

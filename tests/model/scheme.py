@@ -1,11 +1,12 @@
 """Labels, tokens, the store and the six operations on its bytes: document 01, 'Labels' to
-'Refusals from the state', with requests 1 and 2 of document 02, for all inputs, hostile stores among them.
+'Refusals from the state', with requests 1 to 3 of document 02, for all inputs, hostile stores among them.
 Written from the papers.
 
 Each table's rows fix its bytes [02:W2.5]: `arranged`. What the version before did with them, which left the
 row placing open, is in older.py.
 """
 import struct
+from bisect import bisect_left
 from collections import namedtuple
 from functools import lru_cache
 
@@ -382,13 +383,42 @@ class Scheme:
         return None if None in readings else [r.count for r in readings]
 
     def count(self, store, token):
+        """The count, and the rows looked at for it [02:W3.8]; a refusal carries none."""
         refused = first(self.count_all_conditions(store, token))
-        return refused or Done((sum(self.counts(store, token)),))
+        return refused or Done((sum(self.counts(store, token)), self.rows_read(store, token)))
 
     def count_all_conditions(self, store, token):
         yield from calls.count_conditions(len(token))
         yield from self.state_conditions(store)
         yield 13, self.counts(store, token) is None
+
+    # The rows that a count looks at
+
+    def rows_read(self, store, token):
+        """The sum over shares 0 to p."""
+        tags = self.tags_met(store)
+        return sum(self.rows_at(tags, tag) for u in range(header(store).p + 1)
+                   for tag in self.looked_up(store, self.F(token, number(u))))
+
+    def tags_met(self, store):
+        """The tags of the used rows of C, ascending as unsigned bytes, one for each row."""
+        return sorted(r[1:33] for r in used_rows(store, tables(store)["C"]))
+
+    def looked_up(self, store, cl):
+        """The tags that are looked up in a share, once each [02:W3.6]: anchors 1 to B+1 [02:W3.4] and counters Start+1 to
+        Start+k+1 [02:W3.5]."""
+        counter = self.read(store, cl)
+        return ([self.anchor_tag(cl, n + 1) for n in range(self.lookups(store, counter.anchors))]
+                + [self.counter_tag(cl, counter.start + n + 1) for n in range(self.lookups(store, counter.k))])
+
+    def lookups(self, store, held):
+        """How many of a kind, so many of them held: one more, and never more than c [02:W3.7]."""
+        return min(held + 1, header(store).c)
+
+    def rows_at(self, tags, tag):
+        """Those with a smaller tag [02:W3.2], and one more if a row follows them [02:W3.3]."""
+        smaller = bisect_left(tags, tag)
+        return smaller + (smaller < len(tags))
 
     # Compaction
 

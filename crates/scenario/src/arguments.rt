@@ -92,7 +92,7 @@ pub fn count(store: &[u8])
     let mut value = [0u8; 1100];
     let b = records::read_bytes(&mut value);
     let r = calls::count(store, &key[..k], &name[..a], &value[..b]);
-    write::counted(r);
+    write::tallied(r);
     write::end(store);
 }
 
@@ -153,7 +153,7 @@ pub fn count_by(store: &[u8])
     let mut token = [0u8; 200];
     let t = records::read_bytes(&mut token);
     let r = count::count(store, &token[..t]);
-    write::counted(r);
+    write::tallied(r);
     write::end(store);
 }
 

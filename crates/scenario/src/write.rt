@@ -2,6 +2,7 @@
 use answer::Completion;
 use answer::Counted;
 use answer::Refusal;
+use answer::Tallied;
 use compact::Compaction;
 use compact::Tally;
 use libc::STDOUT_FILENO;
@@ -53,6 +54,20 @@ pub fn counted(r: Counted)
             count(n);
         }
         Counted::Refused(why) => refusal(why),
+    }
+}
+
+// The number, and the rows looked at for it. [02:W3.8]
+pub fn tallied(r: Tallied)
+    ensures { λ r. ⌜ r ≡ tt ⌝ }
+{
+    match r {
+        Tallied::Number { n, rows } => {
+            text(b": done");
+            count(n);
+            count(rows);
+        }
+        Tallied::Refused(why) => refusal(why),
     }
 }
 
