@@ -42,7 +42,7 @@ module _ (w n u : ℕ) (t k : List ℕ) (l : length k ≡ w * n) (e : u ≡ leng
   pub front-long : length (take (w * u) k) ≡ w * u
   front-long = length-take-le (w * u) k front-le
 
-  pub front-small : w ≤ 61 → n ≤ 4096 → w * u ≤ 249856
+  pub front-small : w ≤ widthOf tableM → n ≤ 4096 → w * u ≤ widthOf tableM * 4096
   front-small a b = omega (arith, mul-le-mul-left w few, mul-le-mul-left w b)
 
   pub gathered : (ys : List ℕ) → length ys ≡ w * u → rows w u ys ≡ sorted (rows w u (take (w * u) k)) → rows w n (ys ++ drop (w * u) k) ≡ reordered w (rows w n t)

@@ -411,16 +411,16 @@ forms b e =
     let h = passed (headerBad b) _ _ e in
     let m = passed (marksBad (cut b)) _ _ (h .1) in
     let f = passed (anyOf (λ k. not (inForm (widthOf k) (cut b .table k))) plan) _ _ (m .1) in
-    let g = neither (not (inForm 61 (cut b .table tableM))) _ (f .0) in
-    let i = neither (not (inForm 49 (cut b .table tableV))) _ (g .1) in
-    let j = neither (not (inForm 61 (cut b .table tableC))) _ (i .1) in
-    let n = neither (not (inForm 45 (cut b .table tableS))) _ (j .1) in
+    let g = neither (not (inForm (widthOf tableM) (cut b .table tableM))) _ (f .0) in
+    let i = neither (not (inForm (widthOf tableV) (cut b .table tableV))) _ (g .1) in
+    let j = neither (not (inForm (widthOf tableC) (cut b .table tableC))) _ (i .1) in
+    let n = neither (not (inForm (widthOf tableS) (cut b .table tableS))) _ (j .1) in
     by (g .0) (i .0) (j .0) (n .0)
   where
     one : (k : Which) → not (inForm (widthOf k) (cut b .table k)) ≡ false → InForm (widthOf k) (cut b .table k)
     one k e = form-true (widthOf k) (cut b .table k) (not-false (inForm (widthOf k) (cut b .table k)) e)
 
-    by : not (inForm 61 (cut b .table tableM)) ≡ false → not (inForm 49 (cut b .table tableV)) ≡ false → not (inForm 61 (cut b .table tableC)) ≡ false → not (inForm 45 (cut b .table tableS)) ≡ false
+    by : not (inForm (widthOf tableM) (cut b .table tableM)) ≡ false → not (inForm (widthOf tableV) (cut b .table tableV)) ≡ false → not (inForm (widthOf tableC) (cut b .table tableC)) ≡ false → not (inForm (widthOf tableS) (cut b .table tableS)) ≡ false
         → (k : Which) → InForm (widthOf k) (cut b .table k)
     by g i j n tableM = one tableM g
     by g i j n tableV = one tableV i

@@ -20,7 +20,7 @@ long : (c : tie.After-keep-used) → length (c .keep-used .last .0) ≡ start c 
 long c = c .keep-used .kept .0 ∙ start c .pre .1 .1
 
 -- its used rows take no more than so many bytes
-small : (c : tie.After-keep-used) → start c .args .w * c .keep-used .result ≤ 249856
+small : (c : tie.After-keep-used) → start c .args .w * c .keep-used .result ≤ widthOf tableM * 4096
 small c =
     let a = start c .args in
     front-small (a .w) (a .n) (c .keep-used .result) (a .t .now) (c .keep-used .last .0) (long c) (c .keep-used .ensures .0) (c .keep-used .ensures .1) (start c .pre .0 .1) (start c .pre .1 .0)

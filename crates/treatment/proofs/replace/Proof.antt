@@ -104,7 +104,7 @@ returns-2 c =
     let t = rows (widthOf tableC) (a .c) (a .t .now) in
     let shut = rows (widthOf tableC) (a .c) (c .before .before .before .before .before .before .before .before .before .close .last .0) in
     let n = left-is (a .c) (c .before .before .before .before .before .before .before .before .before .close .last .0) (c .before .before .before .before .before .survey .result .free) (c .before .before .before .before .before .survey .ensures .1) in
-    let e = c .before .before .merge .ensures ∙ ap (λ (x : Row). withRows (widthOf tableC) (x ∷ []) shut) (take-all 61 (a .row .now) (omega (arith, p .1 .1 .0))) in (
+    let e = c .before .before .merge .ensures ∙ ap (λ (x : Row). withRows (widthOf tableC) (x ∷ []) shut) (take-all (widthOf tableC) (a .row .now) (omega (arith, p .1 .1 .0))) in (
       add-one _ ∙ ap suc n
           ∙ many-number (widthOf tableC) (a .u) t (p .1 .1 .1 .1) (a .places .now) (a .k) (p .1 .0 .0) (p .1 .0 .1) (p .0 .1 .1) (c .before .before .before .before .before .before .before .before .before .before .before .before .before .flag-places .last .1 .1 .0) 4096
           (small (a .c) (a .t .now) (p .0 .1 .0)) (c .before .before .before .before .before .before .before .before .before .before .before .before .before .flag-places .ensures) shut (c .before .before .before .before .before .before .before .before .before .close .ensures) (a .row .now) (p .1 .1 .1 .0) _ e,
