@@ -4,7 +4,7 @@ use Prim.Native.Nat.{ℕ}
 use mathlib.Core.List.{List, [], _∷_}
 use lib.ListN.{take, getD}
 use Rattle.answer.specs.declared.Refusal.{Refusal}
-use Rattle.answer.specs.declared.Refusal.the-variants.{KeyLength, FieldLength, ShareRange, NonceLength, IdLength, TokenLength, SizeRange, SliceLength, TextLength, Header, Mark, TokenShares, Damage, CountRange, EntryRows, CounterRows, LogRows, OutputLength, NonceCount, Form}
+use Rattle.answer.specs.declared.Refusal.the-variants.{KeyLength, FieldLength, ShareRange, NonceLength, IdLength, TokenLength, SizeRange, SliceLength, TextLength, Header, Mark, TokenShares, Damage, CountRange, EntryRows, CounterRows, LogRows, OutputLength, NonceCount, Form, LabelRows}
 use Rattle.answer.specs.declared.Completion.{Completion}
 use Rattle.answer.specs.declared.Completion.the-variants.{Done, Refused as Refused₀}
 use Rattle.answer.specs.declared.Counted.{Counted}
@@ -39,6 +39,7 @@ numberOf LogRows = 17
 numberOf (OutputLength n) = 18
 numberOf NonceCount = 19
 numberOf Form = 20
+numberOf LabelRows = 21
 
 -- what a refusal carries: 18 the number of ids found, every other nothing
 abbrev pub carriedBy : Refusal → List ℕ
@@ -62,6 +63,7 @@ carriedBy LogRows = []
 carriedBy (OutputLength n) = n ∷ []
 carriedBy NonceCount = []
 carriedBy Form = []
+carriedBy LabelRows = []
 
 abbrev pub refusal : Refusal → Answer
 refusal r = refused (numberOf r) (carriedBy r)

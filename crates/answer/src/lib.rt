@@ -18,7 +18,7 @@ pub enum Refusal {
     IdLength,
     // 6: the token has another length.
     TokenLength,
-    // 7: p, m, c or s of a store to be made is out of range.
+    // 7: p, m, c, s or r of a store to be made is out of range.
     SizeRange,
     // 8: the slice of a store to be made has another length than its sizes ask for.
     SliceLength,
@@ -46,6 +46,8 @@ pub enum Refusal {
     NonceCount,
     // 20: a table is not in form. [02:W2.11]
     Form,
+    // 21: free rows of R are fewer than the ids. [02:W4.28]
+    LabelRows,
 }
 
 // The answer of a call that gives no value.
@@ -91,5 +93,6 @@ pub fn number(r: Refusal) -> u64
         Refusal::OutputLength(_) => 18,
         Refusal::NonceCount => 19,
         Refusal::Form => 20,
+        Refusal::LabelRows => 21,
     }
 }

@@ -2,7 +2,7 @@
 -- What the definitions of document 01's "Store" are written in.
 use Prim.Native.Nat.{ℕ, zero, suc, _+_}
 use mathlib.Core.Path.{_≡_}
-use mathlib.Core.Bool.{Bool, true, false, cond, not, _||_}
+use mathlib.Core.Bool.{Bool, true, false, cond, not, _&&_, _||_}
 use mathlib.Core.Option.{Option, none, some}
 use mathlib.Core.List.{List, [], _∷_, _++_}
 pub use Rattle.octets.specs.Compare.{bit, same}
@@ -27,6 +27,11 @@ module _ {A : Type 0} where
   abbrev pub anyOf : (A → Bool) → List A → Bool
   anyOf p [] = false
   anyOf p (x ∷ xs) = p x || anyOf p xs
+
+  -- whether all pass
+  abbrev pub allOf : (A → Bool) → List A → Bool
+  allOf p [] = true
+  allOf p (x ∷ xs) = p x && allOf p xs
 
   abbrev pub isSome : Option A → Bool
   isSome none = false
