@@ -103,6 +103,7 @@ module _ (x : Setting) (i : ℕ) (before : List ℕ) (l : Ledger) (hi : suc i �
       shaped = shaped-put z _ tableS (after .tS) (result .S-ok) (shaped-put z (s .st) tableC (after .tC) (result .C-ok) (s .shaped));
       counters = counters-later x (after .tC) (logIn x (after .tS)) (l .A + length (l .T)) i (madeIn l) hi₀ (rw A-is at (result .counted));
       entries = s .entries;
+      marks = s .marks;
       small = λ pr ok. let w = s .small pr ok in omega arith;
       W-is = sym (ap length (result .gone));
       T-length = sym (ap (λ (L : List (List ℕ)). length (distinct L)) (result .gone));

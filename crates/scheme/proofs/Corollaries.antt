@@ -1,6 +1,6 @@
 -- The corollaries: the claim turns each into a fact about the ledger alone.
 use Prim.Native.Nat.{ℕ, zero, suc, _+_, _*_, _≤_}
-use mathlib.Core.Path.{_≡_, refl, sym, ap, subst, _∙_, fun-ext}
+use mathlib.Core.Path.{_≡_, refl, sym, ap, ap₂, subst, _∙_, fun-ext}
 use mathlib.Core.Bool.{Bool, true, false, cond, not, _||_, true≢false}
 use mathlib.Core.Logic.{_⊎_, ⊎-elim}
 use mathlib.Core.Option.{Option, none, some}
@@ -11,7 +11,7 @@ use lib.Dec.{eqb, ltb}
 use lib.ListN.{length, drop}
 use borrow.Author.Tests.{eqb-true, not-false, ltb-false}
 use Rattle.answer.specs.Answer.{Answer, done, refused}
-use Rattle.table.specs.Lists.{same, select, anyOf, flat, upTo, All, Same, distinct}
+use Rattle.table.specs.Lists.{same, select, anyOf, allOf, flat, upTo, All, Same, distinct}
 use Rattle.table.specs.Order.{usedRows, inForm}
 use Rattle.table.proofs.Counting.{ne-same, neither, select-append}
 use Rattle.table.proofs.Distinct.{distinct-without}
@@ -19,14 +19,14 @@ use Rattle.table.proofs.Rows.{rows-length}
 use Rattle.table.proofs.Order.{InForm, form-true, form-fixed}
 use Rattle.scheme.specs.Suite.{Suite}
 use Rattle.scheme.specs.Labels.{Field, fieldLengthsBad}
-use Rattle.scheme.specs.Store.{Sizes, Which, plan, tableM, tableV, tableC, tableS, widthOf, rowsOf, startOf, sizesOf, Store, cut, joined, headerBad, marksBad, formBad, stateTests, fresh}
-use Rattle.scheme.specs.Refusals.{idCount, idsIn, lengthNot, insertTokenTests, insertInputTests, eraseInputTests, fieldTokenTests}
+use Rattle.scheme.specs.Store.{Sizes, Which, plan, tableM, tableV, tableC, tableS, tableR, widthOf, rowsOf, startOf, sizesOf, Store, cut, joined, headerBad, marksBad, formBad, stateTests, fresh}
+use Rattle.scheme.specs.Refusals.{idCount, idsIn, lengthNot, insertTokenTests, insertInputTests, idTests, fieldTokenTests}
 use Rattle.answer.specs.Verdict.{Test, verdict, answerOr}
 use Rattle.scheme.specs.Call
-use Rattle.scheme.specs.Call.{Call, Told}
-use Rattle.scheme.specs.Ledger.{Pair, Entry, Ledger, Bounds, empty, entryOf, removed, ledgerInsertVerdict, appended, afterInsert, afterErase, afterCompaction, ledgerLists, ledgerIds, ledgerSum, ledgerFindVerdict, ledgerCompactVerdict, nextOr, ledgerStep, ledgerTells, ledgerAfter}
+use Rattle.scheme.specs.Call.{Call, Part, Told}
+use Rattle.scheme.specs.Ledger.{Pair, Entry, Ledger, Bounds, empty, entryOf, removed, ledgerInsertVerdict, appended, afterInsert, afterErase, afterCompaction, ledgerLists, ledgerIds, ledgerSum, ledgerHas, leastMade, ledgerJointIds, ledgerJointVerdict, ledgerFindVerdict, ledgerCompactVerdict, nextOr, ledgerStep, ledgerTells, ledgerAfter}
 use Rattle.scheme.specs.Claim.{Claim, boundsOf}
-use Rattle.scheme.specs.Corollaries.{Ran, toldAt, accepted, Finds, Keeps, NoIdLost, Query, finding, counting, callOf, CompactionHidden, EraseExact, BringsNot, ErasedGone, EachIdOnce, Made, ClientsAlike, RowsFixTable, RowsFixStore}
+use Rattle.scheme.specs.Corollaries.{Ran, toldAt, accepted, Finds, Keeps, NoIdLost, Query, finding, counting, testing, joining, callOf, CompactionHidden, EraseExact, BringsNot, ErasedGone, EachIdOnce, Made, ClientsAlike, RowsFixTable, RowsFixStore}
 use Rattle.scheme.specs.Run.{storeAfter}
 use Rattle.scheme.proofs.Setting.{Setting, by-pair}
 use Rattle.scheme.proofs.Shape.{cut-joined}
@@ -39,7 +39,7 @@ use Rattle.scheme.proofs.Once.{unseen-distinct, mem-select, select-mem,
 -- ---- the ledger along a list
 
 -- what the ledger tells of the call after a first part
-told-at : (z : Bounds) (l : Ledger) (first : List Call) (call : Call) (rest : List Call)
+pub told-at : (z : Bounds) (l : Ledger) (first : List Call) (call : Call) (rest : List Call)
     → toldAt (ledgerTells z l (first ++ (call ∷ rest))) (length first) ≡ ledgerStep z (ledgerAfter z l first) call .told
 told-at z l [] call rest = refl
 told-at z l (c ∷ cs) call rest = told-at z (ledgerStep z l c .next) cs call rest
@@ -52,7 +52,7 @@ told-later z l (c ∷ cs) call rest n =
     ∙ told-later z (ledgerStep z l c .next) cs call rest n
 
 -- what a run told is what the ledger tells
-ran : (suite : Suite) (K : List ℕ) (z : Sizes) (calls : List Call) (told : List Told) → Ran suite K z calls told → told ≡ ledgerTells (boundsOf z) empty calls
+pub ran : (suite : Suite) (K : List ℕ) (z : Sizes) (calls : List Call) (told : List Told) → Ran suite K z calls told → told ≡ ledgerTells (boundsOf z) empty calls
 ran suite K z calls told r = unfold Claim in (r .run ∙ claim suite K z calls (r .key-length) (r .sizes) (r .keys) (r .premise))
 
 -- (d)
@@ -65,10 +65,26 @@ clients-alike suite K z calls calls′ told told′ e r r′ =
 
 -- ---- (b)
 
+same-least : (z : Bounds) (l l′ : Ledger) (f : Field) (fs : List Field) → ((g : Field) → ledgerSum z l′ g ≡ ledgerSum z l g) → leastMade z l′ f fs ≡ leastMade z l f fs
+same-least z l l′ f [] e = refl
+same-least z l l′ f (g ∷ gs) e =
+    ap₂ (λ (a b : ℕ). leastMade z l′ (cond (ltb a b) g f) gs) (e g) (e f) ∙ same-least z l l′ (cond (ltb (ledgerSum z l g) (ledgerSum z l f)) g f) gs e
+
+same-joint : (z : Bounds) (l l′ : Ledger) (fs : List Field) → l′ .entries ≡ l .entries → ledgerJointIds z l′ fs ≡ ledgerJointIds z l fs
+same-joint z l l′ [] e = refl
+same-joint z l l′ (f ∷ fs) e =
+    let h : ledgerHas z l′ ≡ ledgerHas z l = unfold ledgerHas in rw e refl in
+    let i : ledgerIds z l′ ≡ ledgerIds z l = unfold ledgerIds ledgerLists in rw e refl in
+    let s : (g : Field) → ledgerSum z l′ g ≡ ledgerSum z l g = λ g. unfold ledgerSum in rw e refl in
+    ap₂ (λ (has : List ℕ → Field → Bool) (ids : Field → List (List ℕ)). select (λ id. allOf (has id) (f ∷ fs)) (ids (leastMade z l′ f fs))) h i
+    ∙ ap (λ (g : Field). select (λ id. allOf (ledgerHas z l id) (f ∷ fs)) (ledgerIds z l g)) (same-least z l l′ f fs s)
+
 same-query : (z : Bounds) (l l′ : Ledger) (query : Query) → l′ .entries ≡ l .entries → ledgerStep z l′ (callOf query) .told ≡ ledgerStep z l (callOf query) .told
-unfolding ledgerStep ledgerFindVerdict ledgerIds ledgerLists ledgerSum
+unfolding ledgerStep ledgerFindVerdict ledgerIds ledgerLists ledgerSum ledgerHas ledgerJointVerdict
 same-query z l l′ (finding key f output) e = rw e refl
 same-query z l l′ (counting key f) e = rw e refl
+same-query z l l′ (testing key f id) e = rw e refl
+same-query z l l′ (joining parts output) e = rw (same-joint z l l′ (map (λ (q : Part). q .field) parts) e) refl
 
 compaction-entries : (z : Bounds) (l : Ledger) (key nonces : List ℕ) → ledgerStep z l (Call.compact key nonces) .next .entries ≡ l .entries
 unfolding ledgerStep afterCompaction
@@ -92,12 +108,12 @@ compaction-hidden suite K z first key nonces query told told′ r r′ =
 -- ---- a find's ids
 
 -- an accepted answer was not refused
-accepted-none : (o : Option Answer) (l : List ℕ) (rest : List ℕ) → ((r : Answer) → o ≡ some r → accepted (record { answer = r; output = rest }) ≡ false) → accepted (record { answer = answerOr o (done l); output = rest }) ≡ true → o ≡ none
+pub accepted-none : (o : Option Answer) (l : List ℕ) (rest : List ℕ) → ((r : Answer) → o ≡ some r → accepted (record { answer = r; output = rest }) ≡ false) → accepted (record { answer = answerOr o (done l); output = rest }) ≡ true → o ≡ none
 accepted-none none l rest h e = refl
 accepted-none (some r) l rest h e = absurd (true≢false (sym e ∙ h r refl))
 
 -- every refusal is one
-verdict-refuses : (ts : List Test) (r : Answer) (output : List ℕ) → verdict ts ≡ some r → accepted (record { answer = r; output = output }) ≡ false
+pub verdict-refuses : (ts : List Test) (r : Answer) (output : List ℕ) → verdict ts ≡ some r → accepted (record { answer = r; output = output }) ≡ false
 verdict-refuses [] r output e = absurd (let w : _≡_ {A = ℕ} 0 1 = cc in omega arith)
 verdict-refuses ((Test._⇒_ b n) ∷ ts) r output e = go b e (verdict-refuses ts r output)
   where
@@ -110,7 +126,7 @@ verdict-refuses ((Test._⇒_carrying_ b n l) ∷ ts) r output e = go b e (verdic
     go true e k = let q : refused n l ≡ r = cc in rw (← q) refl
     go false e k = k e
 
-find-tells : (z : Bounds) (l : Ledger) (key : List ℕ) (f : Field) (output : List ℕ) → accepted (ledgerStep z l (Call.find key f output) .told) ≡ true
+pub find-tells : (z : Bounds) (l : Ledger) (key : List ℕ) (f : Field) (output : List ℕ) → accepted (ledgerStep z l (Call.find key f output) .told) ≡ true
     → Finds (ledgerStep z l (Call.find key f output) .told) output (ledgerIds z l f)
 unfolding ledgerStep ledgerFindVerdict
 find-tells z l key f output a =
@@ -139,7 +155,7 @@ flat-select p g (suc n) =
     ∙ sym (select-append p (flat (map g (upTo n))) (g (suc n)))
     ∙ ap (select p) (sym (flat-upTo g n))
 
-mem-upTo : (g : ℕ → List (List ℕ)) (id : List ℕ) (n u : ℕ) → u ≤ n → List·Memᴰ id (g u) → List·Memᴰ id (flat (map g (upTo n)))
+pub mem-upTo : (g : ℕ → List (List ℕ)) (id : List ℕ) (n u : ℕ) → u ≤ n → List·Memᴰ id (g u) → List·Memᴰ id (flat (map g (upTo n)))
 mem-upTo g id zero u h m =
     let e : u ≡ 0 = omega arith in
     let k : List·Memᴰ id (g 0) = rw e at m in
@@ -162,7 +178,7 @@ erased-lists z l id f =
     ∙ flat-select (λ y. not (same y id)) (λ u. entryOf (record { field = f; u = u }) (l .entries) .ids) (z .p)
 
 -- each once, a find's ids are the distinct ones of the lists
-ids-are : (z : Bounds) (l : Ledger) (f : Field) → ledgerIds z l f ≡ distinct (ledgerLists z l f)
+pub ids-are : (z : Bounds) (l : Ledger) (f : Field) → ledgerIds z l f ≡ distinct (ledgerLists z l f)
 unfolding ledgerIds
 ids-are z l f = unseen-distinct (ledgerLists z l f)
 
@@ -176,10 +192,10 @@ erased-ids z l id f =
 erase-next : (z : Bounds) (l : Ledger) (id : List ℕ) → accepted (ledgerStep z l (Call.erase id) .told) ≡ true → ledgerStep z l (Call.erase id) .next ≡ afterErase z l id
 unfolding ledgerStep
 erase-next z l id a =
-    let v = accepted-none (verdict (eraseInputTests id)) _ [] (λ r e. verdict-refuses (eraseInputTests id) r [] e) a in
+    let v = accepted-none (verdict (idTests id)) _ [] (λ r e. verdict-refuses (idTests id) r [] e) a in
     rw v refl
 
-finds-as : (t t′ : Told) (lent : List ℕ) (found found′ : List (List ℕ)) → t ≡ t′ → found′ ≡ found → Finds t′ lent found′ → Finds t lent found
+pub finds-as : (t t′ : Told) (lent : List ℕ) (found found′ : List (List ℕ)) → t ≡ t′ → found′ ≡ found → Finds t′ lent found′ → Finds t lent found
 finds-as t t′ lent found found′ e q h = record { answer = rw (e, ← q) (h .answer); output = rw (e, ← q) (h .output) }
 
 pub erase-exact : (suite : Suite) → EraseExact suite
@@ -221,7 +237,7 @@ has-step z l pr id (Call.insert key f p u nonce ids nonces) k m = go (ledgerInse
     go : (o : Option Answer) → Has (nextOr z l o (afterInsert z l f u ids)) pr id
     go none = has-insert z l id f u ids pr m
     go (some r) = m
-has-step z l pr id (Call.erase other) k m = go (verdict (eraseInputTests other))
+has-step z l pr id (Call.erase other) k m = go (verdict (idTests other))
   where
     go : (o : Option Answer) → Has (nextOr z l o (afterErase z l other)) pr id
     go none = unfold afterErase removed in
@@ -235,6 +251,8 @@ has-step z l pr id (Call.compact key nonces) k m = go (ledgerCompactVerdict z l 
     go none = unfold afterCompaction in m
     go (some r) = m
 has-step z l pr id Call.order k m = m
+has-step z l pr id (Call.test key f other) k m = m
+has-step z l pr id (Call.jointFind parts output) k m = m
 
 has-calls : (z : Bounds) (l : Ledger) (pr : Pair) (id : List ℕ) (calls : List Call) → All (Keeps id) calls → Has l pr id → Has (ledgerAfter z l calls) pr id
 has-calls z l pr id [] k m = m
@@ -248,11 +266,11 @@ share-within key f p u nonce e =
     let c = passed (ltb 15 p || ltb p u) _ _ (b .1) in
     ltb-false p u (neither (ltb 15 p) (ltb p u) (c .0) .1)
 
-record Entered (z : Bounds) (l : Ledger) (key : List ℕ) (f : Field) (p u : ℕ) (nonce ids nonces : List ℕ) : Type 0 where
-  next : ledgerStep z l (Call.insert key f p u nonce ids nonces) .next ≡ afterInsert z l f u ids
-  share : u ≤ z .p
+pub record Entered (z : Bounds) (l : Ledger) (key : List ℕ) (f : Field) (p u : ℕ) (nonce ids nonces : List ℕ) : Type 0 where
+  pub next : ledgerStep z l (Call.insert key f p u nonce ids nonces) .next ≡ afterInsert z l f u ids
+  pub share : u ≤ z .p
 
-entered : (z : Bounds) (l : Ledger) (key : List ℕ) (f : Field) (p u : ℕ) (nonce ids nonces : List ℕ) → accepted (ledgerStep z l (Call.insert key f p u nonce ids nonces) .told) ≡ true
+pub entered : (z : Bounds) (l : Ledger) (key : List ℕ) (f : Field) (p u : ℕ) (nonce ids nonces : List ℕ) → accepted (ledgerStep z l (Call.insert key f p u nonce ids nonces) .told) ≡ true
     → Entered z l key f p u nonce ids nonces
 unfolding ledgerStep ledgerInsertVerdict
 entered z l key f p u nonce ids nonces a =
@@ -272,6 +290,7 @@ entered z l key f p u nonce ids nonces a =
         ∷ Test._⇒_ (ltb (z .m) (Rattle.scheme.specs.Ledger.H l + idCount ids)) 15
         ∷ Test._⇒_ (ltb (z .c) (l .A + l .W + 1)) 16
         ∷ Test._⇒_ (ltb (z .s) (l .W + 1)) 17
+        ∷ Test._⇒_ (ltb (z .r) (Rattle.scheme.specs.Ledger.H l + idCount ids)) 21
         ∷ []
 
 has-new : (z : Bounds) (l : Ledger) (f : Field) (u : ℕ) (ids id : List ℕ) → List·Memᴰ id (idsIn ids) → Has (afterInsert z l f u ids) (record { field = f; u = u }) id
@@ -333,7 +352,7 @@ lacks-step z l id (Call.insert key f p u nonce ids nonces) k h = go (ledgerInser
     go : (o : Option Answer) → Lacks (nextOr z l o (afterInsert z l f u ids)) id
     go none = lacks-insert z l id f u ids k h
     go (some r) = h
-lacks-step z l id (Call.erase other) k h = go (verdict (eraseInputTests other))
+lacks-step z l id (Call.erase other) k h = go (verdict (idTests other))
   where
     go : (o : Option Answer) → Lacks (nextOr z l o (afterErase z l other)) id
     go none pr m = h pr (unfold afterErase removed in
@@ -347,6 +366,8 @@ lacks-step z l id (Call.compact key nonces) k h = go (ledgerCompactVerdict z l k
     go none = unfold afterCompaction in h
     go (some r) = h
 lacks-step z l id Call.order k h = h
+lacks-step z l id (Call.test key f other) k h = h
+lacks-step z l id (Call.jointFind parts output) k h = h
 
 lacks-calls : (z : Bounds) (l : Ledger) (id : List ℕ) (calls : List Call) → All (BringsNot id) calls → Lacks l id → Lacks (ledgerAfter z l calls) id
 lacks-calls z l id [] k h = h
@@ -415,17 +436,19 @@ forms b e =
     let i = neither (not (inForm (widthOf tableV) (cut b .table tableV))) _ (g .1) in
     let j = neither (not (inForm (widthOf tableC) (cut b .table tableC))) _ (i .1) in
     let n = neither (not (inForm (widthOf tableS) (cut b .table tableS))) _ (j .1) in
-    by (g .0) (i .0) (j .0) (n .0)
+    let o = neither (not (inForm (widthOf tableR) (cut b .table tableR))) _ (n .1) in
+    by (g .0) (i .0) (j .0) (n .0) (o .0)
   where
     one : (k : Which) → not (inForm (widthOf k) (cut b .table k)) ≡ false → InForm (widthOf k) (cut b .table k)
     one k e = form-true (widthOf k) (cut b .table k) (not-false (inForm (widthOf k) (cut b .table k)) e)
 
-    by : not (inForm (widthOf tableM) (cut b .table tableM)) ≡ false → not (inForm (widthOf tableV) (cut b .table tableV)) ≡ false → not (inForm (widthOf tableC) (cut b .table tableC)) ≡ false → not (inForm (widthOf tableS) (cut b .table tableS)) ≡ false
+    by : not (inForm (widthOf tableM) (cut b .table tableM)) ≡ false → not (inForm (widthOf tableV) (cut b .table tableV)) ≡ false → not (inForm (widthOf tableC) (cut b .table tableC)) ≡ false → not (inForm (widthOf tableS) (cut b .table tableS)) ≡ false → not (inForm (widthOf tableR) (cut b .table tableR)) ≡ false
         → (k : Which) → InForm (widthOf k) (cut b .table k)
-    by g i j n tableM = one tableM g
-    by g i j n tableV = one tableV i
-    by g i j n tableC = one tableC j
-    by g i j n tableS = one tableS n
+    by g i j n o tableM = one tableM g
+    by g i j n o tableV = one tableV i
+    by g i j n o tableC = one tableC j
+    by g i j n o tableS = one tableS n
+    by g i j n o tableR = one tableR o
 
 pub rows-fix-table : RowsFixTable
 unfolding RowsFixTable
@@ -439,7 +462,7 @@ stands : (suite : Suite) (K : List ℕ) (z : Sizes) (calls : List Call) (told : 
     → Sim (record { suite = suite; K = K; z = z; calls = calls; key-length = r .key-length; sizes-good = r .sizes; premise = r .premise }) (length calls) (storeAfter suite calls (fresh z)) (ledgerAfter (boundsOf z) empty calls)
 stands suite K z calls told r =
     let x : Setting = record { suite = suite; K = K; z = z; calls = calls; key-length = r .key-length; sizes-good = r .sizes; premise = r .premise } in
-    rw (zero-add (length calls)) at (follows x calls 0 (fresh z) empty (omega arith) (λ f m. m) (r .keys) (begin x) .sim)
+    rw (zero-add (length calls)) at (follows x calls 0 (fresh z) empty (omega arith) (record { names = λ f m. m; brings = λ y m. m }) (r .keys) (begin x) .sim)
 
 pub rows-fix-store : (suite : Suite) → RowsFixStore suite
 unfolding RowsFixStore

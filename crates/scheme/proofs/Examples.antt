@@ -11,25 +11,29 @@ use Rattle.table.specs.Lists.{All}
 use Rattle.table.specs.Table.{lookup, holds, placeOf}
 use Rattle.scheme.specs.Suite.{Suite, number8, valueOf}
 use Rattle.scheme.specs.Labels.{sameField, fieldLengthsBad, sevens, label}
-use Rattle.scheme.specs.Keys.{KM, KC, KS, MTof, MEof, CLof, share, MT, ME, CL, CT, CE, insertToken, findToken, countToken, compactionToken, tokenP, tokenMT, tokenME, tokenCL, tokenLog, findMT, findME, findCL}
-use Rattle.scheme.specs.Store.{sizesBad, lengthFor, headerOf, sizesOf, cut, joined, headerBad, marksBad, formBad, markTests, stateTests, fresh, makeTests, make, entryTag, entryRow, reverseRow, counterTag, anchorTag, countedRow, counterRow, anchorRow, idIn, plainIn, clIn, logRow, reverseId, reverseTag}
+use Rattle.scheme.specs.Keys.{KM, KC, KS, MTof, MEof, CLof, share, MT, ME, CL, CT, CE, insertToken, findToken, countToken, compactionToken, RL, markToken, partToken, tokenP, tokenMT, tokenME, tokenCL, tokenLog, tokenRL, findMT, findME, findCL, partFind, partRL}
+use Rattle.scheme.specs.Store.{sizesBad, lengthFor, headerOf, sizesOf, cut, joined, headerBad, marksBad, formBad, markTests, stateTests, fresh, makeTests, make, entryTag, entryRow, reverseRow, counterTag, anchorTag, countedRow, counterRow, anchorRow, idIn, plainIn, clIn, logRow, reverseId, reverseTag, rMark, labelRow, labelId, labelNonce, labelMark}
 use Rattle.scheme.specs.Reading.{numbersAt, anchorsHeld, anchorNumbers, startOf, countersHeld, counterNumbers, isDamage, reading}
-use Rattle.scheme.specs.Refusals.{insertTokenTests, fieldTokenTests, keyTests, insertInputTests, eraseInputTests, compactionInputTests, tokenTests}
+use Rattle.scheme.specs.Refusals.{insertTokenTests, fieldTokenTests, keyTests, insertInputTests, idTests, compactionInputTests, tokenTests, partTests}
 use Rattle.scheme.specs.Insert
-use Rattle.scheme.specs.Insert.{insertReading, newCount, insertStateTests, insertVerdict, newEntries, newReverses, newCounter, newLog, insertedStore}
-use Rattle.scheme.specs.Erase.{eraseVerdict, isReverse, erasedTags, isErased, erasedStore, erase}
+use Rattle.scheme.specs.Insert.{insertReading, newCount, insertStateTests, insertVerdict, newEntries, newReverses, newCounter, newLog, counterNonce, labelNonces, newLabels, insertedStore}
+use Rattle.scheme.specs.Erase.{eraseVerdict, isReverse, erasedTags, isErased, isLabel, erasedStore, erase}
 use Rattle.scheme.specs.Find.{shareReading, idsOfShare, idsHeld, idsFound, findVerdict, find}
 use Rattle.scheme.specs.Count
 use Rattle.scheme.specs.RowsRead.{anchorRows, counterRows, readingRows}
 use Rattle.scheme.specs.Count.{countVerdict, sumOfCounts, shareRows, rowsRead, mostRows}
+use Rattle.scheme.specs.Test
+use Rattle.scheme.specs.Test.{carries, testVerdict}
+use Rattle.scheme.specs.JointFind
+use Rattle.scheme.specs.JointFind.{partDamaged, partSum, partIds, partTest, chosenAt, chosenPart, idsKept, jointVerdict}
 use Rattle.scheme.specs.Compaction
 use Rattle.scheme.specs.Compaction.{freedCounters, nextAnchor, anchoredTable, logOf, freeLog, compactVerdict, logged, compactedStore, treated}
 use Rattle.scheme.specs.Order
 use Rattle.scheme.specs.Order.{usedInAll, orderVerdict, orderedStore}
 use Rattle.table.specs.Looked.{smallerRows, lookedAt}
 use Rattle.table.specs.Order.{inForm, arranged, reordered, withRows, closed}
-use Rattle.scheme.specs.Ledger.{samePair, empty, H, removed, withPair, ledgerInsertVerdict, appended, afterInsert, afterErase, ledgerLists, ledgerIds, ledgerSum, ledgerFindVerdict, ledgerCompactVerdict, afterCompaction, ledgerStep}
-use Rattle.scheme.specs.Run.{insertCall, findCall, countCall, compactCall}
+use Rattle.scheme.specs.Ledger.{samePair, empty, H, removed, withPair, ledgerInsertVerdict, appended, afterInsert, afterErase, ledgerLists, ledgerIds, ledgerSum, ledgerFindVerdict, ledgerHas, ledgerJointVerdict, ledgerCompactVerdict, afterCompaction, ledgerStep}
+use Rattle.scheme.specs.Run.{insertCall, findCall, countCall, compactCall, testCall, jointCall}
 use Rattle.scheme.specs.Example.{Holds}
 use Rattle.scheme.specs.Examples.{examples}
 use Rattle.octets.specs.Number.{bytes, continued}
@@ -61,6 +65,6 @@ small = record {
 }
 
 pub examples-hold : All Holds (examples small)
-unfolding bytes continued lookup holds placeOf number8 valueOf sameField fieldLengthsBad sevens label KM KC KS MTof MEof CLof share MT ME CL CT CE insertToken findToken countToken compactionToken tokenP tokenMT tokenME tokenCL tokenLog findMT findME findCL sizesBad lengthFor headerOf sizesOf cut joined headerBad marksBad stateTests fresh makeTests make entryTag entryRow reverseRow counterTag anchorTag countedRow counterRow anchorRow idIn plainIn clIn logRow reverseId reverseTag numbersAt anchorsHeld anchorNumbers startOf countersHeld counterNumbers isDamage reading insertTokenTests fieldTokenTests keyTests insertInputTests eraseInputTests compactionInputTests tokenTests insertReading newCount insertStateTests insertVerdict newEntries newReverses newCounter newLog insertedStore eraseVerdict isReverse erasedTags isErased erasedStore erase shareReading idsOfShare idsHeld idsFound findVerdict find countVerdict sumOfCounts smallerRows lookedAt anchorRows counterRows readingRows shareRows rowsRead mostRows Count.count logOf freeLog compactVerdict freedCounters nextAnchor logged compactedStore samePair empty H removed withPair ledgerInsertVerdict appended afterInsert afterErase ledgerLists ledgerIds ledgerSum ledgerFindVerdict ledgerCompactVerdict afterCompaction ledgerStep insertCall findCall countCall compactCall Insert.insert Compaction.compact treated anchoredTable inForm arranged reordered withRows closed formBad markTests usedInAll orderVerdict orderedStore Order.order
+unfolding bytes continued lookup holds placeOf number8 valueOf sameField fieldLengthsBad sevens label KM KC KS MTof MEof CLof share MT ME CL CT CE insertToken findToken countToken compactionToken tokenP tokenMT tokenME tokenCL tokenLog findMT findME findCL sizesBad lengthFor headerOf sizesOf cut joined headerBad marksBad stateTests fresh makeTests make entryTag entryRow reverseRow counterTag anchorTag countedRow counterRow anchorRow idIn plainIn clIn logRow reverseId reverseTag numbersAt anchorsHeld anchorNumbers startOf countersHeld counterNumbers isDamage reading insertTokenTests fieldTokenTests keyTests insertInputTests idTests compactionInputTests tokenTests insertReading newCount insertStateTests insertVerdict newEntries newReverses newCounter newLog insertedStore eraseVerdict isReverse erasedTags isErased erasedStore erase shareReading idsOfShare idsHeld idsFound findVerdict find countVerdict sumOfCounts smallerRows lookedAt anchorRows counterRows readingRows shareRows rowsRead mostRows Count.count logOf freeLog compactVerdict freedCounters nextAnchor logged compactedStore samePair empty H removed withPair ledgerInsertVerdict appended afterInsert afterErase ledgerLists ledgerIds ledgerSum ledgerFindVerdict ledgerCompactVerdict afterCompaction ledgerStep insertCall findCall countCall compactCall Insert.insert Compaction.compact treated anchoredTable inForm arranged reordered withRows closed formBad markTests usedInAll orderVerdict orderedStore Order.order RL markToken partToken tokenRL partFind partRL rMark labelRow labelId labelNonce labelMark partTests counterNonce labelNonces newLabels isLabel carries Test.tests testVerdict Test.test partDamaged partSum partIds partTest chosenAt chosenPart idsKept jointVerdict JointFind.jointFind ledgerHas ledgerJointVerdict testCall jointCall
 examples-hold =
-    (refl, (refl, (refl, (refl, (refl, (refl, (refl, (refl, (refl, (refl, (refl, (refl, ((λ suite k l nonce id. refl), (refl, (refl, (refl, (refl, (refl, (refl, tt)))))))))))))))))))
+    (refl, (refl, (refl, (refl, (refl, (refl, (refl, (refl, (refl, (refl, (refl, (refl, (refl, (refl, ((λ suite k l nonce id. refl), (refl, (refl, (refl, (refl, (refl, (refl, (refl, (refl, tt)))))))))))))))))))))))

@@ -16,7 +16,7 @@ use Rattle.table.proofs.Rows.{flat-length, rows-flat, rows-length, rows-wide}
 use Rattle.table.proofs.Walk.{flat-rows, rows-take}
 use Rattle.scheme.specs.Store.{Sizes, Which, plan, widthOf, rowsOf, rankOf, sameTable, headerLength, startFrom, endFrom, startOf, lengthFor, sizesOf, Store, cut, joinedFrom, joined, instead, putIn}
 use Rattle.scheme.specs.Layout.{Span, spanOf, Wide, Laid}
-pub use Rattle.scheme.specs.Store.{tableM, tableV, tableC, tableS}
+pub use Rattle.scheme.specs.Store.{tableM, tableV, tableC, tableS, tableR}
 
 -- ---- the plan: what changes here with another table
 
@@ -25,13 +25,15 @@ abbrev tableAt : ℕ → Which
 tableAt zero = tableM
 tableAt (suc zero) = tableV
 tableAt (suc (suc zero)) = tableC
-tableAt (suc (suc (suc n))) = tableS
+tableAt (suc (suc (suc zero))) = tableS
+tableAt (suc (suc (suc (suc n)))) = tableR
 
 table-at : (k : Which) → tableAt (rankOf k) ≡ k
 table-at tableM = refl
 table-at tableV = refl
 table-at tableC = refl
 table-at tableS = refl
+table-at tableR = refl
 
 -- k is none of these tables
 abbrev Absent : Which → List Which → Type 0
@@ -44,10 +46,11 @@ data At (k : Which) : List Which → Type 0 where
   there : {j : Which} {js : List Which} → sameTable j k ≡ false → At k js → At k (j ∷ js)
 
 planned : (k : Which) → At k plan
-planned tableM = here {js = drop 1 plan} (refl, (refl, (refl, tt)))
-planned tableV = there refl (here {js = drop 2 plan} (refl, (refl, tt)))
-planned tableC = there refl (there refl (here {js = drop 3 plan} (refl, tt)))
-planned tableS = there refl (there refl (there refl (here {js = drop 4 plan} tt)))
+planned tableM = here {js = drop 1 plan} (refl, (refl, (refl, (refl, tt))))
+planned tableV = there refl (here {js = drop 2 plan} (refl, (refl, (refl, tt))))
+planned tableC = there refl (there refl (here {js = drop 3 plan} (refl, (refl, tt))))
+planned tableS = there refl (there refl (there refl (here {js = drop 4 plan} (refl, tt))))
+planned tableR = there refl (there refl (there refl (there refl (here {js = drop 5 plan} tt))))
 
 -- the tables of a list start one after the other from a place on
 abbrev Starts : (Which → ℕ) → (Which → ℕ) → ℕ → List Which → Type 0
@@ -55,10 +58,10 @@ Starts n start a [] = Unit {0}
 Starts n start a (k ∷ ks) = (start k ≡ a) × Starts n start (a + widthOf k * n k) ks
 
 starts : (z : Sizes) → Starts (rowsOf z) (startOf z) headerLength plan
-starts z = (refl, (refl, (refl, (refl, tt))))
+starts z = (refl, (refl, (refl, (refl, (refl, tt)))))
 
--- the length as a formula [01:ST3]
-pub length-is : (z : Sizes) → lengthFor z ≡ 8 + 110 * z .m + 61 * z .c + 45 * z .s
+-- the length as a formula [01:ST3] [02:W4.8]
+pub length-is : (z : Sizes) → lengthFor z ≡ 10 + 110 * z .m + 61 * z .c + 45 * z .s + 61 * z .r
 unfolding lengthFor
 length-is z = omega arith
 

@@ -13,10 +13,10 @@ use Rattle.table.specs.Lists.{same, flat}
 use Rattle.table.proofs.Counting.{same-true, same-ne}
 use Rattle.scheme.specs.Suite.{Suite, number8, valueOf}
 use Rattle.scheme.specs.Labels.{Field, label, fieldLengthsBad}
-use Rattle.scheme.specs.Keys.{MT, CL, MTof, CLof, KM, KC, share, CT}
-use Rattle.scheme.specs.Store.{entryTag, counterTag, anchorTag}
+use Rattle.scheme.specs.Keys.{MT, CL, RL, MTof, CLof, KM, KC, share, CT}
+use Rattle.scheme.specs.Store.{entryTag, counterTag, anchorTag, rMark}
 use Rattle.scheme.specs.Call.{Call}
-use Rattle.scheme.specs.Premise.{fieldsOf, Named, From1, Kind, counter, anchor, tagOf, Premise}
+use Rattle.scheme.specs.Premise.{fieldsOf, Labelling, labellingsOf, Named, From1, Kind, counter, anchor, tagOf, Premise}
 use Rattle.scheme.proofs.Numbers.{number-length, number-value}
 use Rattle.scheme.proofs.Labels.{labels-differ}
 
@@ -25,7 +25,7 @@ abbrev pub namedIn : List Call → List Field
 namedIn calls = flat (map fieldsOf calls)
 
 -- ---- the premise from what document 01 says: fields named in the list, of valid lengths; shares 0 to p; addresses 1 to 64 × n; positions
--- and anchor numbers 1 to n + 1 [01:LG13]
+-- and anchor numbers 1 to n + 1 [01:LG13]; each nonce with its id in the list [02:W4.27]
 
 module _ (suite : Suite) (K : List ℕ) (p : ℕ) (calls : List Call)
     (entries : (f g : Field) (u v a b : ℕ) → List·Memᴰ f (namedIn calls) → List·Memᴰ g (namedIn calls) → fieldLengthsBad f ≡ false → fieldLengthsBad g ≡ false → u ≤ p → v ≤ p
@@ -33,13 +33,17 @@ module _ (suite : Suite) (K : List ℕ) (p : ℕ) (calls : List Call)
     → entryTag suite (MT suite K f u) a ≡ entryTag suite (MT suite K g v) b → (f ≡ g) × (u ≡ v) × (a ≡ b))
     (counters : (f g : Field) (u v : ℕ) (h k : Kind) (i j : ℕ) → List·Memᴰ f (namedIn calls) → List·Memᴰ g (namedIn calls) → fieldLengthsBad f ≡ false → fieldLengthsBad g ≡ false → u ≤ p → v ≤ p
     → 1 ≤ i → i ≤ length calls + 1 → 1 ≤ j → j ≤ length calls + 1
-    → tagOf suite (CL suite K f u) h i ≡ tagOf suite (CL suite K g v) k j → (f ≡ g) × (u ≡ v) × (h ≡ k) × (i ≡ j)) where
+    → tagOf suite (CL suite K f u) h i ≡ tagOf suite (CL suite K g v) k j → (f ≡ g) × (u ≡ v) × (h ≡ k) × (i ≡ j))
+    (marks : (f g : Field) (y : Labelling) → List·Memᴰ f (namedIn calls) → List·Memᴰ g (namedIn calls) → fieldLengthsBad f ≡ false → fieldLengthsBad g ≡ false
+    → List·Memᴰ y (flat (map labellingsOf calls))
+    → rMark suite (RL suite K f) (y .nonce) (y .id) ≡ rMark suite (RL suite K g) (y .nonce) (y .id) → f ≡ g) where
   pub premise-from : Premise suite K p calls
   premise-from = record {
     entries = λ f g u v a b nf ng ia ib e.
         entries f g u v a b (nf .named) (ng .named) (nf .valid) (ng .valid) (nf .shared) (ng .shared) (ia .low) (ia .high) (ib .low) (ib .high) e;
     counters = λ f g u v h k i j nf ng ii ij e.
         counters f g u v h k i j (nf .named) (ng .named) (nf .valid) (ng .valid) (nf .shared) (ng .shared) (ii .low) (ii .high) (ij .low) (ij .high) e;
+    marks = λ f g y nf ng m e. marks f g y (nf .named) (ng .named) (nf .valid) (ng .valid) m e;
   }
 
 -- ---- the index of a label among those of some fields; their number for any other message
@@ -154,6 +158,10 @@ module _ (fs : List Field) where
   counter-is K f u counter i = refl
   counter-is K f u anchor i = refl
 
+  mark-is : (K : List ℕ) (f : Field) (n id : List ℕ) → rMark (spelling fs) (RL (spelling fs) K f) n id ≡ spell fs (spell fs (spell fs K (number8 4)) (label f)) (n ++ id)
+  unfolding rMark RL
+  mark-is K f n id = refl
+
 -- ---- numbers and kinds
 
 front-nine : (x : List ℕ) → length x ≡ 9 → front x ≡ reverse x
@@ -235,5 +243,16 @@ module _ (K : List ℕ) (p : ℕ) (calls : List Call) (few : 64 * length calls +
         numbers i j (omega arith) (omega arith) (tail-eq-of-cons-eq w),
       )
 
+  label-marks : (f g : Field) (y : Labelling) → Named p calls f 0 → Named p calls g 0 → List·Memᴰ y (flat (map labellingsOf calls))
+      → rMark suite (RL suite K f) (y .nonce) (y .id) ≡ rMark suite (RL suite K g) (y .nonce) (y .id)
+      → f ≡ g
+  label-marks f g y nf ng m q =
+      let fs = namedIn calls in
+      let x = spell fs K (number8 4) in
+      let e = sym (mark-is fs K f (y .nonce) (y .id)) ∙ q ∙ mark-is fs K g (y .nonce) (y .id) in
+      let r : code fs (label f) ≡ code fs (label g) =
+      sym (second fs x (label f) (y .nonce ++ y .id)) ∙ ap (λ (l : List ℕ). take 10 (drop 10 l)) e ∙ second fs x (label g) (y .nonce ++ y .id) in
+      same-field f g 0 0 nf ng (head-eq-of-cons-eq r)
+
   pub premise-met : Premise (spelling (namedIn calls)) K p calls
-  premise-met = record { entries = entry-tags; counters = counter-tags }
+  premise-met = record { entries = entry-tags; counters = counter-tags; marks = label-marks }

@@ -1,6 +1,6 @@
 -- Erase, find and count tell what the ledger tells.
 use Prim.Native.Nat.{ℕ, suc, _+_, _*_, _≤_}
-use mathlib.Core.Path.{_≡_, refl, sym, ap, _∙_, fun-ext}
+use mathlib.Core.Path.{_≡_, refl, sym, ap, subst, _∙_, fun-ext}
 use mathlib.Core.Bool.{false, not}
 use mathlib.Core.Logic.{_⊎_}
 use mathlib.Core.Option.{Option, none, some}
@@ -17,13 +17,13 @@ use Rattle.table.proofs.Order.{reordered-form}
 use Rattle.table.proofs.Counting.{count-le, Same-refl}
 use Rattle.scheme.specs.Labels.{Field, fieldLengthsBad}
 use Rattle.scheme.specs.Keys.{MT, ME, CL, MTof, MEof, CLof, findToken, findTokenLength, countToken, countTokenLength, findMT, findME, findCL}
-use Rattle.scheme.specs.Store.{Which, Store, tableM, tableV, tableC, tableS, widthOf, cut, joined, putIn, sizesOf, headerBad, marksBad, formBad, markTests, stateTests, reverseId, reverseTag}
+use Rattle.scheme.specs.Store.{Which, Store, tableM, tableV, tableC, tableS, tableR, widthOf, cut, joined, putIn, sizesOf, headerBad, marksBad, formBad, markTests, stateTests, reverseId, reverseTag, labelId}
 use Rattle.scheme.specs.Reading
 use Rattle.scheme.specs.Reading.{Reading, reading, damaged, countOf}
-use Rattle.scheme.specs.Refusals.{Result, eraseInputTests, fieldTokenTests, tokenTests, lengthNot}
+use Rattle.scheme.specs.Refusals.{Result, idTests, fieldTokenTests, tokenTests, lengthNot}
 use Rattle.answer.specs.Verdict.{Test, _⇒_, _⇒_carrying_, verdict, answerOr, unlessRefused}
 use Rattle.scheme.specs.Erase
-use Rattle.scheme.specs.Erase.{eraseVerdict, isReverse, erasedTags, isErased, erasedStore}
+use Rattle.scheme.specs.Erase.{eraseVerdict, isReverse, erasedTags, isErased, isLabel, erasedStore}
 use Rattle.scheme.specs.Find
 use Rattle.scheme.specs.Find.{shareReading, idsOfShare, idsHeld, idsFound, findVerdict}
 use Rattle.scheme.specs.Count
@@ -40,8 +40,9 @@ use Rattle.scheme.proofs.Setting.{Setting, OK, clOf}
 use Rattle.scheme.proofs.Shape.{closed-ok, shaped-put, used-le, sizes-is, cut-joined, header-good, marks-is, form-is}
 use Rattle.scheme.proofs.Counters.{runOf, reading-is}
 use Rattle.scheme.proofs.Entries.{entries-as, ids-to, entries-erase, erase-count, erasedIn}
+use Rattle.scheme.proofs.Marks.{Marks, marks-erase}
 use Rattle.scheme.proofs.LedgerLaws.{entry-removed, listed-removed}
-use Rattle.scheme.proofs.Simulation.{madeIn, listIn, logIn, Sim, used-M, used-V, log-used, later, counters-later, counters-as}
+use Rattle.scheme.proofs.Simulation.{madeIn, listIn, logIn, Sim, used-M, used-V, used-R, log-used, later, counters-later, counters-as}
 use Rattle.scheme.proofs.Verdicts.{orElse, verdict-append, or-none, passed, view-refused, key-is, length-refused, map-upTo, none-upTo}
 
 -- a call gives its result
@@ -104,9 +105,9 @@ module _ (x : Setting) where
         ∙ ap (λ (f : Which → Table). joined (record { header = s .st .header; table = f })) (fun-ext (λ k. reordered-form (widthOf k) (s .st .table k) (s .shaped .tables k .form)))
         ∙ sym (s .bytes)
 
-    used-is : usedInAll (cut before) ≡ 2 * H l + l .A + 2 * l .W
+    used-is : usedInAll (cut before) ≡ 3 * H l + l .A + 2 * l .W
     unfolding usedInAll
-    used-is = rw cut-is (omega (arith, used-M x i before l s, used-V x i before l s, log-used x i before l s, s .counters .total, s .W-is))
+    used-is = rw cut-is (omega (arith, used-M x i before l s, used-V x i before l s, used-R x i before l s, log-used x i before l s, s .counters .total, s .W-is))
 
     pub order-step : After i Call.order l (toldBy Call.order (Order.order before)) (Order.order before .store)
     unfolding ledgerStep Order.order
@@ -117,16 +118,20 @@ module _ (x : Setting) where
 
     -- ---- erase
 
-    erase-verdict : (id : List ℕ) → eraseVerdict before id ≡ verdict (eraseInputTests id)
+    erase-verdict : (id : List ℕ) → eraseVerdict before id ≡ verdict (idTests id)
     unfolding eraseVerdict
     erase-verdict id =
-        verdict-append (eraseInputTests id) (stateTests before)
-        ∙ ap (orElse (verdict (eraseInputTests id))) (ap verdict (sym (append-nil (stateTests before))) ∙ states-pass [])
-        ∙ or-none (verdict (eraseInputTests id))
+        verdict-append (idTests id) (stateTests before)
+        ∙ ap (orElse (verdict (idTests id))) (ap verdict (sym (append-nil (stateTests before))) ∙ states-pass [])
+        ∙ or-none (verdict (idTests id))
 
     reverse-is : (id : List ℕ) → isReverse before id ≡ (λ b. same (reverseId b) id)
     unfolding isReverse
     reverse-is id = refl
+
+    label-is : (id : List ℕ) → isLabel before id ≡ (λ b. same (labelId b) id)
+    unfolding isLabel
+    label-is id = refl
 
     erased-is : (id : List ℕ) → isErased before id ≡ erasedIn x (s .st .table tableV) id
     unfolding isErased erasedTags isReverse
@@ -134,12 +139,13 @@ module _ (x : Setting) where
 
     abbrev erasedSt : List ℕ → Store
     erasedSt id =
-        putIn tableV (closed (widthOf tableV) (λ b. same (reverseId b) id) (s .st .table tableV))
-        (putIn tableM (closed (widthOf tableM) (erasedIn x (s .st .table tableV) id) (s .st .table tableM)) (s .st))
+        putIn tableR (closed (widthOf tableR) (λ b. same (labelId b) id) (s .st .table tableR))
+        (putIn tableV (closed (widthOf tableV) (λ b. same (reverseId b) id) (s .st .table tableV))
+        (putIn tableM (closed (widthOf tableM) (erasedIn x (s .st .table tableV) id) (s .st .table tableM)) (s .st)))
 
     erased-store : (id : List ℕ) → erasedStore before id ≡ erasedSt id
     unfolding erasedStore
-    erased-store id = rw (erased-is id, reverse-is id, cut-is) refl
+    erased-store id = rw (erased-is id, reverse-is id, label-is id, cut-is) refl
 
     erase-sim : (id : List ℕ) → Sim x (suc i) (joined (erasedSt id)) (afterErase (boundsOf z) l id)
     unfolding afterErase
@@ -152,8 +158,9 @@ module _ (x : Setting) where
           st = erasedSt id;
           bytes = refl;
           shaped =
-              shaped-put z _ tableV _ (closed-ok tableV (z .m) (λ b. same (reverseId b) id) (s .st .table tableV) (s .shaped .tables tableV))
-              (shaped-put z (s .st) tableM _ (closed-ok tableM (z .m) (erasedIn x (s .st .table tableV) id) (s .st .table tableM) (s .shaped .tables tableM)) (s .shaped));
+              shaped-put z _ tableR _ (closed-ok tableR (z .r) (λ b. same (labelId b) id) (s .st .table tableR) (s .shaped .tables tableR))
+              (shaped-put z _ tableV _ (closed-ok tableV (z .m) (λ b. same (reverseId b) id) (s .st .table tableV) (s .shaped .tables tableV))
+              (shaped-put z (s .st) tableM _ (closed-ok tableM (z .m) (erasedIn x (s .st .table tableV) id) (s .st .table tableM) (s .shaped .tables tableM)) (s .shaped)));
           counters = counters-as x (s .st .table tableC) (logIn x (s .st .table tableS)) (l .A) (suc i) (madeIn l) (madeIn (afterErase (boundsOf z) l id)) em
               (counters-later x (s .st .table tableC) (logIn x (s .st .table tableS)) (l .A) i (madeIn l) hi (s .counters));
           entries =
@@ -163,6 +170,9 @@ module _ (x : Setting) where
               (λ q. select (λ y. not (same y id)) (listIn l q)) (listIn (afterErase (boundsOf z) l id)) (madeIn l) (madeIn (afterErase (boundsOf z) l id))
               refl refl (rw el (Same-refl (select (λ y. not (same y id)) (listed (l .entries))))) ei em
               (entries-erase x (s .st .table tableM) (s .st .table tableV) (listed (l .entries)) (listIn l) (madeIn l) (s .entries) id);
+          marks =
+              subst (λ (all : List (List ℕ)). Marks x (closed (widthOf tableR) (λ b. same (labelId b) id) (s .st .table tableR)) all (map (removed id) (l .entries))) (sym el)
+              (marks-erase x (s .st .table tableR) (listed (l .entries)) (l .entries) (s .marks) id);
           small = λ pr ok. let w = n .small pr ok in rw (em pr) w;
           W-is = s .W-is;
           T-length = s .T-length;
@@ -175,9 +185,9 @@ module _ (x : Setting) where
 
     pub erase-step : (id : List ℕ) (told : Told) (after : List ℕ) → Gives (Erase.erase before id) told after → After i (Call.erase id) l told after
     unfolding ledgerStep Erase.erase
-    erase-step id told after g = go (verdict (eraseInputTests id)) refl
+    erase-step id told after g = go (verdict (idTests id)) refl
       where
-        go : (o : Option Answer) → verdict (eraseInputTests id) ≡ o → After i (Call.erase id) l told after
+        go : (o : Option Answer) → verdict (idTests id) ≡ o → After i (Call.erase id) l told after
         go none e =
             let v = erase-verdict id ∙ e in
             let a : told .answer ≡ done (count (λ y. same y id) (listed (l .entries)) ∷ []) = g .answer ∙ rw v (ap (λ (n : ℕ). done (n ∷ [])) (erase-number id)) in
@@ -202,7 +212,7 @@ module _ (x : Setting) where
       pub key-is : key ≡ K
       pub valid : fieldLengthsBad f ≡ false
 
-    field-made : (key : List ℕ) (f : Field) → (key ≡ K) ⊎ (length key ≡ 32 → ⊥) → verdict (fieldTokenTests key f) ≡ none → Made key f
+    pub field-made : (key : List ℕ) (f : Field) → (key ≡ K) ⊎ (length key ≡ 32 → ⊥) → verdict (fieldTokenTests key f) ≡ none → Made key f
     unfolding fieldTokenTests
     field-made key f k e =
         let a = passed (lengthNot 32 key) _ _ e in
@@ -227,10 +237,10 @@ module _ (x : Setting) where
       count-is : (u : ℕ) → u ≤ z .p → countOf (shareReading suite before (CLof suite K f) u) ≡ madeIn l (pairAt f u)
       count-is u h = ap countOf (share-is u h)
 
-      none-damaged : anyOf (λ u. damaged (shareReading suite before (CLof suite K f) u)) (upTo (sizesOf before .p)) ≡ false
+      pub none-damaged : anyOf (λ u. damaged (shareReading suite before (CLof suite K f) u)) (upTo (sizesOf before .p)) ≡ false
       none-damaged = rw sizes-are (none-upTo (z .p) (λ u. damaged (shareReading suite before (CLof suite K f) u)) not-damaged)
 
-      sum-is : sumOfCounts suite before (CLof suite K f) ≡ ledgerSum (boundsOf z) l f
+      pub sum-is : sumOfCounts suite before (CLof suite K f) ≡ ledgerSum (boundsOf z) l f
       unfolding sumOfCounts ledgerSum
       sum-is = rw sizes-are (ap sum (map-upTo (z .p) (λ u. countOf (shareReading suite before (CLof suite K f) u)) (λ u. madeIn l (pairAt f u)) count-is))
 
@@ -263,7 +273,7 @@ module _ (x : Setting) where
       unfolding findME
       token-ME = ap (take 32) rest-is ∙ take-at (MEof suite K f) _ 32 ME-length
 
-      token-CL : findCL (findToken suite K f) ≡ CLof suite K f
+      pub token-CL : findCL (findToken suite K f) ≡ CLof suite K f
       unfolding findCL
       token-CL = sym (drop-drop 32 32 (findToken suite K f)) ∙ ap (drop 32) rest-is ∙ drop-at (MEof suite K f) _ 32 ME-length
 
@@ -290,7 +300,7 @@ module _ (x : Setting) where
       unfolding idsHeld ledgerLists
       held-is output = rw sizes-are (ap flat (map-upTo (z .p) (idsOfShare suite before (findToken suite K f)) (λ u. listIn l (pairAt f u)) (ids-is output)))
 
-      found-is : (output : List ℕ) → idsFound suite before (findToken suite K f) ≡ ledgerIds (boundsOf z) l f
+      pub found-is : (output : List ℕ) → idsFound suite before (findToken suite K f) ≡ ledgerIds (boundsOf z) l f
       unfolding idsFound ledgerIds
       found-is output = ap distinct (held-is output) ∙ sym (unseen-distinct (ledgerLists (boundsOf z) l f))
 

@@ -1,7 +1,7 @@
 -- What the proof of the claim works under, and what the premise gives: tags tell pairs, kinds and numbers apart.
 use Prim.Native.Nat.{ℕ, _+_, _*_, _≤_}
 use mathlib.Core.Path.{_≡_, refl, sym, ap, _∙_}
-use mathlib.Core.Bool.{Bool, true, false, _&&_, true≢false}
+use mathlib.Core.Bool.{Bool, true, false, true≢false}
 use mathlib.Core.Option
 use mathlib.Core.Option.{Option}
 use mathlib.Core.List.{List, _∷_, _++_}
@@ -14,7 +14,7 @@ use Rattle.table.specs.Lists.{same}
 use Rattle.table.specs.Table.{isFree, body, markOf}
 use Rattle.table.proofs.Counting.{both, same-true, same-refl}
 use Rattle.scheme.specs.Suite.{Suite, number8, valueOf}
-use Rattle.scheme.specs.Labels.{sameField}
+use Rattle.scheme.specs.Labels.{Field, sameField}
 use Rattle.scheme.specs.Keys.{MT, CL, CT, CE}
 use Rattle.scheme.specs.Store.{tableC, widthOf, Sizes, sizesBad, entryTag, counterTag, anchorTag, countedRow, plainIn}
 use Rattle.scheme.specs.Reading.{numbersAt}
@@ -34,19 +34,29 @@ pub record Setting : Type 0 where
 
 -- ---- pairs
 
+pub sameField-true : (f g : Field) → sameField f g ≡ true → f ≡ g
+unfolding sameField
+sameField-true f g e =
+    let h = both (same (f .name) (g .name)) (same (f .value) (g .value)) e in
+    let n = same-true (f .name) (g .name) (h .0) in
+    let v = same-true (f .value) (g .value) (h .1) in
+    λ i. record { name = n i; value = v i }
+
+pub sameField-refl : (f : Field) → sameField f f ≡ true
+unfolding sameField
+sameField-refl f = rw (same-refl (f .name), same-refl (f .value)) refl
+
 pub samePair-true : (a b : Pair) → samePair a b ≡ true → a ≡ b
-unfolding samePair sameField
+unfolding samePair
 samePair-true a b e =
-    let h = both (same (a .field .name) (b .field .name) && same (a .field .value) (b .field .value)) (eqb (a .u) (b .u)) e in
-    let k = both (same (a .field .name) (b .field .name)) (same (a .field .value) (b .field .value)) (h .0) in
-    let n = same-true (a .field .name) (b .field .name) (k .0) in
-    let v = same-true (a .field .value) (b .field .value) (k .1) in
+    let h = both (sameField (a .field) (b .field)) (eqb (a .u) (b .u)) e in
+    let f = sameField-true (a .field) (b .field) (h .0) in
     let w = eqb-true (a .u) (b .u) (h .1) in
-    λ i. record { field = record { name = n i; value = v i }; u = w i }
+    λ i. record { field = f i; u = w i }
 
 pub samePair-refl : (a : Pair) → samePair a a ≡ true
-unfolding samePair sameField
-samePair-refl a = rw (same-refl (a .field .name), same-refl (a .field .value), eq-eqb (a .u) (a .u) refl) refl
+unfolding samePair
+samePair-refl a = rw (sameField-refl (a .field), eq-eqb (a .u) (a .u) refl) refl
 
 pub samePair-ne : (a b : Pair) → (a ≡ b → ⊥) → samePair a b ≡ false
 samePair-ne a b h = go (samePair a b) refl

@@ -110,7 +110,8 @@ module _ (z : Sizes) (st : Store) (s : Shaped z st) where
       (let e : 256 * (z .m / 256) + z .m % 256 ≡ z .m = omega arith in
       let f : 256 * (z .c / 256) + z .c % 256 ≡ z .c = omega arith in
       let g : 256 * (z .s / 256) + z .s % 256 ≡ z .s = omega arith in
-      λ i. record { p = z .p; m = e i; c = f i; s = g i })
+      let h : 256 * (z .r / 256) + z .r % 256 ≡ z .r = omega arith in
+      λ i. record { p = z .p; m = e i; c = f i; s = g i; r = h i })
 
   pub cut-joined : cut (joined st) ≡ st
   cut-joined = cut-laid (joined st) st (subst (λ (y : Sizes). Laid (spanOf y) (joined st) st) (sym sizes-is) laid)
@@ -119,7 +120,7 @@ module _ (z : Sizes) (st : Store) (s : Shaped z st) where
   unfolding lengthFor
   whole = laid-length (spanOf z) (joined st) st laid
 
-  version-is : getD (joined st) 0 0 ≡ 1
+  version-is : getD (joined st) 0 0 ≡ 2
   unfolding joined headerOf
   version-is = rw (s .head) refl
 

@@ -10,7 +10,7 @@ use Rattle.table.specs.Table.{Table, used, lookup, zeroRow}
 use Rattle.table.proofs.Counting.{Same-refl, same-length}
 use Rattle.table.proofs.Rows.{used-zero}
 use Rattle.scheme.specs.Keys.{KS}
-use Rattle.scheme.specs.Store.{Store, tableM, tableV, tableC, tableS, widthOf, joined, fresh, clIn}
+use Rattle.scheme.specs.Store.{Store, tableM, tableV, tableC, tableS, tableR, widthOf, joined, fresh, clIn}
 use Rattle.scheme.specs.Compaction.{logOf}
 use Rattle.scheme.specs.Ledger.{Pair, Ledger, H, samePair, entryOf, listed, empty}
 use Rattle.scheme.specs.Premise.{Kind}
@@ -18,6 +18,8 @@ use Rattle.scheme.proofs.Setting.{Setting, OK, clOf, ctag}
 use Rattle.scheme.proofs.Shape.{Shaped, freshStore, fresh-shaped, fresh-is}
 use Rattle.scheme.proofs.Counters.{PairCounter, Counters, unchanged}
 use Rattle.scheme.proofs.Entries.{Item, Entries, itemM, itemV}
+use Rattle.scheme.proofs.Marks
+use Rattle.scheme.proofs.Marks.{Marks, itemR}
 
 abbrev pub madeIn : Ledger → Pair → ℕ
 madeIn l pr = entryOf pr (l .entries) .made
@@ -37,6 +39,7 @@ module _ (x : Setting) where
     pub shaped : Shaped z st
     pub counters : Counters x (st .table tableC) (logIn (st .table tableS)) (l .A) i (madeIn l)
     pub entries : Entries x (st .table tableM) (st .table tableV) (listed (l .entries)) (listIn l) (madeIn l)
+    pub marks : Marks x (st .table tableR) (listed (l .entries)) (l .entries)
     pub small : (pr : Pair) → OK x pr → madeIn l pr ≤ 64 * i
     pub W-is : l .W ≡ length (logIn (st .table tableS))
     pub T-length : length (l .T) ≡ length (distinct (logIn (st .table tableS)))
@@ -60,6 +63,15 @@ module _ (x : Setting) where
         let b = same-length (listed (l .entries)) (map (λ (g : Item). g .id) (s .entries .G)) (s .entries .listing) in
         let c = length-map (s .entries .G) (itemV x) in
         let d = length-map (s .entries .G) (λ (g : Item). g .id) in
+        omega arith
+
+    pub used-R : length (used (s .st .table tableR)) ≡ H l
+    unfolding H
+    used-R =
+        let a = same-length (used (s .st .table tableR)) (map (itemR x) (s .marks .G)) (s .marks .rowsR) in
+        let b = same-length (listed (l .entries)) (map (λ (g : Marks.Item). g .id) (s .marks .G)) (s .marks .listing) in
+        let c = length-map (s .marks .G) (itemR x) in
+        let d = length-map (s .marks .G) (λ (g : Marks.Item). g .id) in
         omega arith
 
     pub log-used : length (logIn (s .st .table tableS)) ≡ length (used (s .st .table tableS))
@@ -92,6 +104,7 @@ module _ (x : Setting) where
     shaped = s .shaped;
     counters = counters-later (s .st .table tableC) (logIn (s .st .table tableS)) (l .A) i (madeIn l) hi (s .counters);
     entries = s .entries;
+    marks = s .marks;
     small = λ pr ok. let w = s .small pr ok in omega arith;
     W-is = s .W-is;
     T-length = s .T-length;
@@ -152,6 +165,7 @@ module _ (x : Setting) where
       listing = Same-refl [];
       gathers = λ pr ok. refl;
     };
+    marks = record { G = []; good = tt; rowsR = rw (used-zero (widthOf tableR) (z .r)) (Same-refl []); listing = Same-refl []; held = λ id f. refl };
     small = λ pr ok. omega arith;
     W-is = rw fresh-log refl;
     T-length = rw fresh-log refl;

@@ -14,10 +14,10 @@ use Rattle.scheme.specs.Premise.{Premise, KeyFits}
 
 -- what the ledger knows of the store's sizes
 abbrev pub boundsOf : Sizes → Bounds
-boundsOf z = record { p = z .p; m = z .m; c = z .c; s = z .s }
+boundsOf z = record { p = z .p; m = z .m; c = z .c; s = z .s; r = z .r }
 
 -- for every master key of 32 bytes, all sizes in range, every list of calls with that key or keys of a refused length, under the
--- premise on tags: what the list tells on a fresh store is what the ledger tells [01:KT1 LG14 LG17 LG18 LG19] [02:W2.10]
+-- premise on tags: what the list tells on a fresh store is what the ledger tells [01:KT1 LG14 LG17 LG18 LG19] [02:W2.10 W4.26]
 unfoldable pub Claim : Suite → Type 0
 Claim suite =
     (K : List ℕ) (z : Sizes) (calls : List Call)

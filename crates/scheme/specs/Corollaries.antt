@@ -7,14 +7,14 @@ use lib.ListN.{length, getD, drop}
 use Rattle.answer.specs.Answer.{Answer, done, refused}
 use mathlib.Core.Option.{none}
 use Rattle.answer.specs.Verdict.{verdict}
-use Rattle.table.specs.Lists.{same, select, flat, All, Same}
+use Rattle.table.specs.Lists.{same, select, anyOf, allOf, flat, All, Same}
 use Rattle.table.specs.Order.{usedRows}
 use Rattle.scheme.specs.Suite.{Suite}
 use Rattle.scheme.specs.Labels.{Field}
 use Rattle.scheme.specs.Store.{Sizes, Which, rowsOf, sizesBad, sizesOf, cut, stateTests, fresh}
 use Rattle.scheme.specs.Refusals.{idsIn}
 use Rattle.scheme.specs.Call
-use Rattle.scheme.specs.Call.{Call, Told}
+use Rattle.scheme.specs.Call.{Call, Part, Told}
 use Rattle.scheme.specs.Run.{storeTells, storeAfter}
 use Rattle.scheme.specs.Premise.{Premise, KeyFits}
 use Rattle.scheme.specs.Ledger.{empty, ledgerLists, ledgerAfter}
@@ -57,6 +57,8 @@ Keeps id (Call.find key f output) = Unit {0}
 Keeps id (Call.count key f) = Unit {0}
 Keeps id (Call.compact key nonces) = Unit {0}
 Keeps id Call.order = Unit {0}
+Keeps id (Call.test key f other) = Unit {0}
+Keeps id (Call.jointFind parts output) = Unit {0}
 
 -- (a) no id is lost: one of an accepted insert that no later erase names is in every later accepted find of its field and value
 unfoldable pub NoIdLost : Suite → Type 0
@@ -69,16 +71,20 @@ NoIdLost suite =
     → accepted (toldAt told (length first + suc (length second))) ≡ true
     → FindsId (toldAt told (length first + suc (length second))) output id
 
--- a find or a count
+-- a find, a count, a test or a joint find
 pub data Query : Type 0 where
   finding : (key : List ℕ) (f : Field) (output : List ℕ) → Query
   counting : (key : List ℕ) (f : Field) → Query
+  testing : (key : List ℕ) (f : Field) (id : List ℕ) → Query
+  joining : (parts : List Part) (output : List ℕ) → Query
 
 abbrev pub callOf : Query → Call
 callOf (finding key f output) = Call.find key f output
 callOf (counting key f) = Call.count key f
+callOf (testing key f id) = Call.test key f id
+callOf (joining parts output) = Call.jointFind parts output
 
--- (b) compaction changes no find and no count: right after it they tell what they would have told right before it
+-- (b) compaction changes no find, count, test or joint find: right after it they tell what they would have told right before it
 unfoldable pub CompactionHidden : Suite → Type 0
 CompactionHidden suite =
     (K : List ℕ) (z : Sizes) (first : List Call) (key nonces : List ℕ) (query : Query) (told told′ : List Told)
@@ -111,6 +117,8 @@ BringsNot id (Call.find key f output) = Unit {0}
 BringsNot id (Call.count key f) = Unit {0}
 BringsNot id (Call.compact key nonces) = Unit {0}
 BringsNot id Call.order = Unit {0}
+BringsNot id (Call.test key f other) = Unit {0}
+BringsNot id (Call.jointFind parts output) = Unit {0}
 
 pub record FindsNoId (t : Told) (lent id : List ℕ) : Type 0 where
   pub found : List (List ℕ)
@@ -147,6 +155,23 @@ EachIdOnce suite =
     → Ran suite K z (first ++ (Call.find key f output ∷ third)) told
     → accepted (toldAt told (length first)) ≡ true
     → FindsOnce (toldAt told (length first)) output (ledgerLists (boundsOf z) (ledgerAfter (boundsOf z) empty first) f)
+
+-- a joint find told the ids that the own find of each field gives in its place, in the order of one of these
+pub record FindsJointly (suite : Suite) (K : List ℕ) (z : Sizes) (first : List Call) (parts : List Part) (t : Told) (lent : List ℕ) : Type 0 where
+  pub own : Part → List (List ℕ)
+  pub each : (q : Part) (output : List ℕ) (told : List Told) → List·Memᴰ q parts → Ran suite K z (first ++ (Call.find (q .key) (q .field) output ∷ [])) told
+      → accepted (toldAt told (length first)) ≡ true → Finds (toldAt told (length first)) output (own q)
+  pub chosen : Part
+  pub among : List·Memᴰ chosen parts
+  pub finds : Finds t lent (select (λ id. allOf (λ q. anyOf (same id) (own q)) parts) (own chosen))
+
+-- (g) a joint find gives exactly the ids that each field's own find gives, in the order of the chosen one [02:W4.26]
+unfoldable pub JointIsEach : Suite → Type 0
+JointIsEach suite =
+    (K : List ℕ) (z : Sizes) (first third : List Call) (parts : List Part) (output : List ℕ) (told : List Told)
+    → Ran suite K z (first ++ (Call.jointFind parts output ∷ third)) told
+    → accepted (toldAt told (length first)) ≡ true
+    → FindsJointly suite K z first parts (toldAt told (length first)) output
 
 -- a call made by a client
 pub record Made : Type 0 where

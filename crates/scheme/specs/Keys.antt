@@ -48,9 +48,13 @@ module _ (suite : Suite) where
   unfoldable pub CE : List ℕ → List ℕ
   CE cl = F cl (number8 2)
 
-  -- the tokens [01:KT7 KT8 KT9 KT10]
+  -- RL: the key of a label's R marks, the same in every share [02:W4.4]
+  unfoldable pub RL : List ℕ → Field → List ℕ
+  RL K f = F (F K (number8 4)) (label f)
+
+  -- the tokens [01:KT7 KT8 KT9 KT10]; an insert token ends with RL [02:W4.9]
   unfoldable pub insertToken : List ℕ → Field → ℕ → ℕ → List ℕ → List ℕ
-  insertToken K f p u nonce = p ∷ MT K f u ++ (ME K f u ++ (CL K f u ++ (nonce ++ E (KS K) nonce (CL K f u))))
+  insertToken K f p u nonce = p ∷ MT K f u ++ (ME K f u ++ (CL K f u ++ (nonce ++ (E (KS K) nonce (CL K f u) ++ RL K f))))
 
   unfoldable pub findToken : List ℕ → Field → List ℕ
   findToken K f = MTof K f ++ (MEof K f ++ CLof K f)
@@ -61,9 +65,16 @@ module _ (suite : Suite) where
   unfoldable pub compactionToken : List ℕ → List ℕ
   compactionToken K = KS K
 
--- how many bytes a token has [01:KT7 KT8 KT9 KT10]
+  -- what a test takes, and a part of a joint find: a find token, then RL [02:W4.16 W4.18]
+  unfoldable pub markToken : List ℕ → Field → List ℕ
+  markToken K f = RL K f
+
+  unfoldable pub partToken : List ℕ → Field → List ℕ
+  partToken K f = findToken K f ++ RL K f
+
+-- how many bytes a token has [01:KT7 KT8 KT9 KT10] [02:W4.9 W4.16 W4.18]
 abbrev pub insertTokenLength : ℕ
-insertTokenLength = 141
+insertTokenLength = 173
 
 abbrev pub findTokenLength : ℕ
 findTokenLength = 96
@@ -74,7 +85,13 @@ countTokenLength = 32
 abbrev pub compactionTokenLength : ℕ
 compactionTokenLength = 32
 
--- the parts of an insert token; its last 44 bytes are an S row's [01:KT7 OP1]
+abbrev pub markTokenLength : ℕ
+markTokenLength = 32
+
+abbrev pub partTokenLength : ℕ
+partTokenLength = 128
+
+-- the parts of an insert token; the 44 bytes before RL are an S row's [01:KT7 OP1] [02:W4.9 W4.10]
 unfoldable pub tokenP : List ℕ → ℕ
 tokenP token = getD token 0 0
 
@@ -88,7 +105,10 @@ unfoldable pub tokenCL : List ℕ → List ℕ
 tokenCL token = take 32 (drop 65 token)
 
 unfoldable pub tokenLog : List ℕ → List ℕ
-tokenLog token = drop 97 token
+tokenLog token = take 44 (drop 97 token)
+
+unfoldable pub tokenRL : List ℕ → List ℕ
+tokenRL token = drop 141 token
 
 -- the parts of a find token [01:KT8]
 unfoldable pub findMT : List ℕ → List ℕ
@@ -99,3 +119,10 @@ findME token = take 32 (drop 32 token)
 
 unfoldable pub findCL : List ℕ → List ℕ
 findCL token = drop 64 token
+
+-- the find token and the RL of a part [02:W4.18]
+unfoldable pub partFind : List ℕ → List ℕ
+partFind part = take 96 part
+
+unfoldable pub partRL : List ℕ → List ℕ
+partRL part = drop 96 part

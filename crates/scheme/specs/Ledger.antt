@@ -1,18 +1,18 @@
 -- Document 01, "The ledger". It is fed raw arguments alone, never an answer or a byte of the store [01:LG3], and shares with
 -- the store's side bytes, fields, answers and the conditions 1 to 6.
 use Prim.Native.Nat.{ℕ, _+_, _*_, _/_}
-use mathlib.Core.Bool.{Bool, cond, not, _&&_}
+use mathlib.Core.Bool.{Bool, cond, not, _&&_, _||_}
 use mathlib.Core.Option.{Option, none, some}
 use mathlib.Core.List.{List, [], _∷_, _++_, map}
 use lib.Dec.{ltb, eqb}
 use lib.ListN.{length, drop}
-use Rattle.table.specs.Lists.{same, select, count, anyOf, flat, sum, upTo}
+use Rattle.table.specs.Lists.{same, select, count, anyOf, allOf, flat, sum, upTo}
 use Rattle.answer.specs.Answer.{Answer, done}
 use Rattle.scheme.specs.Labels.{Field, sameField}
-use Rattle.scheme.specs.Refusals.{idCount, idsIn, insertTokenTests, fieldTokenTests, keyTests, insertInputTests, eraseInputTests, compactionInputTests}
+use Rattle.scheme.specs.Refusals.{idCount, idsIn, insertTokenTests, fieldTokenTests, keyTests, insertInputTests, idTests, compactionInputTests}
 use Rattle.answer.specs.Verdict.{_⇒_, _⇒_carrying_, verdict, answerOr, unlessRefused}
 use Rattle.scheme.specs.Call
-use Rattle.scheme.specs.Call.{Call, Told}
+use Rattle.scheme.specs.Call.{Call, Part, Told}
 
 -- a field with its value, and a share [01:LG1]
 pub record Pair : Type 0 where
@@ -35,12 +35,13 @@ pub record Ledger : Type 0 where
   pub T : List Pair
   pub A : ℕ
 
--- p, m, c, s of the store [01:LG4]
+-- p, m, c, s, r of the store [01:LG4] [02:W4.29]
 pub record Bounds : Type 0 where
   pub p : ℕ
   pub m : ℕ
   pub c : ℕ
   pub s : ℕ
+  pub r : ℕ
 
 -- all begin empty or 0 [01:LG2]
 unfoldable pub empty : Ledger
@@ -82,7 +83,7 @@ pub record Outcome : Type 0 where
   pub next : Ledger
 
 module _ (z : Bounds) (l : Ledger) where
-  -- insert of j ids [01:LG4 LG7]
+  -- insert of j ids [01:LG4 LG7] [02:W4.29 W4.30]
   unfoldable pub ledgerInsertVerdict : List ℕ → Field → ℕ → ℕ → List ℕ → List ℕ → List ℕ → Option Answer
   ledgerInsertVerdict key f p u nonce ids nonces = verdict (insertTokenTests key f p u nonce ++ (insertInputTests ids nonces ++
       ((not (eqb p (z .p)) ⇒ 12)
@@ -90,6 +91,7 @@ module _ (z : Bounds) (l : Ledger) where
       ∷ (ltb (z .m) (H l + idCount ids) ⇒ 15)
       ∷ (ltb (z .c) (l .A + l .W + 1) ⇒ 16)
       ∷ (ltb (z .s) (l .W + 1) ⇒ 17)
+      ∷ (ltb (z .r) (H l + idCount ids) ⇒ 21)
       ∷ [])))
 
   -- append, made grows by j, H by j, W by 1, pair into T [01:LG8]
@@ -127,6 +129,28 @@ module _ (z : Bounds) (l : Ledger) where
   ledgerFindVerdict key f output = verdict (fieldTokenTests key f ++
       ((ltb (length output) (16 * length (ledgerIds f)) ⇒ 18 carrying (length (ledgerIds f) ∷ [])) ∷ []))
 
+  -- test: whether the id is in a list of the field and value, in whatever share [02:W4.17 W4.26]
+  unfoldable pub ledgerHas : List ℕ → Field → Bool
+  ledgerHas id f = anyOf (λ e. sameField (e .pair .field) f && anyOf (same id) (e .ids)) (l .entries)
+
+  -- joint find: of the fields, the one with the least number made, the earlier on a tie; its ids that all fields have, in the order of
+  -- its find [02:W4.19 W4.20 W4.26]
+  abbrev pub leastMade : Field → List Field → Field
+  leastMade f [] = f
+  leastMade f (g ∷ gs) = leastMade (cond (ltb (ledgerSum g) (ledgerSum f)) g f) gs
+
+  abbrev pub ledgerJointIds : List Field → List (List ℕ)
+  ledgerJointIds [] = []
+  ledgerJointIds (f ∷ fs) = select (λ id. allOf (ledgerHas id) (f ∷ fs)) (ledgerIds (leastMade f fs))
+
+  -- the parts made in order, then 6 by their number, then 18 by the ids kept [02:W4.18 W4.23 W4.24 W4.25]
+  unfoldable pub ledgerJointVerdict : List Part → List ℕ → Option Answer
+  ledgerJointVerdict parts output = verdict (flat (map (λ (q : Part). fieldTokenTests (q .key) (q .field)) parts) ++
+      ((ltb (length parts) 1 || ltb 8 (length parts) ⇒ 6)
+      ∷ (ltb (length output) (16 * length (ledgerJointIds (map (λ (q : Part). q .field) parts)))
+      ⇒ 18 carrying (length (ledgerJointIds (map (λ (q : Part). q .field) parts)) ∷ []))
+      ∷ []))
+
   -- compaction: 19 if fewer than W nonces; A grows by |T|, W is 0, T empty [01:LG12]
   unfoldable pub ledgerCompactVerdict : List ℕ → List ℕ → Option Answer
   ledgerCompactVerdict key nonces = verdict (keyTests key ++ (compactionInputTests nonces ++ ((ltb (length nonces / 12) (l .W) ⇒ 19) ∷ [])))
@@ -148,8 +172,8 @@ module _ (z : Bounds) (l : Ledger) where
     next = nextOr (ledgerInsertVerdict key f p u nonce ids nonces) (afterInsert f u ids);
   }
   ledgerStep (Call.erase id) = record {
-    told = record { answer = answerOr (verdict (eraseInputTests id)) (done (count (λ x. same x id) (listed (l .entries)) ∷ [])); output = [] };
-    next = nextOr (verdict (eraseInputTests id)) (afterErase id);
+    told = record { answer = answerOr (verdict (idTests id)) (done (count (λ x. same x id) (listed (l .entries)) ∷ [])); output = [] };
+    next = nextOr (verdict (idTests id)) (afterErase id);
   }
   ledgerStep (Call.find key f output) = record {
     told = record {
@@ -166,7 +190,19 @@ module _ (z : Bounds) (l : Ledger) where
     told = record { answer = answerOr (ledgerCompactVerdict key nonces) (done (length (l .T) ∷ l .W ∷ [])); output = [] };
     next = nextOr (ledgerCompactVerdict key nonces) afterCompaction;
   }
-  ledgerStep Call.order = record { told = record { answer = done ((2 * H l + l .A + 2 * l .W) ∷ []); output = [] }; next = l }
+  ledgerStep Call.order = record { told = record { answer = done ((3 * H l + l .A + 2 * l .W) ∷ []); output = [] }; next = l }
+  ledgerStep (Call.test key f id) = record {
+    told = record { answer = answerOr (verdict (fieldTokenTests key f ++ idTests id)) (done (cond (ledgerHas id f) 1 0 ∷ [])); output = [] };
+    next = l;
+  }
+  ledgerStep (Call.jointFind parts output) = record {
+    told = record {
+      answer = answerOr (ledgerJointVerdict parts output) (done (length (ledgerJointIds (map (λ (q : Part). q .field) parts)) ∷ []));
+      output = unlessRefused (ledgerJointVerdict parts output)
+          (flat (ledgerJointIds (map (λ (q : Part). q .field) parts)) ++ drop (16 * length (ledgerJointIds (map (λ (q : Part). q .field) parts))) output) output;
+    };
+    next = l;
+  }
 
 -- what the ledger tells of a list of calls [01:LG14]
 abbrev pub ledgerTells : Bounds → Ledger → List Call → List Told

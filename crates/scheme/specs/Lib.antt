@@ -11,6 +11,8 @@ pub mod Erase
 pub mod Find
 pub mod Count
 pub mod Compaction
+pub mod Test
+pub mod JointFind
 pub mod Call
 pub mod Ledger
 pub mod Run
@@ -21,5 +23,6 @@ pub mod Example
 pub mod ByteExamples
 pub mod RefusalExamples
 pub mod ReadingExamples
+pub mod JointExamples
 pub mod Examples
 pub mod Corollaries

@@ -14,7 +14,7 @@ use Rattle.scheme.specs.Find
 use Rattle.scheme.specs.Insert
 use Rattle.scheme.specs.Compaction
 use Rattle.scheme.specs.Example.{Equation, _is_, Case, _gives_, zeros, places, eight, number, by}
-use Rattle.scheme.specs.ByteExamples.{newM, newV, newC, newS}
+use Rattle.scheme.specs.ByteExamples.{newM, newV, newC, newS, newR}
 use Rattle.scheme.specs.RefusalExamples.{withC, rowC, counterIs, anchorIs, atLimit, aboveLimit}
 
 -- a suite in which one row of C holds every counter and every anchor
@@ -110,14 +110,14 @@ module _ (suite : Suite) where
 
   abbrev pub laterBytes : List Equation
   laterBytes =
-      (Insert.insert suite (withC 0 3 (heldC ++ (zeros 61 ∷ []))) (places 1 16) (places 1 24) (places 0 141) .store is
-      (1 ∷ 0 ∷ 0 ∷ 1 ∷ 0 ∷ 3 ∷ 0 ∷ 1 ∷ newM suite 10 1 1 ++ (newV suite 10 1 ++ (flat grownC ++ newS suite))))
+      (Insert.insert suite (withC 0 3 (heldC ++ (zeros 61 ∷ []))) (places 1 16) (places 1 36) (places 0 173) .store is
+      (2 ∷ 0 ∷ 0 ∷ 1 ∷ 0 ∷ 3 ∷ 0 ∷ 1 ∷ 0 ∷ 1 ∷ newM suite 10 1 1 ++ (newV suite 10 1 ++ (flat grownC ++ (newS suite ++ newR suite 25 1)))))
       ∷ []
 
 -- ---- a find where one row of M is every address from 1 to 7: the id once, and 18 by one id [02:W1.1 W1.3]
 
 abbrev pub blindEntry : List ℕ
-blindEntry = 1 ∷ 0 ∷ 0 ∷ 1 ∷ 0 ∷ 1 ∷ 0 ∷ 1 ∷ 1 ∷ zeros 44 ++ (places 1 16 ++ (zeros 49 ++ (blindRow 7 ++ zeros 45)))
+blindEntry = 2 ∷ 0 ∷ 0 ∷ 1 ∷ 0 ∷ 1 ∷ 0 ∷ 1 ∷ 0 ∷ 1 ∷ 1 ∷ zeros 44 ++ (places 1 16 ++ (zeros 49 ++ (blindRow 7 ++ zeros 106)))
 
 abbrev pub blindBytes : List Equation
 blindBytes =
@@ -131,10 +131,10 @@ blindCases =
     ∷ (Find.find blind blindEntry (zeros 96) (zeros 15) .answer gives refused 18 (1 ∷ []))
     ∷ []
 
--- ---- compactions: p = 0, m = 1, with these rows in C and S
+-- ---- compactions: p = 0, m = r = 1, with these rows in C and S
 
 abbrev pub withCS : List (List ℕ) → List (List ℕ) → List ℕ
-withCS C S = 1 ∷ 0 ∷ 0 ∷ 1 ∷ 0 ∷ length C ∷ 0 ∷ length S ∷ zeros 110 ++ (flat C ++ flat S)
+withCS C S = 2 ∷ 0 ∷ 0 ∷ 1 ∷ 0 ∷ length C ∷ 0 ∷ length S ∷ 0 ∷ 1 ∷ zeros 110 ++ (flat C ++ (flat S ++ zeros 61))
 
 -- two CL
 abbrev pub clA : List ℕ

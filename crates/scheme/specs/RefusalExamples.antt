@@ -77,33 +77,38 @@ makingCases =
     ∷ (fieldMaking 33 256 0 gives by 1)
     ∷ []
 
--- ---- making a store, by p, m, c, s and the slice's length
+-- ---- making a store, by p, m, c, s, r and the slice's length
 
-abbrev pub making : ℕ → ℕ → ℕ → ℕ → ℕ → Answer
-making p m c s slice = make (record { p = p; m = m; c = c; s = s }) (places 0 slice) .answer
+abbrev pub making : ℕ → ℕ → ℕ → ℕ → ℕ → ℕ → Answer
+making p m c s r slice = make (record { p = p; m = m; c = c; s = s; r = r }) (places 0 slice) .answer
 
 abbrev pub storeMakingCases : List Case
 storeMakingCases =
-    -- 8: the length is 8 + 110·m + 61·c + 45·s exactly [01:RI9 ST3]
-    (making 0 1 1 1 224 gives accepted)
-    ∷ (making 0 1 1 1 223 gives by 8)
-    ∷ (making 0 1 1 1 225 gives by 8)
-    ∷ (making 1 4 4 4 872 gives accepted)
-    ∷ (making 1 4 4 4 0 gives by 8)
-    -- 7: p is at most 15, and m, c and s are 1 to 4,096 [01:RI8 ST2]
-    ∷ (making 15 1 1 1 224 gives accepted)
-    ∷ (making 16 1 1 1 224 gives by 7)
-    ∷ (making 0 0 1 1 114 gives by 7)
-    ∷ (making 0 1 0 1 163 gives by 7)
-    ∷ (making 0 1 1 0 179 gives by 7)
+    -- 8: the length is 10 + 110·m + 61·c + 45·s + 61·r exactly [01:RI9 ST3] [02:W4.8]
+    (making 0 1 1 1 1 287 gives accepted)
+    ∷ (making 0 1 1 1 1 286 gives by 8)
+    ∷ (making 0 1 1 1 1 288 gives by 8)
+    ∷ (making 1 4 4 4 4 1118 gives accepted)
+    ∷ (making 1 4 4 4 4 0 gives by 8)
+    ∷ (making 0 1 2 3 4 621 gives accepted)
+    ∷ (making 0 1 1 1 1 224 gives by 8)
+    -- 7: p is at most 15, and m, c, s and r are 1 to 4,096 [01:RI8 ST2] [02:W4.2]
+    ∷ (making 15 1 1 1 1 287 gives accepted)
+    ∷ (making 16 1 1 1 1 287 gives by 7)
+    ∷ (making 0 0 1 1 1 177 gives by 7)
+    ∷ (making 0 1 0 1 1 226 gives by 7)
+    ∷ (making 0 1 1 0 1 242 gives by 7)
+    ∷ (making 0 1 1 1 0 226 gives by 7)
     -- in number order: 7 before 8, so that the size in range is told by 8 [01:RI1]
-    ∷ (making 0 4096 1 1 0 gives by 8)
-    ∷ (making 0 4097 1 1 0 gives by 7)
-    ∷ (making 0 1 4096 1 0 gives by 8)
-    ∷ (making 0 1 4097 1 0 gives by 7)
-    ∷ (making 0 1 1 4096 0 gives by 8)
-    ∷ (making 0 1 1 4097 0 gives by 7)
-    ∷ (making 16 1 1 1 0 gives by 7)
+    ∷ (making 0 4096 1 1 1 0 gives by 8)
+    ∷ (making 0 4097 1 1 1 0 gives by 7)
+    ∷ (making 0 1 4096 1 1 0 gives by 8)
+    ∷ (making 0 1 4097 1 1 0 gives by 7)
+    ∷ (making 0 1 1 4096 1 0 gives by 8)
+    ∷ (making 0 1 1 4097 1 0 gives by 7)
+    ∷ (making 0 1 1 1 4096 0 gives by 8)
+    ∷ (making 0 1 1 1 4097 0 gives by 7)
+    ∷ (making 16 1 1 1 1 0 gives by 7)
     ∷ []
 
 -- ---- the calls on a store
@@ -118,21 +123,25 @@ atLimit = 0 ∷ 0 ∷ 0 ∷ 0 ∷ 255 ∷ 255 ∷ 255 ∷ 255 ∷ []
 abbrev pub aboveLimit : List ℕ
 aboveLimit = 0 ∷ 0 ∷ 0 ∷ 1 ∷ 0 ∷ 0 ∷ 0 ∷ 0 ∷ []
 
--- a store whose rows are all free, by the header's version, p, m, c, s below 256, and the bytes after the header
-abbrev pub slice : ℕ → ℕ → ℕ → ℕ → ℕ → ℕ → List ℕ
-slice version p m c s n = version ∷ p ∷ 0 ∷ m ∷ 0 ∷ c ∷ 0 ∷ s ∷ zeros n
+-- a store whose rows are all free, by the header's version, p, m, c, s, r below 256, and the bytes after the header
+abbrev pub slice : ℕ → ℕ → ℕ → ℕ → ℕ → ℕ → ℕ → List ℕ
+slice version p m c s r n = version ∷ p ∷ 0 ∷ m ∷ 0 ∷ c ∷ 0 ∷ s ∷ 0 ∷ r ∷ zeros n
 
--- p = 0 and m = c = s = 1: M's row begins at 8, V's at 69, C's at 118, S's at 179
+-- p = 0 and m = c = s = r = 1: M's row begins at 10, V's at 71, C's at 120, S's at 181, R's at 226
 abbrev pub one : List ℕ
-one = slice 1 0 1 1 1 216
+one = slice 2 0 1 1 1 1 277
 
--- with p, and these rows in C; m = 1 and s = 1
+-- two rows in each: M's second row begins at 71, V's at 181, C's at 291, S's at 397, R's at 503
+abbrev pub two : List ℕ
+two = slice 2 0 2 2 2 2 554
+
+-- with p, and these rows in C; m = s = r = 1
 abbrev pub withC : ℕ → ℕ → List (List ℕ) → List ℕ
-withC p c rows = 1 ∷ p ∷ 0 ∷ 1 ∷ 0 ∷ c ∷ 0 ∷ 1 ∷ zeros 110 ++ (flat rows ++ zeros 45)
+withC p c rows = 2 ∷ p ∷ 0 ∷ 1 ∷ 0 ∷ c ∷ 0 ∷ 1 ∷ 0 ∷ 1 ∷ zeros 110 ++ (flat rows ++ zeros 106)
 
--- m = 1, c = 1 and two rows in S, both used, with these bytes after their marks
+-- m = c = r = 1 and two rows in S, both used, with these bytes after their marks
 abbrev pub twoLogs : List ℕ → List ℕ → List ℕ
-twoLogs a b = 1 ∷ 0 ∷ 0 ∷ 1 ∷ 0 ∷ 1 ∷ 0 ∷ 2 ∷ zeros 171 ++ ((1 ∷ a) ++ (1 ∷ b))
+twoLogs a b = 2 ∷ 0 ∷ 0 ∷ 1 ∷ 0 ∷ 1 ∷ 0 ∷ 2 ∷ 0 ∷ 1 ∷ zeros 171 ++ ((1 ∷ a) ++ ((1 ∷ b) ++ zeros 61))
 
 abbrev pub ordering : List ℕ → Answer
 ordering store = Order.order store .answer
@@ -160,7 +169,7 @@ module _ (suite : Suite) where
 
   -- of one id, in a store with these rows and a free one in C
   abbrev pub insertOver : List (List ℕ) → Answer
-  insertOver rows = inserting (withC 0 (length rows + 1) (rows ++ (zeros 61 ∷ []))) 16 24 140 0
+  insertOver rows = inserting (withC 0 (length rows + 1) (rows ++ (zeros 61 ∷ []))) 16 36 172 0
 
   -- find and count, by the token's length; a find token's bytes are their places, and a count token is its third part. The rows that a count
   -- looked at have examples of their own
@@ -179,26 +188,26 @@ module _ (suite : Suite) where
   -- 4 to 6 [01:RI5 RI6 RI7]
   abbrev pub inputCases : List Case
   inputCases =
-      -- insert: 12 × (ids + 1) nonce bytes, ids rounded down; 16 × 1 to 64 id bytes; a token of 141 bytes
-      (inserting one 16 24 140 0 gives number 1)
-      ∷ (inserting one 16 23 140 0 gives by 4)
-      ∷ (inserting one 16 25 140 0 gives by 4)
-      ∷ (inserting one 16 12 140 0 gives by 4)
-      ∷ (inserting one 16 36 140 0 gives by 4)
-      ∷ (inserting one 0 12 140 0 gives by 5)
-      ∷ (inserting one 15 12 140 0 gives by 5)
-      ∷ (inserting one 17 24 140 0 gives by 5)
-      ∷ (inserting one 31 24 140 0 gives by 5)
-      ∷ (inserting (slice 1 0 64 1 1 7146) 1024 780 140 0 gives number 64)
-      ∷ (inserting one 1023 768 140 0 gives by 5)
-      ∷ (inserting one 1025 780 140 0 gives by 5)
-      ∷ (inserting one 1040 792 140 0 gives by 5)
-      ∷ (inserting one 16 24 139 0 gives by 6)
-      ∷ (inserting one 16 24 141 0 gives by 6)
+      -- insert: 12 × (2 × ids + 1) nonce bytes, ids rounded down; 16 × 1 to 64 id bytes; a token of 173 bytes [02:W4.9 W4.11]
+      (inserting one 16 36 172 0 gives number 1)
+      ∷ (inserting one 16 35 172 0 gives by 4)
+      ∷ (inserting one 16 37 172 0 gives by 4)
+      ∷ (inserting one 16 24 172 0 gives by 4)
+      ∷ (inserting one 16 60 172 0 gives by 4)
+      ∷ (inserting one 0 12 172 0 gives by 5)
+      ∷ (inserting one 15 12 172 0 gives by 5)
+      ∷ (inserting one 17 36 172 0 gives by 5)
+      ∷ (inserting one 31 36 172 0 gives by 5)
+      ∷ (inserting (slice 2 0 64 1 1 64 11050) 1024 1548 172 0 gives number 64)
+      ∷ (inserting one 1023 1524 172 0 gives by 5)
+      ∷ (inserting one 1025 1548 172 0 gives by 5)
+      ∷ (inserting one 1040 1572 172 0 gives by 5)
+      ∷ (inserting one 16 36 171 0 gives by 6)
+      ∷ (inserting one 16 36 173 0 gives by 6)
       -- in number order [01:RI1 RS1]
-      ∷ (inserting one 0 0 139 0 gives by 4)
-      ∷ (inserting one 0 12 139 0 gives by 5)
-      ∷ (inserting [] 16 24 139 0 gives by 6)
+      ∷ (inserting one 0 0 171 0 gives by 4)
+      ∷ (inserting one 0 12 171 0 gives by 5)
+      ∷ (inserting [] 16 36 171 0 gives by 6)
       -- erase: 16 id bytes
       ∷ (erasing one 16 gives number 0)
       ∷ (erasing one 15 gives by 5)
@@ -229,72 +238,82 @@ module _ (suite : Suite) where
   -- 10 and 11, in a count and then in every call [01:RS2 RS3]
   abbrev pub stateCases : List Case
   stateCases =
-      -- 10: at least 8 bytes
+      -- 10: at least 10 bytes [02:W4.6]
       (counting [] 32 gives by 10)
-      ∷ (counting (take 7 one) 32 gives by 10)
-      ∷ (counting (take 8 one) 32 gives by 10)
-      -- version 1
-      ∷ (counting (slice 0 0 1 1 1 216) 32 gives by 10)
-      ∷ (counting (slice 2 0 1 1 1 216) 32 gives by 10)
-      -- p at most 15, m, c and s from 1 to 4,096; m and c above it are tried under 7, by the same test
-      ∷ (counting (slice 1 15 1 1 1 216) 32 gives number 0)
-      ∷ (counting (slice 1 16 1 1 1 216) 32 gives by 10)
-      ∷ (counting (slice 1 0 0 1 1 106) 32 gives by 10)
-      ∷ (counting (slice 1 0 1 0 1 155) 32 gives by 10)
-      ∷ (counting (slice 1 0 1 1 0 171) 32 gives by 10)
-      ∷ (counting (1 ∷ 0 ∷ 0 ∷ 1 ∷ 0 ∷ 1 ∷ 16 ∷ 1 ∷ zeros 184536) 32 gives by 10)
+      ∷ (counting (take 9 one) 32 gives by 10)
+      ∷ (counting (take 10 one) 32 gives by 10)
+      -- version 2, also where all else is as version 1 had it [02:W4.5 W4.6]
+      ∷ (counting (slice 0 0 1 1 1 1 277) 32 gives by 10)
+      ∷ (counting (slice 1 0 1 1 1 1 277) 32 gives by 10)
+      ∷ (counting (slice 3 0 1 1 1 1 277) 32 gives by 10)
+      ∷ (counting (1 ∷ 0 ∷ 0 ∷ 1 ∷ 0 ∷ 1 ∷ 0 ∷ 1 ∷ zeros 216) 32 gives by 10)
+      -- p at most 15, m, c, s and r from 1 to 4,096; m, c and s above it are tried under 7, by the same test
+      ∷ (counting (slice 2 15 1 1 1 1 277) 32 gives number 0)
+      ∷ (counting (slice 2 16 1 1 1 1 277) 32 gives by 10)
+      ∷ (counting (slice 2 0 0 1 1 1 167) 32 gives by 10)
+      ∷ (counting (slice 2 0 1 0 1 1 216) 32 gives by 10)
+      ∷ (counting (slice 2 0 1 1 0 1 232) 32 gives by 10)
+      ∷ (counting (slice 2 0 1 1 1 0 216) 32 gives by 10)
+      ∷ (counting (2 ∷ 0 ∷ 0 ∷ 1 ∷ 0 ∷ 1 ∷ 0 ∷ 1 ∷ 16 ∷ 1 ∷ zeros 250133) 32 gives by 10)
       -- the length is the formula's
-      ∷ (counting (slice 1 0 1 1 1 215) 32 gives by 10)
-      ∷ (counting (slice 1 0 1 1 1 217) 32 gives by 10)
-      ∷ (counting (slice 1 0 2 3 4 583) 32 gives number 0)
-      ∷ (counting (slice 1 0 2 3 4 582) 32 gives by 10)
+      ∷ (counting (slice 2 0 1 1 1 1 276) 32 gives by 10)
+      ∷ (counting (slice 2 0 1 1 1 1 278) 32 gives by 10)
+      ∷ (counting (slice 2 0 2 3 4 5 888) 32 gives number 0)
+      ∷ (counting (slice 2 0 2 3 4 5 887) 32 gives by 10)
       -- 11: a mark of 0 or 1 in every row of every table
-      ∷ (counting (set one 8 1) 32 gives number 0)
-      ∷ (counting (set one 8 2) 32 gives by 11)
-      ∷ (counting (set one 69 1) 32 gives number 0)
-      ∷ (counting (set one 69 2) 32 gives by 11)
-      ∷ (counting (set one 118 1) 32 gives number 0)
-      ∷ (counting (set one 118 2) 32 gives by 11)
-      ∷ (counting (set one 179 1) 32 gives number 0)
-      ∷ (counting (set one 179 2) 32 gives by 11)
-      ∷ (counting (set (slice 1 0 2 2 2 432) 69 255) 32 gives by 11)
-      ∷ (counting (set (slice 1 0 2 2 2 432) 179 255) 32 gives by 11)
-      ∷ (counting (set (slice 1 0 2 2 2 432) 289 255) 32 gives by 11)
-      ∷ (counting (set (slice 1 0 2 2 2 432) 395 255) 32 gives by 11)
+      ∷ (counting (set one 10 1) 32 gives number 0)
+      ∷ (counting (set one 10 2) 32 gives by 11)
+      ∷ (counting (set one 71 1) 32 gives number 0)
+      ∷ (counting (set one 71 2) 32 gives by 11)
+      ∷ (counting (set one 120 1) 32 gives number 0)
+      ∷ (counting (set one 120 2) 32 gives by 11)
+      ∷ (counting (set one 181 1) 32 gives number 0)
+      ∷ (counting (set one 181 2) 32 gives by 11)
+      ∷ (counting (set one 226 1) 32 gives number 0)
+      ∷ (counting (set one 226 2) 32 gives by 11)
+      ∷ (counting (set two 71 255) 32 gives by 11)
+      ∷ (counting (set two 181 255) 32 gives by 11)
+      ∷ (counting (set two 291 255) 32 gives by 11)
+      ∷ (counting (set two 397 255) 32 gives by 11)
+      ∷ (counting (set two 503 255) 32 gives by 11)
       -- in order, in every call [01:RS1]
-      ∷ (counting (set (slice 2 0 1 1 1 216) 8 2) 32 gives by 10)
-      ∷ (finding (set (slice 2 0 1 1 1 216) 8 2) 96 0 gives by 10)
-      ∷ (finding (set one 8 2) 96 0 gives by 11)
-      ∷ (erasing (set (slice 2 0 1 1 1 216) 8 2) 16 gives by 10)
-      ∷ (erasing (set one 8 2) 16 gives by 11)
-      ∷ (inserting (set (slice 2 0 1 1 1 216) 8 2) 16 24 140 1 gives by 10)
-      ∷ (inserting (set one 8 2) 16 24 140 1 gives by 11)
-      ∷ (compacting (set (slice 2 0 1 1 1 216) 179 2) 0 32 gives by 10)
-      ∷ (compacting (set one 179 2) 0 32 gives by 11)
+      ∷ (counting (set (slice 3 0 1 1 1 1 277) 10 2) 32 gives by 10)
+      ∷ (finding (set (slice 3 0 1 1 1 1 277) 10 2) 96 0 gives by 10)
+      ∷ (finding (set one 10 2) 96 0 gives by 11)
+      ∷ (erasing (set (slice 3 0 1 1 1 1 277) 10 2) 16 gives by 10)
+      ∷ (erasing (set one 10 2) 16 gives by 11)
+      ∷ (inserting (set (slice 3 0 1 1 1 1 277) 10 2) 16 36 172 1 gives by 10)
+      ∷ (inserting (set one 10 2) 16 36 172 1 gives by 11)
+      ∷ (compacting (set (slice 3 0 1 1 1 1 277) 181 2) 0 32 gives by 10)
+      ∷ (compacting (set one 181 2) 0 32 gives by 11)
       ∷ []
 
   -- 20, in a count and then in every call [02:W2.1 W2.2 W2.3 W2.11 W2.12]
   abbrev pub formCases : List Case
   formCases =
       -- a free row is all zero: the byte after the mark, and the last byte, in each table
-      (counting (set one 9 2) 32 gives by 20)
-      ∷ (counting (set one 68 1) 32 gives by 20)
-      ∷ (counting (set one 70 2) 32 gives by 20)
-      ∷ (counting (set one 117 1) 32 gives by 20)
-      ∷ (counting (set one 119 2) 32 gives by 20)
-      ∷ (counting (set one 178 1) 32 gives by 20)
-      ∷ (counting (set one 180 2) 32 gives by 20)
-      ∷ (counting (set one 223 1) 32 gives by 20)
+      (counting (set one 11 2) 32 gives by 20)
+      ∷ (counting (set one 70 1) 32 gives by 20)
+      ∷ (counting (set one 72 2) 32 gives by 20)
+      ∷ (counting (set one 119 1) 32 gives by 20)
+      ∷ (counting (set one 121 2) 32 gives by 20)
+      ∷ (counting (set one 180 1) 32 gives by 20)
+      ∷ (counting (set one 182 2) 32 gives by 20)
+      ∷ (counting (set one 225 1) 32 gives by 20)
+      ∷ (counting (set one 227 2) 32 gives by 20)
+      ∷ (counting (set one 286 1) 32 gives by 20)
       -- of a used row it may be any byte
-      ∷ (counting (set (set one 8 1) 9 2) 32 gives number 0)
-      ∷ (counting (set (set one 179 1) 223 255) 32 gives number 0)
+      ∷ (counting (set (set one 10 1) 11 2) 32 gives number 0)
+      ∷ (counting (set (set one 181 1) 225 255) 32 gives number 0)
       -- a used row after a free one, in each table; the other way round is in form
-      ∷ (counting (set (slice 1 0 2 2 2 432) 69 1) 32 gives by 20)
-      ∷ (counting (set (slice 1 0 2 2 2 432) 179 1) 32 gives by 20)
-      ∷ (counting (set (slice 1 0 2 2 2 432) 289 1) 32 gives by 20)
-      ∷ (counting (set (slice 1 0 2 2 2 432) 395 1) 32 gives by 20)
-      ∷ (counting (set (slice 1 0 2 2 2 432) 8 1) 32 gives number 0)
-      ∷ (counting (set (slice 1 0 2 2 2 432) 350 1) 32 gives number 0)
+      ∷ (counting (set two 71 1) 32 gives by 20)
+      ∷ (counting (set two 181 1) 32 gives by 20)
+      ∷ (counting (set two 291 1) 32 gives by 20)
+      ∷ (counting (set two 397 1) 32 gives by 20)
+      ∷ (counting (set two 503 1) 32 gives by 20)
+      ∷ (counting (set two 10 1) 32 gives number 0)
+      ∷ (counting (set two 352 1) 32 gives number 0)
+      ∷ (counting (set two 442 1) 32 gives number 0)
       -- two rows of S: in order by the first byte after the mark, by the last, equal, and as unsigned
       ∷ (counting (twoLogs (5 ∷ zeros 43) (6 ∷ zeros 43)) 32 gives number 0)
       ∷ (counting (twoLogs (6 ∷ zeros 43) (5 ∷ zeros 43)) 32 gives by 20)
@@ -305,13 +324,13 @@ module _ (suite : Suite) where
       ∷ (counting (twoLogs (0x80 ∷ zeros 43) (0x7f ∷ zeros 43)) 32 gives by 20)
       ∷ (counting (twoLogs (1 ∷ 255 ∷ zeros 42) (2 ∷ 0 ∷ zeros 42)) 32 gives number 0)
       -- right after 11, whose test goes over every table first, and before 12, 13 and 19
-      ∷ (counting (set (set one 9 2) 179 2) 32 gives by 11)
-      ∷ (counting (set (slice 2 0 1 1 1 216) 9 2) 32 gives by 10)
-      ∷ (finding (set one 9 2) 96 0 gives by 20)
-      ∷ (erasing (set one 9 2) 16 gives by 20)
-      ∷ (inserting (set one 9 2) 16 24 140 1 gives by 20)
-      ∷ (inserting (withC 0 2 (anchorIs 1 (eight 5) aboveLimit ∷ counterIs 6 (eight 0) (eight 9) ∷ [])) 16 24 140 0 gives by 20)
-      ∷ (compacting (set one 9 2) 0 32 gives by 20)
+      ∷ (counting (set (set one 11 2) 181 2) 32 gives by 11)
+      ∷ (counting (set (slice 3 0 1 1 1 1 277) 11 2) 32 gives by 10)
+      ∷ (finding (set one 11 2) 96 0 gives by 20)
+      ∷ (erasing (set one 11 2) 16 gives by 20)
+      ∷ (inserting (set one 11 2) 16 36 172 1 gives by 20)
+      ∷ (inserting (withC 0 2 (anchorIs 1 (eight 5) aboveLimit ∷ counterIs 6 (eight 0) (eight 9) ∷ [])) 16 36 172 0 gives by 20)
+      ∷ (compacting (set one 11 2) 0 32 gives by 20)
       ∷ (compacting (twoLogs (6 ∷ zeros 43) (5 ∷ zeros 43)) 0 32 gives by 20)
       ∷ []
 
@@ -319,27 +338,29 @@ module _ (suite : Suite) where
   abbrev pub orderCases : List Case
   orderCases =
       (ordering one gives number 0)
-      ∷ (ordering (set one 9 2) gives number 0)
-      ∷ (ordering (set (set (set (set one 8 1) 69 1) 118 1) 179 1) gives number 4)
+      ∷ (ordering (set one 11 2) gives number 0)
+      ∷ (ordering (set (set (set (set (set one 10 1) 71 1) 120 1) 181 1) 226 1) gives number 5)
       ∷ (ordering (twoLogs (6 ∷ zeros 43) (5 ∷ zeros 43)) gives number 2)
       ∷ (ordering (twoLogs (places 1 44) (places 1 44)) gives number 2)
-      ∷ (ordering (set (slice 1 0 2 2 2 432) 69 1) gives number 1)
-      ∷ (ordering (take 7 one) gives by 10)
-      ∷ (ordering (slice 2 0 1 1 1 216) gives by 10)
-      ∷ (ordering (slice 1 0 1 1 1 215) gives by 10)
-      ∷ (ordering (set one 8 2) gives by 11)
-      ∷ (ordering (set one 179 2) gives by 11)
-      ∷ (ordering (set (slice 2 0 1 1 1 216) 8 2) gives by 10)
+      ∷ (ordering (set two 71 1) gives number 1)
+      ∷ (ordering (take 9 one) gives by 10)
+      ∷ (ordering (slice 3 0 1 1 1 1 277) gives by 10)
+      ∷ (ordering (slice 1 0 1 1 1 1 277) gives by 10)
+      ∷ (ordering (slice 2 0 1 1 1 1 276) gives by 10)
+      ∷ (ordering (set one 10 2) gives by 11)
+      ∷ (ordering (set one 181 2) gives by 11)
+      ∷ (ordering (set one 226 2) gives by 11)
+      ∷ (ordering (set (slice 3 0 1 1 1 1 277) 10 2) gives by 10)
       ∷ []
 
-  -- insert: 12 to 17 [01:RS4 RS6 RS7 RS8 RS9 RS10]
+  -- insert: 12 to 17, and 21 [01:RS4 RS6 RS7 RS8 RS9 RS10] [02:W4.28]
   abbrev pub insertCases : List Case
   insertCases =
       -- 12: the token's p is the store's
-      (inserting one 16 24 140 1 gives by 12)
-      ∷ (inserting (slice 1 15 1 1 1 216) 16 24 140 15 gives number 1)
-      ∷ (inserting (slice 1 15 1 1 1 216) 16 24 140 14 gives by 12)
-      ∷ (inserting (slice 1 15 1 1 1 216) 16 24 140 0 gives by 12)
+      (inserting one 16 36 172 1 gives by 12)
+      ∷ (inserting (slice 2 15 1 1 1 1 277) 16 36 172 15 gives number 1)
+      ∷ (inserting (slice 2 15 1 1 1 1 277) 16 36 172 14 gives by 12)
+      ∷ (inserting (slice 2 15 1 1 1 1 277) 16 36 172 0 gives by 12)
       -- 13: the first number of counter Start + k is 0, and its count is at most 4,294,967,295; 14: so is the new count
       ∷ (insertOver (counterIs 1 (eight 0) (eight 7) ∷ []) gives number 8)
       ∷ (insertOver (counterIs 1 (eight 1) (eight 7) ∷ []) gives by 13)
@@ -367,20 +388,25 @@ module _ (suite : Suite) where
       -- only anchor B is read
       ∷ (insertOver (anchorIs 1 aboveLimit aboveLimit ∷ anchorIs 2 (eight 5) (eight 7) ∷ []) gives number 8)
       -- 15: as many free rows of M and of V as ids
-      ∷ (inserting (slice 1 0 2 1 1 326) 32 36 140 0 gives number 2)
-      ∷ (inserting (slice 1 0 2 1 1 326) 48 48 140 0 gives by 15)
-      ∷ (inserting (set (slice 1 0 2 1 1 326) 8 1) 16 24 140 0 gives number 1)
-      ∷ (inserting (set (slice 1 0 2 1 1 326) 8 1) 32 36 140 0 gives by 15)
-      ∷ (inserting (set (slice 1 0 2 1 1 326) 130 1) 32 36 140 0 gives by 15)
+      ∷ (inserting (slice 2 0 2 1 1 2 448) 32 60 172 0 gives number 2)
+      ∷ (inserting (slice 2 0 2 1 1 2 448) 48 84 172 0 gives by 15)
+      ∷ (inserting (set (slice 2 0 2 1 1 2 448) 10 1) 16 36 172 0 gives number 1)
+      ∷ (inserting (set (slice 2 0 2 1 1 2 448) 10 1) 32 60 172 0 gives by 15)
+      ∷ (inserting (set (slice 2 0 2 1 1 2 448) 132 1) 32 60 172 0 gives by 15)
       -- 16: a free row of C; 17: a free row of S
-      ∷ (inserting (set one 118 1) 16 24 140 0 gives by 16)
-      ∷ (inserting (set one 179 1) 16 24 140 0 gives by 17)
-      -- in order [01:RS1]
-      ∷ (inserting (withC 0 1 (counterIs 1 (eight 1) (eight 7) ∷ [])) 16 24 140 1 gives by 12)
-      ∷ (inserting (set (withC 0 1 (counterIs 1 (eight 1) (eight 7) ∷ [])) 8 1) 16 24 140 0 gives by 13)
-      ∷ (inserting (set (withC 0 1 (counterIs 1 (eight 0) atLimit ∷ [])) 8 1) 16 24 140 0 gives by 14)
-      ∷ (inserting (set (set one 8 1) 118 1) 16 24 140 0 gives by 15)
-      ∷ (inserting (set (set one 118 1) 179 1) 16 24 140 0 gives by 16)
+      ∷ (inserting (set one 120 1) 16 36 172 0 gives by 16)
+      ∷ (inserting (set one 181 1) 16 36 172 0 gives by 17)
+      -- 21: as many free rows of R as ids
+      ∷ (inserting (slice 2 0 2 1 1 1 387) 16 36 172 0 gives number 1)
+      ∷ (inserting (slice 2 0 2 1 1 1 387) 32 60 172 0 gives by 21)
+      ∷ (inserting (set one 226 1) 16 36 172 0 gives by 21)
+      -- in order [01:RS1] [02:W4.30]
+      ∷ (inserting (withC 0 1 (counterIs 1 (eight 1) (eight 7) ∷ [])) 16 36 172 1 gives by 12)
+      ∷ (inserting (set (withC 0 1 (counterIs 1 (eight 1) (eight 7) ∷ [])) 10 1) 16 36 172 0 gives by 13)
+      ∷ (inserting (set (withC 0 1 (counterIs 1 (eight 0) atLimit ∷ [])) 10 1) 16 36 172 0 gives by 14)
+      ∷ (inserting (set (set one 10 1) 120 1) 16 36 172 0 gives by 15)
+      ∷ (inserting (set (set one 120 1) 181 1) 16 36 172 0 gives by 16)
+      ∷ (inserting (set (set one 181 1) 226 1) 16 36 172 0 gives by 17)
       ∷ []
 
   -- find and count: 13, with every share read first, and 18 [01:RS6 RS11]; rows of C under the CL of share u
@@ -391,9 +417,9 @@ module _ (suite : Suite) where
   abbrev pub entryOf : ℕ → List ℕ → List ℕ
   entryOf u id = 1 ∷ F (F (places 0 32) (eight u)) (eight 1) ++ (zeros 12 ++ E (F (places 32 32) (eight u)) (zeros 12) id)
 
-  -- one id in share 0 and one in share 1; m = 2, c = 3, s = 1, and these rows in C
+  -- one id in share 0 and one in share 1; m = 2, c = 3, s = r = 1, and these rows in C
   abbrev pub withEntries : List ℕ → List ℕ → ℕ → List (List ℕ) → List ℕ
-  withEntries id other p rows = 1 ∷ p ∷ 0 ∷ 2 ∷ 0 ∷ 3 ∷ 0 ∷ 1 ∷ entryOf 0 id ++ (entryOf 1 other ++ (zeros 98 ++ (flat rows ++ zeros 45)))
+  withEntries id other p rows = 2 ∷ p ∷ 0 ∷ 2 ∷ 0 ∷ 3 ∷ 0 ∷ 1 ∷ 0 ∷ 1 ∷ entryOf 0 id ++ (entryOf 1 other ++ (zeros 98 ++ (flat rows ++ zeros 106)))
 
   -- two ids; two that differ in the last byte alone; one id, twice
   abbrev pub twoEntries : ℕ → List (List ℕ) → List ℕ
@@ -436,8 +462,8 @@ module _ (suite : Suite) where
       ∷ (finding (alikeEntries 1 bothShares) 96 31 gives refused 18 (2 ∷ []))
       -- in order [01:RS1]
       ∷ (finding (twoEntries 1 damagedShare) 96 15 gives by 13)
-      ∷ (finding (set (twoEntries 1 damagedShare) 130 2) 96 15 gives by 11)
-      ∷ (counting (set (twoEntries 1 damagedShare) 130 2) 32 gives by 11)
+      ∷ (finding (set (twoEntries 1 damagedShare) 132 2) 96 15 gives by 11)
+      ∷ (counting (set (twoEntries 1 damagedShare) 132 2) 32 gives by 11)
       ∷ []
 
   -- a count with the rows looked at: anchor 1 and counters 1 and 2 of each share; a refusal carries none [02:W3.8]
@@ -448,7 +474,7 @@ module _ (suite : Suite) where
       ∷ (tallying (withC 0 2 (ofShare 0 1 (eight 0) (eight 3) ∷ ofShare 1 1 (eight 0) (eight 4) ∷ [])) gives done (3 ∷ 5 ∷ []))
       ∷ (tallying one gives done (0 ∷ 0 ∷ []))
       ∷ (tallying (withC 1 2 (ofShare 0 1 (eight 1) (eight 3) ∷ ofShare 1 1 (eight 0) (eight 4) ∷ [])) gives by 13)
-      ∷ (tallying (set one 8 2) gives by 11)
+      ∷ (tallying (set one 10 2) gives by 11)
       ∷ []
 
   -- the most that these can be: 2 × c × (p + 1) × the used rows of C [02:W3.11]

@@ -40,16 +40,16 @@ idCount ids = length ids / 16
 abbrev pub idsIn : List ℕ → List (List ℕ)
 idsIn ids = rows 16 (idCount ids) ids
 
--- insert: 4 and 5 [01:RI5 RI6]
+-- insert: 4 and 5 [01:RI5 RI6] [02:W4.11]
 unfoldable pub insertInputTests : List ℕ → List ℕ → List Test
 insertInputTests ids nonces =
-    (lengthNot (12 * (idCount ids + 1)) nonces ⇒ 4)
+    (lengthNot (12 * (2 * idCount ids + 1)) nonces ⇒ 4)
     ∷ (not (eqb (length ids % 16) 0) || (ltb (idCount ids) 1 || ltb 64 (idCount ids)) ⇒ 5)
     ∷ []
 
--- erase: 5 [01:RI6]
-unfoldable pub eraseInputTests : List ℕ → List Test
-eraseInputTests id = (lengthNot 16 id ⇒ 5) ∷ []
+-- erase and test: 5 [01:RI6] [02:W4.15]
+unfoldable pub idTests : List ℕ → List Test
+idTests id = (lengthNot 16 id ⇒ 5) ∷ []
 
 -- compaction: 4 [01:RI5]
 unfoldable pub compactionInputTests : List ℕ → List Test
@@ -58,3 +58,14 @@ compactionInputTests nonces = (not (eqb (length nonces % 12) 0) ⇒ 4) ∷ []
 -- a token of another length: 6 [01:RI7]
 unfoldable pub tokenTests : ℕ → List ℕ → List Test
 tokenTests n token = (lengthNot n token ⇒ 6) ∷ []
+
+-- how many parts of 128 bytes, and these
+abbrev pub partCount : List ℕ → ℕ
+partCount parts = length parts / 128
+
+abbrev pub partsIn : List ℕ → List (List ℕ)
+partsIn parts = rows 128 (partCount parts) parts
+
+-- joint find: other than 1 to 8 parts of 128 bytes: 6 [02:W4.18]
+unfoldable pub partTests : List ℕ → List Test
+partTests parts = (not (eqb (length parts % 128) 0) || (ltb (partCount parts) 1 || ltb 8 (partCount parts)) ⇒ 6) ∷ []

@@ -1,26 +1,36 @@
 -- A list of calls on a store: each call is the function that its contract states (document 01, "The ledger", last paragraph).
 use Prim.Native.Nat.{ℕ}
 use mathlib.Core.Option.{Option, none, some}
-use mathlib.Core.List.{List, [], _∷_}
+use mathlib.Core.List.{List, [], _∷_, map}
 use Rattle.answer.specs.Answer.{Answer}
 use Rattle.scheme.specs.Suite.{Suite}
 use Rattle.scheme.specs.Labels.{Field}
-use Rattle.scheme.specs.Keys.{insertToken, findToken, countToken, compactionToken}
+use Rattle.scheme.specs.Keys.{insertToken, findToken, countToken, compactionToken, markToken, partToken}
 use Rattle.scheme.specs.Refusals.{Result, insertTokenTests, fieldTokenTests, keyTests}
-use Rattle.answer.specs.Verdict.{verdict}
+use Rattle.answer.specs.Verdict.{Test, verdict}
+use Rattle.table.specs.Lists.{flat}
 use Rattle.scheme.specs.Insert
 use Rattle.scheme.specs.Erase
 use Rattle.scheme.specs.Find
 use Rattle.scheme.specs.Count
 use Rattle.scheme.specs.Compaction
 use Rattle.scheme.specs.Order
+use Rattle.scheme.specs.Test
+use Rattle.scheme.specs.JointFind
 use Rattle.scheme.specs.Call
-use Rattle.scheme.specs.Call.{Call, Told, compared}
+use Rattle.scheme.specs.Call.{Call, Part, Told, compared}
 
 -- a token's making that is refused ends the call and changes nothing
 abbrev pub madeOr : Option Answer → Result → List ℕ → List ℕ → Result
 madeOr none result before output = result
 madeOr (some r) result before output = record { answer = r; store = before; output = output }
+
+-- a part of a joint find as its client makes it, and what refuses the makings: the first that is refused ends the call [02:W4.24 W4.25]
+abbrev pub partOf : Suite → Part → List ℕ
+partOf suite part = partToken suite (part .key) (part .field)
+
+abbrev pub partTokenTests : Part → List Test
+partTokenTests part = fieldTokenTests (part .key) (part .field)
 
 module _ (suite : Suite) (before : List ℕ) where
   -- the making of its token, then the operation with it [01:LG16]
@@ -40,7 +50,14 @@ module _ (suite : Suite) (before : List ℕ) where
   compactCall key nonces =
       madeOr (verdict (keyTests key)) (Compaction.compact suite before nonces (compactionToken suite key)) before []
 
--- one call of the six on a store: what it answers, the store after it, its output [01:LG20]
+  unfoldable pub testCall : List ℕ → Field → List ℕ → Result
+  testCall key f id = madeOr (verdict (fieldTokenTests key f)) (Test.test suite before id (markToken suite key f)) before []
+
+  unfoldable pub jointCall : List Part → List ℕ → Result
+  jointCall parts output =
+      madeOr (verdict (flat (map partTokenTests parts))) (JointFind.jointFind suite before (flat (map (partOf suite) parts)) output) before output
+
+-- one call of the eight on a store: what it answers, the store after it, its output [01:LG20]
 abbrev pub perform : Suite → Call → List ℕ → Result
 perform suite (Call.insert key f p u nonce ids nonces) before = insertCall suite before key f p u nonce ids nonces
 perform suite (Call.erase id) before = Erase.erase before id
@@ -48,6 +65,8 @@ perform suite (Call.find key f output) before = findCall suite before key f outp
 perform suite (Call.count key f) before = countCall suite before key f
 perform suite (Call.compact key nonces) before = compactCall suite before key nonces
 perform suite Call.order before = Order.order before
+perform suite (Call.test key f id) before = testCall suite before key f id
+perform suite (Call.jointFind parts output) before = jointCall suite before parts output
 
 -- what is told of a call's result
 abbrev pub toldBy : Call → Result → Told

@@ -15,26 +15,29 @@ use Rattle.scheme.specs.Keys.{CT, CE}
 
 -- ---- the header
 
--- p, m, c, s of a header [01:ST2]
+-- p, m, c, s, r of a header [01:ST2] [02:W4.7]
 pub record Sizes : Type 0 where
   pub p : ℕ
   pub m : ℕ
   pub c : ℕ
   pub s : ℕ
+  pub r : ℕ
 
+-- [02:W4.7]
 abbrev pub headerLength : ℕ
-headerLength = 8
+headerLength = 10
 
--- p above 15, or m, c or s outside 1 to 4,096 [01:KT3 ST2]
+-- p above 15, or m, c, s or r outside 1 to 4,096 [01:KT3 ST2] [02:W4.2]
 abbrev pub rowsBad : ℕ → Bool
 rowsBad n = ltb n 1 || ltb 4096 n
 
 unfoldable pub sizesBad : Sizes → Bool
-sizesBad z = ltb 15 (z .p) || (rowsBad (z .m) || (rowsBad (z .c) || rowsBad (z .s)))
+sizesBad z = ltb 15 (z .p) || (rowsBad (z .m) || (rowsBad (z .c) || (rowsBad (z .s) || rowsBad (z .r))))
 
--- the header: version 1, p, then m, c, s, two bytes each, big-endian [01:ST2]
+-- the header: version 2, p, then m, c, s, r, two bytes each, big-endian [01:ST2] [02:W4.5 W4.7]
 unfoldable pub headerOf : Sizes → List ℕ
-headerOf z = 1 ∷ z .p ∷ z .m / 256 ∷ z .m % 256 ∷ z .c / 256 ∷ z .c % 256 ∷ z .s / 256 ∷ z .s % 256 ∷ []
+headerOf z =
+    2 ∷ z .p ∷ z .m / 256 ∷ z .m % 256 ∷ z .c / 256 ∷ z .c % 256 ∷ z .s / 256 ∷ z .s % 256 ∷ z .r / 256 ∷ z .r % 256 ∷ []
 
 unfoldable pub sizesOf : List ℕ → Sizes
 sizesOf b = record {
@@ -42,34 +45,38 @@ sizesOf b = record {
   m = 256 * getD b 2 0 + getD b 3 0;
   c = 256 * getD b 4 0 + getD b 5 0;
   s = 256 * getD b 6 0 + getD b 7 0;
+  r = 256 * getD b 8 0 + getD b 9 0;
 }
 
 -- ---- the plan of the tables
 
--- a table of the store [01:SC1 SC4]
+-- a table of the store [01:SC1 SC4] [02:W4.1]
 pub data Which : Type 0 where
   tableM : Which
   tableV : Which
   tableC : Which
   tableS : Which
+  tableR : Which
 
--- the tables in the order in which they stand [01:ST3]
+-- the tables in the order in which they stand [01:ST3] [02:W4.1]
 abbrev pub plan : List Which
-plan = tableM ∷ tableV ∷ tableC ∷ tableS ∷ []
+plan = tableM ∷ tableV ∷ tableC ∷ tableS ∷ tableR ∷ []
 
--- how many bytes a row has [01:ST6 ST8 ST9 ST12]
+-- how many bytes a row has [01:ST6 ST8 ST9 ST12] [02:W4.3]
 abbrev pub widthOf : Which → ℕ
 widthOf tableM = 61
 widthOf tableV = 49
 widthOf tableC = 61
 widthOf tableS = 45
+widthOf tableR = 61
 
--- how many rows the table has in a store with these sizes [01:ST3]
+-- how many rows the table has in a store with these sizes [01:ST3] [02:W4.2]
 abbrev pub rowsOf : Sizes → Which → ℕ
 rowsOf z tableM = z .m
 rowsOf z tableV = z .m
 rowsOf z tableC = z .c
 rowsOf z tableS = z .s
+rowsOf z tableR = z .r
 
 -- the greatest mark that a row may have [01:ST5 RS3]
 abbrev pub greatestMark : Which → ℕ
@@ -77,6 +84,7 @@ greatestMark tableM = 1
 greatestMark tableV = 1
 greatestMark tableC = 1
 greatestMark tableS = 1
+greatestMark tableR = 1
 
 -- a table's place in the order, by which two tables are told apart
 abbrev pub rankOf : Which → ℕ
@@ -84,6 +92,7 @@ rankOf tableM = 0
 rankOf tableV = 1
 rankOf tableC = 2
 rankOf tableS = 3
+rankOf tableR = 4
 
 abbrev pub sameTable : Which → Which → Bool
 sameTable j k = eqb (rankOf j) (rankOf k)
@@ -102,7 +111,7 @@ endFrom n a (j ∷ js) = endFrom n (a + widthOf j * n j) js
 abbrev pub startOf : Sizes → Which → ℕ
 startOf z k = startFrom (rowsOf z) headerLength plan k
 
--- the length of a store with these sizes; that it is 8 + 110·m + 61·c + 45·s is a law [01:ST3]
+-- the length of a store with these sizes; that it is 10 + 110·m + 61·c + 45·s + 61·r is a law [01:ST3] [02:W4.8]
 unfoldable pub lengthFor : Sizes → ℕ
 lengthFor z = endFrom (rowsOf z) headerLength plan
 
@@ -137,9 +146,9 @@ putIn k t st = record { header = st .header; table = instead k t (st .table) }
 
 -- ---- what every call tests first
 
--- the condition of 10 [01:RS2]
+-- the condition of 10 [01:RS2] [02:W4.5 W4.6]
 unfoldable pub headerBad : List ℕ → Bool
-headerBad b = ltb (length b) headerLength || (not (eqb (getD b 0 0) 1) || (sizesBad (sizesOf b) || not (eqb (length b) (lengthFor (sizesOf b)))))
+headerBad b = ltb (length b) headerLength || (not (eqb (getD b 0 0) 2) || (sizesBad (sizesOf b) || not (eqb (length b) (lengthFor (sizesOf b)))))
 
 -- the condition of 11: a table has a mark above its greatest [01:RS3]
 unfoldable pub marksBad : Store → Bool
@@ -216,6 +225,14 @@ module _ (suite : Suite) where
   unfoldable pub clIn : List ℕ → List ℕ → List ℕ
   clIn ks b = E ks (take 12 b) (drop 12 b)
 
+  -- R mark: F(RL, n then id) [02:W4.3]
+  unfoldable pub rMark : List ℕ → List ℕ → List ℕ → List ℕ
+  rMark rl nonce id = F rl (nonce ++ id)
+
+  -- R: mark, id, nonce, R mark: the document of the id has the label [02:W4.3]
+  unfoldable pub labelRow : List ℕ → List ℕ → List ℕ → Row
+  labelRow rl nonce id = 1 ∷ id ++ (nonce ++ rMark rl nonce id)
+
 -- S: mark, nonce, E(KS, nonce, CL) [01:ST12]
 unfoldable pub logRow : List ℕ → Row
 logRow log = 1 ∷ log
@@ -226,3 +243,13 @@ reverseId b = take 16 b
 
 unfoldable pub reverseTag : List ℕ → List ℕ
 reverseTag b = drop 16 b
+
+-- id, nonce and R mark in an R row [02:W4.3]
+unfoldable pub labelId : List ℕ → List ℕ
+labelId b = take 16 b
+
+unfoldable pub labelNonce : List ℕ → List ℕ
+labelNonce b = take 12 (drop 16 b)
+
+unfoldable pub labelMark : List ℕ → List ℕ
+labelMark b = drop 28 b
