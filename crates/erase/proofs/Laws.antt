@@ -20,7 +20,7 @@ use Rattle.answer.specs.declared.Refusal.{Refusal}
 use Rattle.answer.specs.Verdict.{verdict}
 use Rattle.scheme.specs.Store.{tableM, tableV, widthOf, cut, joined, putIn, stateTests, reverseId, reverseTag}
 use Rattle.scheme.specs.Layout.{Laid}
-use Rattle.scheme.specs.Refusals.{eraseInputTests}
+use Rattle.scheme.specs.Refusals.{idTests}
 use Rattle.scheme.specs.Erase.{isReverse, erasedTags, isErased, erasedStore, eraseVerdict, erase}
 use Rattle.store.specs.declared.Shape.{Shape}
 use Rattle.store.specs.declared.Checked.the-variants.{Fit, Refused}
@@ -153,12 +153,12 @@ module _ (before id : List ℕ) where
 -- the call's ways out, in the order of its refusals
 module _ (before id : List ℕ) where
   pub erase-length : (length id ≡ 16 → ⊥) → (refused 5 [] ≡ erase before id .answer) × (before ≡ erase before id .store)
-  unfolding erase eraseVerdict eraseInputTests
+  unfolding erase eraseVerdict idTests
   erase-length h = let e = ne-eqb (length id) 16 h in (rw e, rw e)
 
   module _ (h : length id ≡ 16) where
     verdict-is : eraseVerdict before id ≡ verdict (stateTests before ++ [])
-    unfolding eraseVerdict eraseInputTests
+    unfolding eraseVerdict idTests
     verdict-is = rw (eq-eqb (length id) 16 h) (ap verdict (sym (append-nil (stateTests before))))
 
     pub erase-unfit : (r : Refusal) → checkedOf before ≡ Refused r → (refusal r ≡ erase before id .answer) × (before ≡ erase before id .store)

@@ -25,7 +25,7 @@ use Rattle.scheme.specs.Labels.{Field}
 use Rattle.scheme.specs.Keys.{insertTokenLength, findTokenLength, countTokenLength, compactionTokenLength, tokenCL, findCL}
 use Rattle.scheme.specs.Store.{Sizes, Which, tableM, tableV, tableC, tableS, widthOf, rowsOf, startOf, makeTests, make, cut, sizesOf, headerBad, markTests, stateTests, entryTag, clIn}
 use Rattle.scheme.specs.Reading.{Reading, damage, counter, limit, countOf, damaged, reading}
-use Rattle.scheme.specs.Refusals.{tokenTests, eraseInputTests, insertInputTests, compactionInputTests, insertTokenTests, fieldTokenTests, keyTests}
+use Rattle.scheme.specs.Refusals.{tokenTests, idTests, insertInputTests, compactionInputTests, insertTokenTests, fieldTokenTests, keyTests}
 use Rattle.scheme.specs.Insert.{insertReading, newCount, insertStateTests, insertVerdict, insert}
 use Rattle.scheme.specs.Erase.{isReverse, eraseVerdict, erase}
 use Rattle.scheme.specs.Find.{idOf, idsTo, shareReading, idsOfShare, idsHeld, idsFound, findVerdict, find}
@@ -102,9 +102,9 @@ insert-fits before ids nonces token h =
     (tt, λ _. (tt, λ _. (tt, λ _. (tt, λ _. (tt, λ _. (tt, λ _. (tt, λ _. (tt, λ _. (tt, λ _. (tt, λ _. (tt, λ _. (tt, λ _. record { small = omega (arith, n, h); gives = one }))))))))))))
 
 pub erase-fits : (before id : List ℕ) → Fits 1 (erase before id .answer)
-unfolding erase eraseVerdict eraseInputTests stateTests
+unfolding erase eraseVerdict idTests stateTests
 erase-fits before id =
-    bounded (eraseInputTests id ++ stateTests before) _
+    bounded (idTests id ++ stateTests before) _
     (tt, λ _. (tt, λ h. (tt, λ _. (tt, λ _. record { small = omega (arith, good-header before h .range .m-most, used-most before tableV, count-le (isReverse before id) (used (cut before .table tableV))); gives = one }))))
 
 full-fits : (before token : List ℕ) → Fits 1 (fullCount program before token)
