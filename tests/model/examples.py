@@ -1,10 +1,11 @@
-"""Fixed examples: document 01's L1 to L6 and its worked list G1 to G8, on store and ledger both, and a list
-with ids that come more than once and one with orders between (document 02, requests 1 and 2); tables in form and out of
-it; the rows that a count looks at (request 3); and refusals 7 to 20 on made and forged stores, in the paper's order.
+"""Fixed examples: document 01's L1 to L6 and its worked list G1 to G8, on store and ledger both, and lists with ids that
+come more than once, with orders between, with tests and joint finds (document 02, requests 1, 2 and 4); tables in form and
+out of it; the rows that a count looks at (request 3); R rows, tests and joint finds on forged stores; and refusals 7 to 21 on
+made and forged stores, in the paper's order.
 """
 import form
 import scheme
-from calls import Compact, Count, Done, Erase, Find, Insert, Order, Refused, compared
+from calls import Compact, Count, Done, Erase, Find, Insert, JointFind, Order, Part, Refused, Test, compared, nonce_bytes
 from ledger import Ledger
 from primitives import Cheap, Real, chacha20_block, number
 
@@ -12,6 +13,8 @@ KEY = bytes(range(32))
 NONCE = bytes(12)
 HUE = (b"hue", b"red")
 SIZE = (b"size", b"L")
+BLUE = (b"hue", b"blue")
+NAMELESS = (b"", b"blue")
 GREATEST = scheme.GREATEST
 
 
@@ -57,11 +60,11 @@ def id_of(letter):
 
 def insert(field, u, letters, p=1):
     ids = b"".join(id_of(x) for x in letters)
-    return Insert(KEY, *field, p, u, NONCE, bytes(12 * (len(letters) + 1)), ids)
+    return Insert(KEY, *field, p, u, NONCE, bytes(nonce_bytes(len(letters))), ids)
 
 
 def worked():
-    """G1 to G8 as calls with what each tells [01:DY1 to DY9]."""
+    """G1 to G8 as calls with what each tells [01:DY1 to DY9], for p = 1, m = c = s = 4, r = 4 [02:W4.31]."""
     lent = bytes([255]) * 80
 
     def find(letters):
@@ -91,7 +94,7 @@ def worked():
 def repeated():
     """Calls with what each tells, where ids have several entries: each is found once [02:W1.1], at its first
     place [02:W1.2], which is another after an erase and a new insert; 18 by the different ids [02:W1.3];
-    count [02:W1.4] and erase [02:W1.6] by entries. For p = 1, m = 9, c = s = 6."""
+    count [02:W1.4] and erase [02:W1.6] by entries. For p = 1, m = r = 9, c = s = 6."""
     def find(letters, ids=None):
         """A find with room for as many ids; refused where it finds more."""
         lent = bytes([255]) * (16 * (len(letters) if ids is None else ids))
@@ -120,9 +123,9 @@ def repeated():
 
 
 def ordered():
-    """Calls with what each tells, an order among them: it answers the used rows of all tables [02:W2.8], 2 for each
-    entry, 1 for each anchor, 2 for each insert since the last compaction, and no later answer is another [02:W2.10]. For
-    p = 1, m = 6, c = s = 4."""
+    """Calls with what each tells, an order among them: it answers the used rows of all tables [02:W2.8], 3 for each
+    entry [02:W4.13], 1 for each anchor, 2 for each insert since the last compaction, and no later answer is another
+    [02:W2.10]. For p = 1, m = r = 6, c = s = 4."""
     def told(*values):
         return Done(values), None
 
@@ -131,22 +134,78 @@ def ordered():
         return Find(KEY, *HUE, bytes(16 * 4)), (Done((len(letters),)), ids + bytes(16 * 4 - len(ids)))
 
     return [
-        ("O1", Order(), told(0)), ("O1", insert(HUE, 0, "BA"), told(2)), ("O1", Order(), told(6)), ("O1", *find("BA")),
-        ("O2", insert(HUE, 1, "C"), told(1)), ("O2", Order(), told(10)), ("O2", insert(HUE, 0, "BB"), told(4)),
-        ("O2", Order(), told(16)), ("O2", Order(), told(16)), ("O2", *find("BAC")),
-        ("O3", Erase(id_of("B")), told(3)), ("O3", Order(), told(10)), ("O3", *find("AC")),
-        ("O4", Compact(KEY, bytes(12 * 4)), told(2, 3)), ("O4", Order(), told(6)), ("O4", *find("AC")),
-        ("O5", insert(SIZE, 0, "AA"), told(2)), ("O5", Order(), told(12)), ("O5", insert(SIZE, 1, "A"), told(1)),
-        ("O5", insert(SIZE, 1, "A"), (Refused(16, ()), None)), ("O5", Order(), told(16)),
-        ("O6", Compact(KEY, bytes(12 * 4)), told(2, 2)), ("O6", Order(), told(14)), ("O6", Erase(id_of("A")), told(4)),
-        ("O6", Order(), told(6)), ("O6", Count(KEY, *HUE), told(5)), ("O6", *find("C")),
+        ("O1", Order(), told(0)), ("O1", insert(HUE, 0, "BA"), told(2)), ("O1", Order(), told(8)), ("O1", *find("BA")),
+        ("O2", insert(HUE, 1, "C"), told(1)), ("O2", Order(), told(13)), ("O2", insert(HUE, 0, "BB"), told(4)),
+        ("O2", Order(), told(21)), ("O2", Order(), told(21)), ("O2", *find("BAC")),
+        ("O3", Erase(id_of("B")), told(3)), ("O3", Order(), told(12)), ("O3", *find("AC")),
+        ("O4", Compact(KEY, bytes(12 * 4)), told(2, 3)), ("O4", Order(), told(8)), ("O4", *find("AC")),
+        ("O5", insert(SIZE, 0, "AA"), told(2)), ("O5", Order(), told(16)), ("O5", insert(SIZE, 1, "A"), told(1)),
+        ("O5", insert(SIZE, 1, "A"), (Refused(16, ()), None)), ("O5", Order(), told(21)),
+        ("O6", Compact(KEY, bytes(12 * 4)), told(2, 2)), ("O6", Order(), told(19)), ("O6", Erase(id_of("A")), told(4)),
+        ("O6", Order(), told(7)), ("O6", Count(KEY, *HUE), told(5)), ("O6", *find("C")),
     ]
 
 
-def made(build, suite, p, m, c, s):
+def jointly():
+    """Calls with what each tells, tests and joint finds among them. For p = 1, m = 8, c = s = 6, r = 7."""
+    lent = bytes([255])
+
+    def told(*values):
+        return Done(values), None
+
+    def join(room, fields, letters="", refused=None):
+        """A joint find of these fields, a field of None being one whose key is refused."""
+        parts = [Part(KEY, *field) if field else Part(KEY[:31], *HUE) for field in fields]
+        ids = b"".join(id_of(x) for x in letters)
+        answer = (refused, lent * room) if refused else (Done((len(letters),)), ids + lent * (room - len(ids)))
+        return JointFind(parts, lent * room), answer
+
+    def test(field, letter, says):
+        return Test(KEY, *field, id_of(letter)), told(says)
+
+    red_and_l, l_and_red = [HUE, SIZE], [SIZE, HUE]
+    return [
+        # In the order of the field with the fewer made, whichever part it is [02:W4.19 W4.21]; one part alone is the find.
+        ("J1", insert(HUE, 0, "ABC"), told(3)), ("J1", insert(SIZE, 1, "CA"), told(2)), ("J1", *join(40, red_and_l, "CA")),
+        ("J1", *join(40, l_and_red, "CA")), ("J1", *join(64, [HUE], "ABC")),
+        # A test says whether the id is in a list of the field and value, of any share [02:W4.17].
+        ("J2", *test(HUE, "A", 1)), ("J2", *test(SIZE, "A", 1)), ("J2", *test(SIZE, "B", 0)), ("J2", *test(BLUE, "A", 0)),
+        ("J2", *join(16, [HUE, BLUE])),
+        # The earlier on a tie of 3 made [02:W4.20].
+        ("J3", insert(SIZE, 0, "D"), told(1)), ("J3", *join(32, red_and_l, "AC")), ("J3", *join(32, l_and_red, "CA")),
+        # An erased id is in no joint find and tests no [02:W4.14]; 18 by the ids kept [02:W4.23].
+        ("J4", Erase(id_of("C")), told(2)), ("J4", *join(16, red_and_l, "A")), ("J4", *join(15, red_and_l, refused=Refused(18, (1,)))),
+        ("J4", *test(HUE, "C", 0)), ("J4", *test(HUE, "B", 1)),
+        # A compaction changes nothing of it.
+        ("J5", Compact(KEY, bytes(12 * 6)), told(3, 3)), ("J5", Erase(id_of("B")), told(1)), ("J5", *join(16, l_and_red, "A")),
+        # 3 entries are listed: 5 more have room in M and not in R, 4 have in both [02:W4.28 W4.29 W4.30].
+        ("J6", insert(HUE, 0, "EFGHI"), (Refused(21, ()), None)), ("J6", insert(HUE, 0, "EFGH"), told(7)),
+        # The parts are made in order, the first refused ends the call; then 6 by their number [02:W4.18 W4.24 W4.25].
+        ("J7", *join(8, [], refused=Refused(6, ()))), ("J7", *join(8, [BLUE] * 8)), ("J7", *join(8, [BLUE] * 9, refused=Refused(6, ()))),
+        ("J7", *join(8, [BLUE] * 9 + [None], refused=Refused(1, ()))), ("J7", *join(8, [None, NAMELESS], refused=Refused(1, ()))),
+        ("J7", *join(8, [BLUE, NAMELESS, None], refused=Refused(2, ()))),
+    ]
+
+
+def least():
+    """The least is by the number made, and not by the ids still listed: hue=red has 3 made and 3 listed, size=L 5 made and 2
+    listed, in another order [02:W4.19]. Then A has two entries under hue=red, and is given once. For p = 0, m = r = 8,
+    c = s = 4."""
+    def told(n):
+        return Done((n,)), None
+
+    def join(*fields):
+        return JointFind([Part(KEY, *field) for field in fields], bytes(32)), (Done((2,)), id_of("A") + id_of("B"))
+
+    return [("K1", insert(HUE, 0, "ABF", p=0), told(3)), ("K1", insert(SIZE, 0, "BACDE", p=0), told(5))] + \
+           [("K2", Erase(id_of(letter)), told(1)) for letter in "CDE"] + [("K3", *join(HUE, SIZE)), ("K3", *join(SIZE, HUE))] + \
+           [("K4", insert(HUE, 0, "A", p=0), told(4)), ("K4", *join(HUE, SIZE))]
+
+
+def made(build, suite, p, *sizes):
     model = build(suite)
-    store = bytearray(scheme.length_of(m, c, s))
-    expect("making", model.make(store, p, m, c, s), Done(()))
+    store = bytearray(scheme.length_of(*sizes))
+    expect("making", model.make(store, p, *sizes), Done(()))
     return model, store
 
 
@@ -160,31 +219,39 @@ def run_calls(build, build_ledger, sizes, calls):
             expect(name + " in the store", (compared(call, answer), output), wanted)
 
 
-def making():
-    """7 before 8, and the lengths that the paper names [01:ST3], [01:RI8], [01:RI9]."""
-    expect("224", scheme.length_of(1, 1, 1), 224)
-    expect("872", scheme.length_of(4, 4, 4), 872)
-    model = scheme.Scheme(Cheap)
-    for length, p, m, c, s, wanted in (
-            (224, 16, 1, 1, 1, 7), (224, 0, 0, 1, 1, 7), (224, 0, 1, 4097, 1, 7),
-            (224, 257, 1, 1, 1, 7), (0, 16, 1, 1, 1, 7), (223, 15, 1, 1, 1, 8), (0, 0, 1, 1, 1, 8)):
+def making(build):
+    """7 before 8, the lengths by the formula [01:ST3] [02:W4.8], the header [02:W4.5 W4.7], [01:RI8] [02:W4.2], [01:RI9]."""
+    expect("287", scheme.length_of(1, 1, 1, 1), 287)
+    expect("1118", scheme.length_of(4, 4, 4, 4), 1118)
+    expect("582", scheme.length_of(1, 2, 3, 3), 10 + 110 + 122 + 135 + 183)
+    model = build(Cheap)
+    for length, p, m, c, s, r, wanted in (
+            (287, 16, 1, 1, 1, 1, 7), (287, 0, 0, 1, 1, 1, 7), (287, 0, 1, 4097, 1, 1, 7), (287, 0, 1, 1, 1, 0, 7),
+            (226, 0, 1, 1, 1, 0, 7), (287, 0, 1, 1, 1, 4097, 7), (226 + 61 * 4097, 0, 1, 1, 1, 4097, 7), (287, 257, 1, 1, 1, 1, 7),
+            (0, 16, 1, 1, 1, 1, 7), (286, 15, 1, 1, 1, 1, 8), (288, 15, 1, 1, 1, 1, 8), (224, 15, 1, 1, 1, 1, 8),
+            (287, 0, 1, 1, 1, 2, 8), (0, 0, 1, 1, 1, 1, 8)):
         store = bytearray(b"x" * length)
-        expect("making", model.make(store, p, m, c, s), Refused(wanted, ()))
+        expect("making", model.make(store, p, m, c, s, r), Refused(wanted, ()))
         expect("making refused leaves the slice", store, bytearray(b"x" * length))
-    store = bytearray(b"x" * 224)
-    expect("making", model.make(store, 15, 1, 1, 1), Done(()))
-    expect("a fresh store", store.hex(), "010f000100010001" + "00" * 216)
+    store = bytearray(b"x" * 287)
+    expect("making", model.make(store, 15, 1, 1, 1, 1), Done(()))
+    expect("a fresh store", store.hex(), "020f0001000100010001" + "00" * 277)
+    store = bytearray(10 + 110 + 122 + 135 + 61 * 260)
+    expect("making", model.make(store, 3, 1, 2, 3, 260), Done(()))
+    expect("r after s", store[:10].hex(), "02030001000200030104")
 
 
 def every_call(model, store, p):
-    """The six operations on a store, with tokens that are right for p."""
+    """The eight operations on a store, with tokens that are right for p."""
     token = model.insert_token(KEY, *HUE, p, 0, NONCE)
-    return [("insert", lambda: model.insert(store, token, bytes(24), id_of("A"))),
+    return [("insert", lambda: model.insert(store, token, bytes(36), id_of("A"))),
             ("erase", lambda: model.erase(store, id_of("A"))),
             ("find", lambda: model.find(store, model.find_token(KEY, *HUE), bytearray(64))),
             ("count", lambda: model.count(store, model.count_token(KEY, *HUE))),
             ("compact", lambda: model.compact(store, model.compact_token(KEY), bytes(48))),
-            ("order", lambda: model.order(store))]
+            ("order", lambda: model.order(store)),
+            ("test", lambda: model.test(store, id_of("A"), model.mark_token(KEY, *HUE))),
+            ("joint find", lambda: model.joint_find(store, model.part_token(KEY, *HUE) + model.part_token(KEY, *SIZE), bytearray(64)))]
 
 
 def all_refuse(model, store, number_wanted, names=None):
@@ -195,29 +262,34 @@ def all_refuse(model, store, number_wanted, names=None):
             expect(name + " refused leaves the store", bytes(store), before)
 
 
-def headers():
-    """10 before 11 before 12 [01:RS2 to RS4]."""
-    for at, byte in ((0, 0), (0, 2), (1, 16), (2, 17), (3, 0), (5, 5), (7, 0)):
-        model, store = made(scheme.Scheme, Cheap, 1, 4, 4, 4)
-        store[8] = 2
+def headers(build):
+    """10 before 11 before 12 [01:RS2 to RS4]; version 1 is refused [02:W4.6], and r out of its range [02:W4.2]."""
+    for at, byte in ((0, 0), (0, 1), (0, 3), (1, 16), (2, 17), (3, 0), (5, 5), (7, 0), (8, 17), (9, 0), (9, 5)):
+        model, store = made(build, Cheap, 1, 4, 4, 4, 4)
+        store[10] = 2
         store[at] = byte
         all_refuse(model, store, 10)
-    for length in (0, 7, 8, 871, 873):
-        model, store = made(scheme.Scheme, Cheap, 1, 4, 4, 4)
+    for rows in (0, 4097):
+        model, store = made(build, Cheap, 1, 4, 4, 4, 4)
+        store[8:10] = rows.to_bytes(2, "big")
+        store[10 + 4 * (110 + 61 + 45):] = bytes(61 * rows)
+        all_refuse(model, store, 10)
+    for length in (0, 7, 8, 9, 10, 1117, 1119):
+        model, store = made(build, Cheap, 1, 4, 4, 4, 4)
         all_refuse(model, (store + bytes(1))[:length], 10)
     for name, t in scheme.tables(store).items():
         for mark in (2, 255):
-            model, store = made(scheme.Scheme, Cheap, 1, 4, 4, 4)
+            model, store = made(build, Cheap, 1, 4, 4, 4, 4)
             store[t.start + t.width * 3] = mark
             all_refuse(model, store, 11)
             token = model.insert_token(KEY, *HUE, 0, 0, NONCE)
-            answer = model.insert(store, token, bytes(24), id_of("A"))
+            answer = model.insert(store, token, bytes(36), id_of("A"))
             expect("11 before 12", answer, Refused(11, ()))
 
 
-def input_order():
+def input_order(build):
     """Refusals of the input by number, before those of the state [01:RI1]."""
-    model, store = made(scheme.Scheme, Cheap, 1, 4, 4, 4)
+    model, store = made(build, Cheap, 1, 4, 4, 4, 4)
     store[0] = 9
     token = model.insert_token(KEY, *HUE, 1, 0, NONCE)
     for call, wanted in (
@@ -228,23 +300,34 @@ def input_order():
             (lambda: model.insert_token(KEY, b"a", b"", 16, 0, b""), 3),
             (lambda: model.insert_token(KEY, b"a", b"", 1, 2, b""), 3),
             (lambda: model.insert_token(KEY, b"a", b"", 1, 1, b""), 4),
+            (lambda: model.mark_token(b"", b"", b""), 1), (lambda: model.mark_token(KEY, b"", b""), 2),
+            (lambda: model.part_token(b"", b"", b""), 1), (lambda: model.part_token(KEY, b"a", bytes(1025)), 2),
             (lambda: model.insert(store, b"", b"", b""), 4),
             (lambda: model.insert(store, b"", bytes(12), b""), 5),
-            (lambda: model.insert(store, b"", bytes(24), bytes(17)), 5),
-            (lambda: model.insert(store, b"", bytes(12 * 66), bytes(16 * 65)), 5),
-            (lambda: model.insert(store, b"", bytes(24), bytes(16)), 6),
-            (lambda: model.insert(store, token, bytes(24), bytes(16)), 10),
+            (lambda: model.insert(store, token, bytes(24), bytes(16)), 4),
+            (lambda: model.insert(store, token, bytes(48), bytes(16)), 4),
+            (lambda: model.insert(store, b"", bytes(36), bytes(17)), 5),
+            (lambda: model.insert(store, b"", bytes(12 * 131), bytes(16 * 65)), 5),
+            (lambda: model.insert(store, b"", bytes(36), bytes(16)), 6),
+            (lambda: model.insert(store, token[:141], bytes(36), bytes(16)), 6),
+            (lambda: model.insert(store, token, bytes(36), bytes(16)), 10),
             (lambda: model.erase(store, bytes(15)), 5),
             (lambda: model.find(store, bytes(95), bytearray()), 6),
             (lambda: model.count(store, bytes(33)), 6),
             (lambda: model.compact(store, b"", bytes(13)), 4),
-            (lambda: model.compact(store, b"", bytes(24)), 6)):
+            (lambda: model.compact(store, b"", bytes(24)), 6),
+            (lambda: model.test(store, bytes(15), b""), 5), (lambda: model.test(store, bytes(17), bytes(32)), 5),
+            (lambda: model.test(store, bytes(16), bytes(31)), 6), (lambda: model.test(store, bytes(16), bytes(33)), 6),
+            (lambda: model.test(store, bytes(16), bytes(32)), 10),
+            *((lambda n=n: model.joint_find(store, bytes(n), bytearray()), 6) for n in (0, 127, 129, 255, 1023, 1025, 1152)),
+            (lambda: model.joint_find(store, bytes(128), bytearray()), 10),
+            (lambda: model.joint_find(store, bytes(1024), bytearray()), 10)):
         expect("order of the input's refusals", call(), Refused(wanted, ()))
 
 
-def forged(build_rows, p=1, sizes=(4, 4, 4)):
+def forged(build_rows, p=1, sizes=(4, 4, 4, 4), build=scheme.Scheme):
     """A fresh store with C rows of hue=red, share 0, written as `build_rows` names them."""
-    model, store = made(scheme.Scheme, Cheap, p, *sizes)
+    model, store = made(build, Cheap, p, *sizes)
     cl = model.insert_token(KEY, *HUE, p, 0, NONCE)[65:97]
     for kind, n, one, two in build_rows:
         tag = model.counter_tag(cl, n) if kind == "counter" else model.anchor_tag(cl, n)
@@ -254,7 +337,7 @@ def forged(build_rows, p=1, sizes=(4, 4, 4)):
 
 def damage():
     """13 comes under its condition and no other [01:RS6]."""
-    reads = ("insert", "find", "count")
+    reads = ("insert", "find", "count", "joint find")
     for rows in ([("counter", 1, 1, 1)], [("counter", 1, 0, GREATEST + 1)],
                  [("anchor", 1, GREATEST + 1, 0)], [("anchor", 1, 0, GREATEST + 1)],
                  [("anchor", 1, 3, GREATEST + 1), ("counter", 4, 0, 1)],
@@ -272,33 +355,40 @@ def damage():
         expect("a count", model.count(store, model.count_token(KEY, *HUE)).values[0], count)
 
 
-def limits():
-    """14 before 15 before 16 before 17; 19 before 13 [01:RS5 to RS10]."""
+def limits(build):
+    """14 before 15 before 16 before 17 before 21; 19 before 13 [01:RS5 to RS10] [02:W4.30]."""
     def insert_one(model, store, n=1):
         token = model.insert_token(KEY, *HUE, 1, 0, NONCE)
-        return model.insert(store, token, bytes(12 * n + 12), bytes(16 * n))
+        return model.insert(store, token, bytes(nonce_bytes(n)), bytes(16 * n))
 
-    model, store = forged([("anchor", 1, 1, GREATEST)], sizes=(1, 1, 1))
+    def use(store, name, rows=1):
+        """Rows of a table, in form."""
+        t = scheme.tables(store)[name]
+        for i in range(rows):
+            store[t.start + t.width * i] = 1
+
+    model, store = forged([("anchor", 1, 1, GREATEST)], sizes=(1, 1, 1, 1), build=build)
     expect("14", insert_one(model, store), Refused(14, ()))
     expect("14 before 15", insert_one(model, store, 2), Refused(14, ()))
-    model, store = forged([("anchor", 1, 1, GREATEST - 1)])
+    model, store = forged([("anchor", 1, 1, GREATEST - 1)], build=build)
     expect("the greatest count", insert_one(model, store), Done((GREATEST,)))
-    model, store = forged([("anchor", 1, 1, 1)], sizes=(1, 1, 1))
-    store[-45] = 1
+    model, store = forged([("anchor", 1, 1, 1)], sizes=(1, 1, 1, 1), build=build)
+    use(store, "S"), use(store, "R")
     expect("15 before 16", insert_one(model, store, 2), Refused(15, ()))
     expect("16 before 17", insert_one(model, store), Refused(16, ()))
-    model, store = forged([("anchor", 1, 1, 1)], sizes=(1, 2, 1))
-    store[-45] = 1
-    expect("17", insert_one(model, store), Refused(17, ()))
-    for table in ("M", "V"):
-        model, store = forged([])
-        t = scheme.tables(store)[table]
-        for i in range(3):
-            store[t.start + t.width * i] = 1
-        expect("15 in " + table, insert_one(model, store, 2), Refused(15, ()))
+    model, store = forged([("anchor", 1, 1, 1)], sizes=(1, 2, 1, 1), build=build)
+    use(store, "S"), use(store, "R")
+    expect("17 before 21", insert_one(model, store), Refused(17, ()))
+    model, store = forged([("anchor", 1, 1, 1)], sizes=(1, 2, 1, 1), build=build)
+    use(store, "R")
+    expect("21", insert_one(model, store), Refused(21, ()))
+    for table, number_wanted in (("M", 15), ("V", 15), ("R", 21)):
+        model, store = forged([], build=build)
+        use(store, table, 3)
+        expect("%d in %s" % (number_wanted, table), insert_one(model, store, 2), Refused(number_wanted, ()))
         expect("room in " + table, insert_one(model, store), Done((1,)))
-    model, store = forged([("counter", 1, 1, 1)])
-    model.put(store, "S", b"\1" + model.insert_token(KEY, *HUE, 1, 0, NONCE)[97:])
+    model, store = forged([("counter", 1, 1, 1)], build=build)
+    model.put(store, "S", b"\1" + model.insert_token(KEY, *HUE, 1, 0, NONCE)[97:141])
     token = model.compact_token(KEY)
     expect("19 before 13", model.compact(store, token, b""), Refused(19, ()))
     expect("13", model.compact(store, token, NONCE), Refused(13, (0, 0)))
@@ -307,7 +397,7 @@ def limits():
 def compactions():
     """13 in compaction keeps what was treated [01:RS13]; k = 0 writes nothing [01:OP11]."""
     for damaged in (0, 1):
-        model, store = made(scheme.Scheme, Cheap, 1, 4, 4, 4)
+        model, store = made(scheme.Scheme, Cheap, 1, 4, 4, 4, 4)
         for call in (insert(SIZE, 0, "A"), insert(SIZE, 0, "B"), insert(HUE, 0, "C")):
             model.call(store, call)
         c, s = scheme.tables(store)["C"], scheme.tables(store)["S"]
@@ -333,7 +423,7 @@ def compactions():
         expect("in form after it", form.in_form(store), True)
 
     model, store = forged([])
-    model.put(store, "S", b"\1" + model.insert_token(KEY, *HUE, 1, 0, NONCE)[97:])
+    model.put(store, "S", b"\1" + model.insert_token(KEY, *HUE, 1, 0, NONCE)[97:141])
     model.call(store, insert(SIZE, 0, "A"))
     nonces = b"1" * 12 + b"2" * 12
     expect("k = 0", model.call(store, Compact(KEY, nonces)), (Done((1, 1)), None))
@@ -342,21 +432,21 @@ def compactions():
 
     # A position above the greatest number may be written; the next reading is 13.
     model, store = forged([("anchor", 1, GREATEST, 5), ("counter", GREATEST + 1, 0, 6)])
-    model.put(store, "S", b"\1" + model.insert_token(KEY, *HUE, 1, 0, NONCE)[97:])
+    model.put(store, "S", b"\1" + model.insert_token(KEY, *HUE, 1, 0, NONCE)[97:141])
     expect("a position", model.call(store, Compact(KEY, NONCE)), (Done((1, 1)), None))
     expect("after it", model.call(store, Count(KEY, *HUE)), (Refused(13, ()), None))
 
 
 def rows():
     """Lookup, freeing and free rows' bytes [01:ST5], [01:ST13], [01:ST14]."""
-    model, store = made(scheme.Scheme, Cheap, 0, 4, 4, 4)
+    model, store = made(scheme.Scheme, Cheap, 0, 4, 4, 4, 4)
     fresh = bytes(store)
-    for i in range(8, len(store)):
+    for i in range(scheme.HEADER, len(store)):
         store[i] = 7
     for t in scheme.tables(store).values():
         for i in range(t.rows):
             store[t.start + t.width * i] = 0
-    all_refuse(model, store, 20, OLD)
+    all_refuse(model, store, 20, IN_FORM)
     expect("free rows with any bytes", (model.order(store), bytes(store)), (Done((0,)), fresh))
     model.call(store, insert(HUE, 0, "AB", p=0))
     m, v = scheme.tables(store)["M"], scheme.tables(store)["V"]
@@ -379,13 +469,14 @@ def rows():
         expect("no V row", model.erase(trial, id_of("A")), Done((0,)))
 
 
-OLD = ("insert", "erase", "find", "count", "compact")
+# All but an order, which takes a store in any form.
+IN_FORM = ("insert", "erase", "find", "count", "compact", "test", "joint find")
 
 
 def forms():
     """What is in form and what is not [02:W2.1 W2.2 W2.3 W2.11], in each table; an order cures it [02:W2.6 W2.7 W2.8].
     Rows by their bytes after the mark: a byte there, and all others; free rows are 00 or what is left over."""
-    width = {"M": 61, "V": 49, "C": 61, "S": 45}
+    width = {"M": 61, "V": 49, "C": 61, "S": 45, "R": 61}
 
     def used_row(w, at, byte, rest=5):
         content = bytearray([1] + [rest] * (w - 1))
@@ -421,16 +512,16 @@ def forms():
 
 def hold(name, table, good):
     """A store with these rows in one table: in form or refused by 20, which stands after 11 and before 12, 19 and 13."""
-    model, store = made(scheme.Scheme, Cheap, 1, 4, 4, 4)
+    model, store = made(scheme.Scheme, Cheap, 1, 4, 4, 4, 4)
     t = scheme.tables(store)[name]
     fresh, rows = bytes(store), [r for r in table if r[0] == 1]
     store[t.start:t.start + 4 * t.width] = b"".join(table)
     expect("form of %s" % [r.hex() for r in table], form.in_form(store), good)
     expect("the model's form", model.in_form(store, t), good)
     if not good:
-        all_refuse(model, store, 20, OLD)
+        all_refuse(model, store, 20, IN_FORM)
         wrong, few = model.insert_token(KEY, *HUE, 0, 0, NONCE), model.compact_token(KEY)
-        expect("20 before 12", model.insert(store, wrong, bytes(24), id_of("A")), Refused(20, ()))
+        expect("20 before 12", model.insert(store, wrong, bytes(36), id_of("A")), Refused(20, ()))
         expect("20 before 19", model.compact(store, few, b""), Refused(20, ()))
         for other in scheme.tables(store).values():
             marked = bytearray(store)
@@ -568,7 +659,7 @@ REFUSED = [
 
 
 def with_c(build, suite, p, size, rows):
-    model, store = made(build, suite, p, 1, size, 1)
+    model, store = made(build, suite, p, 1, size, 1, 1)
     at = scheme.tables(store)["C"].start
     store[at:at + 61 * len(rows)] = b"".join(rows)
     return model, store
@@ -593,17 +684,153 @@ def looked(build):
     expect("bounds reached", reached, 6)
 
 
+def inserted(build):
+    """The bytes of an insert token and of the rows that an insert of two ids writes, nonces all different: p, MT, ME, CL, nonce,
+    E(KS, nonce, CL), RL [02:W4.4 W4.9]; M's nonces, the counter's, R's [02:W4.11 W4.12]; the S row [02:W4.10] and the R rows
+    [02:W4.3 W4.13]. An insert in another share has the same RL."""
+    for suite in (Cheap, Real):
+        model, store = made(build, suite, 1, 2, 2, 2, 2)
+        label, nonces = b"\3huered", bytes(range(60))
+        rl = suite.F(suite.F(KEY, number(4)), label)
+        cl = suite.F(suite.F(suite.F(KEY, number(2)), label), number(0))
+        log = b"L" * 12 + suite.E(suite.F(KEY, number(3)), b"L" * 12, cl)
+        token = model.insert_token(KEY, *HUE, 1, 0, b"L" * 12)
+        expect("an insert token's end", (len(token), token[65:]), (173, cl + log + rl))
+        expect("RL in every share", model.insert_token(KEY, *HUE, 1, 1, b"L" * 12)[141:], rl)
+        expect("RL by itself", model.mark_token(KEY, *HUE), rl)
+        expect("a part", model.part_token(KEY, *HUE), model.find_token(KEY, *HUE) + rl)
+        expect("an insert", model.insert(store, token, nonces, id_of("B") + id_of("A")), Done((2,)))
+        rows = {name: scheme.used_rows(store, t) for name, t in scheme.tables(store).items()}
+        expect("nonces of M", sorted(r[33:45] for r in rows["M"]), [nonces[:12], nonces[12:24]])
+        expect("nonce of C", rows["C"][0][33:45], nonces[24:36])
+        expect("the S row", rows["S"], [b"\1" + log])
+        expect("the R rows", rows["R"], [b"\1" + id_of(x) + n + suite.F(rl, n + id_of(x))
+                                         for x, n in (("A", nonces[48:]), ("B", nonces[36:48]))])
+
+
+# Two parts of a joint find as bytes: MT, ME, CL and RL of 32 bytes each.
+ONE, TWO = bytes(range(128)), bytes(range(128, 256))
+
+
+def entry_row(suite, part, address, letter, u=0):
+    """A row of M of a part's share."""
+    mt, me = (suite.F(part[at:at + 32], number(u)) for at in (0, 32))
+    return b"\1" + suite.F(mt, number(address)) + NONCE + suite.E(me, NONCE, id_of(letter))
+
+
+def counter_row(suite, part, count, first=0, u=0):
+    """A row of C of a part's share: its counter 1."""
+    cl = suite.F(part[64:96], number(u))
+    tag = suite.F(suite.F(cl, number(1)), b"\1" + number(1))
+    return b"\1" + tag + NONCE + suite.E(suite.F(cl, number(2)), NONCE, number(first) + number(count))
+
+
+def label_row(suite, part, letter, nonce=b"n" * 12, mark=None):
+    """A row of R of an id, with a part's R mark or another."""
+    return b"\1" + id_of(letter) + nonce + (mark or suite.F(part[96:], nonce + id_of(letter)))
+
+
+def with_rows(build, suite, tables, p=0):
+    """A store with these rows, in form; each table has room for one more."""
+    model, store = made(build, suite, p, *(len(tables.get(name, [])) + 1 for name in "MCSR"))
+    for name, rows in tables.items():
+        t = scheme.tables(store)[name]
+        store[t.start:t.start + t.width * len(rows)] = b"".join(sorted(rows))
+    return model, store
+
+
+def tested(build):
+    """Yes exactly when an R row of that id carries RL's R mark, over its own nonce and then the id [02:W4.17]."""
+    for suite in (Cheap, Real):
+        rl, nonce, a = ONE[96:], b"n" * 12, id_of("A")
+        one, two = label_row(suite, ONE, "A"), label_row(suite, TWO, "A")
+        for rows, letter, says in (
+                ([one], "A", 1), ([one], "B", 0), ([two], "A", 0), ([], "A", 0), ([one, two], "A", 1),
+                ([label_row(suite, TWO, "A", bytes([i]) * 12) for i in range(5)] + [label_row(suite, ONE, "A", b"m" * 12)], "A", 1),
+                ([one, one, label_row(suite, ONE, "C")], "A", 1), ([label_row(suite, ONE, x) for x in "AC"], "B", 0),
+                ([label_row(suite, ONE, x) for x in "AC"], "C", 1), ([two, label_row(suite, ONE, "B")], "A", 0),
+                *(([label_row(suite, ONE, "A", mark=suite.F(rl, message))], "A", 0) for message in (a, a + nonce, b"o" * 12 + a, nonce)),
+                *(([label_row(suite, ONE, "B", mark=suite.F(rl, nonce + a))], letter, 0) for letter in "AB"),
+                ([label_row(suite, ONE, "A", mark=suite.F(rl, nonce + a)[:31] + b"?")], "A", 0)):
+            model, store = with_rows(build, suite, {"R": rows})
+            before = bytes(store)
+            expect("a test: of %s by %s" % (letter, [r.hex() for r in rows]), model.test(store, id_of(letter), rl), Done((says,)))
+            expect("a test leaves the store", bytes(store), before)
+
+
+def joined(build):
+    """Joint finds on stores that no list of calls makes: rows of R that are missing, and damage. Parts by their bytes."""
+    for suite in (Cheap, Real):
+        entries = [entry_row(suite, part, 1 + at, letter)
+                   for part, letters in ((ONE, "AB"), (TWO, "BA")) for at, letter in enumerate(letters)]
+        all_four = [label_row(suite, part, letter) for part in (ONE, TWO) for letter in "AB"]
+        only_a = [label_row(suite, ONE, "A")]
+
+        def counts(one, two, first=0):
+            return [counter_row(suite, ONE, one), counter_row(suite, TWO, two, first)]
+
+        for given, c, r, room, wanted in (
+                # The find of the part with the least count [02:W4.19], the earlier on a tie [02:W4.20].
+                ((ONE, TWO), counts(3, 2), all_four, 40, "BA"), ((ONE, TWO), counts(2, 3), all_four, 40, "AB"),
+                ((ONE, TWO), counts(2, 2), all_four, 40, "AB"), ((TWO, ONE), counts(2, 2), all_four, 40, "BA"),
+                ((ONE, TWO, ONE), counts(3, 2), all_four, 40, "BA"), ((ONE, TWO, ONE), counts(2, 2), all_four, 40, "AB"),
+                ((ONE, ONE, TWO), counts(3, 2), all_four, 40, "BA"), ((ONE, TWO, ONE, TWO), counts(2, 2), all_four, 40, "AB"),
+                # Every other part is tested, and the chosen one is not, but where it stands again [02:W4.21].
+                ((TWO, ONE), counts(2, 2), only_a, 40, "A"), ((ONE, TWO), counts(2, 2), only_a, 40, ""),
+                ((TWO,), counts(2, 2), only_a, 40, "BA"), ((TWO,), counts(2, 2), [], 40, "BA"), ((TWO, TWO), counts(2, 2), only_a, 40, ""),
+                ((ONE, ONE), counts(2, 2), only_a, 40, "A"), ((TWO,) + (ONE,) * 7, counts(2, 2), only_a, 40, "A"),
+                ((TWO,) + (ONE,) * 6 + (TWO,), counts(2, 2), only_a, 40, ""),
+                # 18 by the ids kept [02:W4.23].
+                ((ONE, TWO), counts(2, 2), all_four, 32, "AB"), ((ONE, TWO), counts(2, 2), all_four, 31, Refused(18, (2,))),
+                ((TWO, ONE), counts(2, 2), only_a, 16, "A"), ((TWO, ONE), counts(2, 2), only_a, 15, Refused(18, (1,))),
+                ((ONE, TWO), counts(2, 2), only_a, 0, ""),
+                # Damage in any part [02:W4.22].
+                ((ONE,), counts(1, 2, 1), only_a, 40, "A"), ((TWO,), counts(1, 2, 1), only_a, 40, Refused(13, ())),
+                ((ONE, TWO), counts(1, 2, 1), only_a, 40, Refused(13, ())), ((TWO, ONE), counts(1, 2, 1), only_a, 0, Refused(13, ())),
+                ((ONE,) * 7 + (TWO,), counts(1, 2, 1), only_a, 40, Refused(13, ()))):
+            model, store = with_rows(build, suite, {"M": entries, "C": c, "R": r})
+            before, output, lent = bytes(store), bytearray(range(room)), bytes(range(room))
+            answer = model.joint_find(store, b"".join(given), output)
+            ids = b"" if isinstance(wanted, Refused) else b"".join(id_of(x) for x in wanted)
+            expect("a joint find of %d parts" % len(given), answer, wanted if isinstance(wanted, Refused) else Done((len(wanted),)))
+            expect("its output", bytes(output), ids + lent[len(ids):])
+            expect("a joint find leaves the store", bytes(store), before)
+        # Damage in a later share of the last part, where the least count is another part's.
+        model, store = with_rows(build, suite, {"C": [counter_row(suite, TWO, 1, first=1, u=1)]}, p=1)
+        expect("damage in a share", model.joint_find(store, ONE + TWO, bytearray()), Refused(13, ()))
+        # An erased entry is counted: of part one an entry is gone, and part two has 2 of 2.
+        model, store = with_rows(build, suite, {"M": entries[1:], "C": counts(2, 3), "R": all_four})
+        output = bytearray(32)
+        expect("by the count", (model.joint_find(store, ONE + TWO, output), bytes(output)), (Done((1,)), id_of("B") + bytes(16)))
+
+
+def unmarked(build):
+    """An erase frees every R row of the id, whatever V has of it, and its answer is of V [02:W4.14]."""
+    for suite in (Cheap, Real):
+        rows = [label_row(suite, ONE, "A"), label_row(suite, TWO, "A"), label_row(suite, ONE, "B")]
+        reverse = b"\1" + id_of("C") + bytes(32)
+        for letter, answer, left in (("A", 0, rows[2:]), ("B", 0, rows[:2]), ("C", 1, rows), ("D", 0, rows)):
+            model, store = with_rows(build, suite, {"V": [], "R": rows})
+            model.put(store, "V", reverse)
+            expect("an erase of %s" % letter, model.erase(store, id_of(letter)), Done((answer,)))
+            expect("R after it", scheme.used_rows(store, scheme.tables(store)["R"]), sorted(left))
+            expect("in form after it", form.in_form(store), True)
+
+
 def shared(build, build_ledger):
     """The examples that a wrong version of store or ledger is held against."""
     labels(build)
-    run_calls(build, build_ledger, (1, 4, 4, 4), worked())
-    run_calls(build, build_ledger, (1, 9, 6, 6), repeated())
-    run_calls(build, build_ledger, (1, 6, 4, 4), ordered())
-    looked(build)
+    run_calls(build, build_ledger, (1, 4, 4, 4, 4), worked())
+    run_calls(build, build_ledger, (1, 9, 6, 6, 9), repeated())
+    run_calls(build, build_ledger, (1, 6, 4, 4, 6), ordered())
+    run_calls(build, build_ledger, (1, 8, 6, 6, 7), jointly())
+    run_calls(build, build_ledger, (0, 8, 4, 4, 8), least())
+    for example in (making, headers, input_order, limits, inserted, tested, joined, unmarked, looked):
+        example(build)
 
 
 def all_examples():
     cipher()
     shared(scheme.Scheme, Ledger)
-    for example in (making, headers, input_order, damage, limits, compactions, rows, forms):
+    for example in (damage, compactions, rows, forms):
         example()

@@ -2,7 +2,7 @@
 by all their bytes as unsigned, equal rows allowed, free rows all zero [02:W2.1 W2.2 W2.3]. And the ways of being out of
 form, each made and each counted, so that a test knows that its stores tried every one in every table.
 """
-from scheme import row, tables
+from scheme import WIDTH, row, tables
 
 
 def faults(store, t):
@@ -90,7 +90,7 @@ class Forms:
     """A tally of the ways met, by table; a store counts where one of its tables is out of form, or none."""
 
     def __init__(self):
-        self.tally = {(name, way): 0 for name in "MVCS" for way in OUT + IN}
+        self.tally = {(name, way): 0 for name in WIDTH for way in OUT + IN}
 
     def store(self, store):
         out = [name for name, t in tables(store).items() if faults(store, t)]
@@ -102,8 +102,8 @@ class Forms:
         return {way: n for way, n in self.tally.items() if n < least}
 
     def __str__(self):
-        return "%d ways of being out of form and %d of being just in form in each of 4 tables, the least %d times" % (
-            len(OUT), len(IN), min(self.tally.values()))
+        return "%d ways of being out of form and %d of being just in form in each of %d tables, the least %d times" % (
+            len(OUT), len(IN), len(WIDTH), min(self.tally.values()))
 
 
 # Making them

@@ -155,8 +155,8 @@ class Stores:
 
     def with_sizes(self, p, c, shape):
         r, model = self.r, self.model
-        store, token = bytearray(scheme.length_of(1, c, 1)), r.randbytes(32)
-        assert model.make(store, p, 1, c, 1) == Done(())
+        store, token = bytearray(scheme.length_of(1, c, 1, 1)), r.randbytes(32)
+        assert model.make(store, p, 1, c, 1, 1) == Done(())
         rows, wanted = [], []
         for u in r.sample(range(p + 1), min(p + 1, 1 if shape.startswith("c ") else r.choice((1, 2, 3)))):
             cl, room = model.F(token, number(u)), c - len(rows)

@@ -1,7 +1,7 @@
 """Wrong versions of store and ledger: each has to be caught by the examples, by the random lists, on hostile
 stores or on stores made for counts, so that the comparison is known to be able to fail. Only a difference counts; an exception of
 a wrong version's own is a fault of this test. The first three are the slips that document 01, 'A day
-in the ledger', names.
+in the ledger', names. Those of request 4 of document 02 are in joint_mutants.py.
 """
 import sys
 import traceback
@@ -14,6 +14,7 @@ import hostile
 import looked
 import scheme
 from calls import Done, Refused, first
+from joint_mutants import LEDGERS_MARKS, MARKS_IN_LISTS, MARKS_ON_STORES
 from ledger import Ledger
 from primitives import Cheap
 from scheme import Scheme, free, lookup, number, row, set_row, tables, used, used_rows
@@ -90,6 +91,7 @@ class EraseFirstOnly(Scheme):
         of_id = [i for i in used(store, v) if row(store, v, i)[1:17] == id][:1]
         self.free_entries(store, {row(store, v, i)[17:] for i in of_id})
         self.free_rows(store, "V", of_id)
+        self.free_marks(store, id, of_id)
         return Done((len(of_id),))
 
 
@@ -348,7 +350,7 @@ class SharesAlike(Scheme):
 # What document 02, request 2, could be taken for. What is wrong with the order of rows shows in the bytes alone.
 
 
-def by_key(key, checked=True, names="MVCS"):
+def by_key(key, checked=True, names="MVCSR"):
     """Rows of some tables in the order of a key, equal ones as they come; checked by it too, or by the right form."""
     class Wrong(Scheme):
         def arranged(self, rows, t):
@@ -489,6 +491,10 @@ class SUnchecked(unchecked("S")):
     pass
 
 
+class RUnchecked(unchecked("R")):
+    pass
+
+
 class EqualRowsRefused(Scheme):
     def in_form(self, store, t):
         rows = used_rows(store, t)
@@ -497,10 +503,10 @@ class EqualRowsRefused(Scheme):
 
 class TwentyBeforeEleven(Scheme):
     def state_conditions(self, store):
-        tests = list(self.tests(store))
+        tests = list(self.in_order(store))
         yield from (tests[i] for i in (0, 2, 1))
 
-    def tests(self, store):
+    def in_order(self, store):
         bad = scheme.header(store) is None
         yield 10, bad
         yield 11, not bad and scheme.marks_wrong(store)
@@ -550,6 +556,10 @@ class TwentyAfterThirteenInCount(later(13, "count_all_conditions")):
     pass
 
 
+class TwentyAfterThirteenInJointFind(later(13, "joint_find_all_conditions")):
+    pass
+
+
 class TwentyBeforeFive(Scheme):
     def erase_all_conditions(self, store, id):
         yield from self.state_conditions(store)
@@ -581,6 +591,14 @@ class InsertTakesAnyForm(not_tested("insert_all_conditions")):
 
 
 class CompactionTakesAnyForm(not_tested("compact_all_conditions")):
+    pass
+
+
+class TestTakesAnyForm(not_tested("test_all_conditions")):
+    pass
+
+
+class JointFindTakesAnyForm(not_tested("joint_find_all_conditions")):
     pass
 
 
@@ -652,7 +670,7 @@ class OrderLeavesLastTable(Scheme):
         before = bytes(store)
         answer = super().order(store)
         if isinstance(answer, Done):
-            store[tables(store)["S"].start:] = before[tables(store)["S"].start:]
+            store[tables(store)["R"].start:] = before[tables(store)["R"].start:]
         return answer
 
 
@@ -712,6 +730,10 @@ class FreedLogStays(not_closed("S")):
     pass
 
 
+class FreedMarksStay(not_closed("R")):
+    pass
+
+
 class FreedCountersStay(not_closed("C")):
     """The anchor's row is put in order, and the rows behind it."""
     def put(self, store, name, *contents):
@@ -739,7 +761,8 @@ class LeavesFormAtDamage(Scheme):
         if answer[0] == 13 and bytes(old) != bytes(store):
             s = tables(store)["S"]
             left = used_rows(store, s)
-            store[s.start:] = b"".join(r if r in left else bytes(s.width) for r in (row(old, s, i) for i in range(s.rows)))
+            store[s.start:s.start + s.width * s.rows] = b"".join(
+                r if r in left else bytes(s.width) for r in (row(old, s, i) for i in range(s.rows)))
         return answer
 
 
@@ -804,7 +827,7 @@ class EraseFreesOneRowOfTag(Scheme):
 
 class LedgerOrderWithoutAnchors(Ledger):
     def order(self):
-        return Done((2 * self.total() + 2 * self.inserts,))
+        return Done((3 * self.total() + 2 * self.inserts,))
 
 
 class LedgerOrderCountsIdsOnce(Ledger):
@@ -814,7 +837,7 @@ class LedgerOrderCountsIdsOnce(Ledger):
 
 class LedgerOrderWithoutLog(Ledger):
     def order(self):
-        return Done((2 * self.total() + self.anchors + self.inserts,))
+        return Done((3 * self.total() + self.anchors + self.inserts,))
 
 
 class LedgerOrderCompacts(Ledger):
@@ -1056,15 +1079,16 @@ LEDGERS_REPEATS = [LedgerFindsRepeats, LedgerDropsEarlierRepeats, LedgerErasesEa
 # has to be caught there, by an answer or a byte, and the rest on hostile stores.
 FORMS_IN_LISTS = [TiesById, Descending, DescendingUnchecked, SignedBytes, SignedBytesUnchecked, LittleEndian,
                   OrderAnswersEntries, OrderAnswersWithoutLog, OrderAnswersRowsMoved, InsertAtTheEnd,
-                  InsertAtTheFront, NewRowsUnsorted, FreedEntriesStay, FreedCountersStay, FreedRowNotZeroed,
+                  InsertAtTheFront, NewRowsUnsorted, FreedEntriesStay, FreedMarksStay, FreedCountersStay, FreedRowNotZeroed,
                   LabelsInAnotherOrder, LabelsByThemselves, SearchMissesFirstRow, SearchMissesLastRow,
                   SearchMissesLastRowOfFull, SearchOneBefore, SearchTakesTheNext]
 FORMS = [TiesByTag, TiesByNonce, LastByteLeftOut, FreedLogStays, UsedAfterFreeAccepted, UsedLastRowAccepted, LeftOverAccepted,
          LeftOverInLastRowAccepted, LeftOverInFirstRowAccepted, FirstPairUnchecked, LastPairUnchecked,
          LeftOverAfterMarkAccepted, LeftOverInLastByteAccepted, LeftOverAboveSevenBitsAccepted, MUnchecked, VUnchecked,
-         CUnchecked, SUnchecked, EqualRowsRefused, TwentyBeforeEleven, TwentyByTable, TwentyAfterTwelve,
-         TwentyAfterThirteen, TwentyAfterNineteen, TwentyAfterThirteenInCount, TwentyBeforeFive, FindTakesAnyForm,
-         CountTakesAnyForm, EraseTakesAnyForm, InsertTakesAnyForm, CompactionTakesAnyForm, OrderDropsEqualRows,
+         CUnchecked, SUnchecked, RUnchecked, EqualRowsRefused, TwentyBeforeEleven, TwentyByTable, TwentyAfterTwelve,
+         TwentyAfterThirteen, TwentyAfterNineteen, TwentyAfterThirteenInCount, TwentyAfterThirteenInJointFind,
+         TwentyBeforeFive, FindTakesAnyForm, CountTakesAnyForm, EraseTakesAnyForm, InsertTakesAnyForm, CompactionTakesAnyForm,
+         TestTakesAnyForm, JointFindTakesAnyForm, OrderDropsEqualRows,
          OrderDropsAndCountsEqualRows, OrderAnswersDistinctRows, OrderRefusedByForm, OrderTakesAnyMark,
          OrderLeavesFreeBytes, OrderLeavesLastTable, OrderBringsUsedRowsUp, LeavesFormAtDamage, SearchTakesAnyOfTag,
          EraseFreesOneRowOfTag] + FORMS_IN_LISTS
@@ -1078,16 +1102,19 @@ ROWS = [NoRowThatFollows, OneMoreAtTheEnd, OneInAnEmptyTable, PastEqualTags, End
         OneShareMore, RowsOfTheLastShareAlone, RowsBeforeTheCount, CountTellsNoRows, DamageCarriesRows, CountStopsAtC]
 ROWS_IN_LISTS = [RowsBeforeTheCount, CountStopsAtC]
 LEDGERS_ROWS = [LedgerTellsRows]
+# What request 4 could be taken for [02:W4.3 W4.4 W4.5 W4.6 W4.7 W4.9 W4.10 W4.11 W4.12 W4.13 W4.14 W4.17 W4.18 W4.19 W4.20 W4.21
+# W4.22 W4.23 W4.24 W4.25 W4.30]: the examples have to catch each of these in a store, and besides the lists or the hostile stores.
+MARKS = MARKS_IN_LISTS + MARKS_ON_STORES
 STORES = [CountsFromZeroAfterAnchor, NextAddressFromIdsListed, AnchorPerSRow, AnchorCountOneShort,
           AnchorNumberAgain, EraseLeavesM, EraseLeavesV, EraseFirstOnly, CompactionLeavesS,
           CompactionLeavesCounters, CompactionNeverTreats, InsertWritesNoCounter,
           InsertWritesOnlyFirst, FindStopsAtMissing, FindOneAddressShort, FindOnlyShareZero,
           FindWritesBeforeRefusing, FindCarriesRoom, FindAlwaysEmpty, RoomInAnotherOrder,
-          RefusesWhenFull, CompactionByLabels, LabelWithoutLength, LabelBigGroupsFirst, SharesAlike] + REPEATS + FORMS + ROWS
+          RefusesWhenFull, CompactionByLabels, LabelWithoutLength, LabelBigGroupsFirst, SharesAlike] + REPEATS + FORMS + ROWS + MARKS
 LEDGERS = [LedgerMadeFromIdsListed, LedgerAnchorPerInsert, LedgerSixteenTooLate,
-           LedgerAnchorsNotKept] + LEDGERS_REPEATS + LEDGERS_FORMS + LEDGERS_ROWS
+           LedgerAnchorsNotKept] + LEDGERS_REPEATS + LEDGERS_FORMS + LEDGERS_ROWS + LEDGERS_MARKS
 # Caught by the lists, whatever the examples say.
-IN_LISTS = REPEATS + LEDGERS_REPEATS + FORMS_IN_LISTS + LEDGERS_FORMS + ROWS_IN_LISTS + LEDGERS_ROWS
+IN_LISTS = REPEATS + LEDGERS_REPEATS + FORMS_IN_LISTS + LEDGERS_FORMS + ROWS_IN_LISTS + LEDGERS_ROWS + MARKS_IN_LISTS + LEDGERS_MARKS
 
 
 def by_examples(build, build_ledger):
@@ -1157,11 +1184,11 @@ def by_whole_answers(given):
 
 def found(wrong, example, after, stores, counts):
     """Whether a wrong version was caught where it has to be."""
-    if wrong in ROWS and not (example and counts):
+    if wrong in ROWS and not (example and counts) or wrong in MARKS and not example:
         return False
     if wrong in IN_LISTS:
         return bool(after)
-    return bool(after or stores if wrong in FORMS else example or after)
+    return bool(after or stores if wrong in FORMS + MARKS else example or after)
 
 
 def caught(given):
@@ -1170,10 +1197,10 @@ def caught(given):
         pair = (wrong, Ledger) if wrong in STORES else (Scheme, wrong)
         try:
             example = by_examples(*pair)
-            stores = by_hostile(wrong, given) if wrong in FORMS else None
+            stores = by_hostile(wrong, given) if wrong in FORMS + MARKS_ON_STORES else None
             counts = by_counts(wrong, given) if wrong in ROWS else None
             # Lists that can show nothing are left out, for their time.
-            after = by_lists(*pair, given, wrong in FORMS) if wrong in IN_LISTS or not (stores or counts) else None
+            after = by_lists(*pair, given, wrong in FORMS + MARKS) if wrong in IN_LISTS or not (stores or counts) else None
         except Exception:
             print("FAULT in %s, which shows nothing:" % wrong.__name__)
             traceback.print_exc(file=sys.stdout)

@@ -1,9 +1,8 @@
-"""Labels, tokens, the store and the six operations on its bytes: document 01, 'Labels' to
-'Refusals from the state', with requests 1 to 3 of document 02, for all inputs, hostile stores among them.
+"""Labels, tokens, the store and the eight operations on its bytes: document 01, 'Labels' to
+'Refusals from the state', with requests 1 to 4 of document 02, for all inputs, hostile stores among them.
 Written from the papers.
 
-Each table's rows fix its bytes [02:W2.5]: `arranged`. What the version before did with them, which left the
-row placing open, is in older.py.
+Each table's rows fix its bytes [02:W2.5]: `arranged`. What leaves the row placing open is in older.py.
 """
 import struct
 from bisect import bisect_left
@@ -15,9 +14,13 @@ from calls import Done, Refused, first
 from primitives import number
 
 GREATEST = 4294967295
-WIDTH = {"M": 61, "V": 49, "C": 61, "S": 45}
+# Table R stands after S [02:W4.1 W4.3].
+WIDTH = {"M": 61, "V": 49, "C": 61, "S": 45, "R": 61}
+VERSION = 2
+HEADER = 10
+MOST_ROWS = 4096
 
-Header = namedtuple("Header", "p m c s")
+Header = namedtuple("Header", "p m c s r")
 Table = namedtuple("Table", "start width rows")
 # A counter read: B, Start, k, the count, and the C rows held as counters Start+1 to Start+k.
 Counter = namedtuple("Counter", "anchors start k count held")
@@ -32,30 +35,30 @@ def label(name, value):
     return bytes(groups + [length]) + name + value
 
 
-def length_of(m, c, s):
-    return 8 + 110 * m + 61 * c + 45 * s
+def length_of(m, c, s, r):
+    """[02:W4.8]"""
+    return 10 + 110 * m + 61 * c + 45 * s + 61 * r
 
 
 def header(store):
-    """The header's numbers, or None where refusal 10 applies [01:RS2]."""
-    if len(store) < 8 or store[0] != 1:
+    """The header's numbers, or None where refusal 10 applies [01:RS2] [02:W4.5 W4.6 W4.7]."""
+    if len(store) < HEADER or store[0] != VERSION:
         return None
-    h = Header(*struct.unpack(">B3H", store[1:8]))
-    if h.p > 15 or min(h.m, h.c, h.s) < 1 or max(h.m, h.c, h.s) > 4096:
+    h = Header(*struct.unpack(">B4H", store[1:10]))
+    if h.p > 15 or not all(1 <= rows <= MOST_ROWS for rows in h[1:]):
         return None
-    return h if len(store) == length_of(h.m, h.c, h.s) else None
+    return h if len(store) == length_of(*h[1:]) else None
 
 
 def tables(store):
-    """Where the four tables stand [01:ST3]; for a store whose header is accepted."""
-    h = header(store)
-    return tables_of(h.m, h.c, h.s)
+    """Where the five tables stand [01:ST3] [02:W4.1]; for a store whose header is accepted."""
+    return tables_of(*header(store)[1:])
 
 
 @lru_cache(maxsize=None)
-def tables_of(m, c, s):
-    result, start = {}, 8
-    for name, rows in (("M", m), ("V", m), ("C", c), ("S", s)):
+def tables_of(m, c, s, r):
+    result, start = {}, HEADER
+    for name, rows in (("M", m), ("V", m), ("C", c), ("S", s), ("R", r)):
         result[name] = Table(start, WIDTH[name], rows)
         start += WIDTH[name] * rows
     return result
@@ -106,15 +109,9 @@ def lookup(store, t, tag):
     return None
 
 
-def marks_wrong(store):
+def marks_wrong(store, found=None):
     return any(store[t.start + t.width * i] > 1
-               for t in tables(store).values() for i in range(t.rows))
-
-
-def store_conditions(store):
-    """What a store is refused by in every call [01:RS2 RS3]; the new call has no other [02:W2.9]."""
-    yield 10, header(store) is None
-    yield 11, marks_wrong(store)
+               for t in (found or tables(store)).values() for i in range(t.rows))
 
 
 def parts(text, width):
@@ -134,7 +131,7 @@ class Scheme:
         return label(name, value)
 
     def master(self, key, n):
-        """KM, KC, KS for n = 1, 2, 3 [01:KT2]."""
+        """KM, KC, KS for n = 1, 2, 3 [01:KT2]; F(K, 4) of RL [02:W4.4]."""
         return self.F(key, number(n))
 
     def address_key(self, key, name, value):
@@ -146,15 +143,23 @@ class Scheme:
     def counter_key(self, key, name, value):
         return self.F(self.master(key, 2), self.label(name, value))
 
+    def mark_key(self, key, name, value):
+        """RL, the same in every share [02:W4.4]."""
+        return self.F(self.master(key, 4), self.label(name, value))
+
     def insert_token(self, key, name, value, p, u, nonce):
-        """p, MT, ME, CL, a nonce, E(KS, nonce, CL) [01:KT7]."""
+        """p, MT, ME, CL, a nonce, E(KS, nonce, CL) [01:KT7], RL [02:W4.9]."""
         refused = first(calls.insert_token_conditions(key, name, value, p, u, nonce))
         if refused:
             return refused
         mt = self.F(self.address_key(key, name, value), number(u))
         me = self.F(self.entry_key(key, name, value), number(u))
         cl = self.F(self.counter_key(key, name, value), number(u))
-        return bytes([p]) + mt + me + cl + nonce + self.E(self.master(key, 3), nonce, cl)
+        return bytes([p]) + mt + me + cl + nonce + self.E(self.master(key, 3), nonce, cl) \
+            + self.mark_key_of_insert(key, name, value, u)
+
+    def mark_key_of_insert(self, key, name, value, u):
+        return self.mark_key(key, name, value)
 
     def find_token(self, key, name, value):
         refused = first(calls.field_token_conditions(key, name, value))
@@ -171,20 +176,48 @@ class Scheme:
         refused = first(calls.compact_token_conditions(key))
         return refused or self.master(key, 3)
 
+    def mark_token(self, key, name, value):
+        """What a test takes [02:W4.16]."""
+        refused = first(calls.field_token_conditions(key, name, value))
+        return refused or self.mark_key(key, name, value)
+
+    def part_token(self, key, name, value):
+        """A part of a joint find: find token, then RL [02:W4.18]."""
+        refused = first(calls.field_token_conditions(key, name, value))
+        return refused or self.find_token(key, name, value) + self.mark_key(key, name, value)
+
     # Making a store
 
-    def make(self, store, p, m, c, s):
+    def make(self, store, p, m, c, s, r):
         """Writes the header and zeroes the rest [01:ST16]."""
-        refused = first(self.make_conditions(store, p, m, c, s))
+        refused = first(self.make_conditions(store, p, m, c, s, r))
         if refused:
             return refused
-        store[:] = bytes([1, p]) + b"".join(n.to_bytes(2, "big") for n in (m, c, s)) \
-            + bytes(len(store) - 8)
+        written = self.written_header(p, m, c, s, r)
+        store[:] = written + bytes(len(store) - len(written))
         return Done(())
 
-    def make_conditions(self, store, p, m, c, s):
-        yield 7, p > 15 or not all(1 <= n <= 4096 for n in (m, c, s))
-        yield 8, len(store) != length_of(m, c, s)
+    def written_header(self, p, m, c, s, r):
+        """Version 2 [02:W4.5], and r after s [02:W4.7]."""
+        return bytes([VERSION, p]) + b"".join(n.to_bytes(2, "big") for n in (m, c, s, r))
+
+    def make_conditions(self, store, p, m, c, s, r):
+        """[02:W4.2]"""
+        yield 7, p > 15 or not all(1 <= n <= MOST_ROWS for n in (m, c, s, r))
+        yield 8, len(store) != length_of(m, c, s, r)
+
+    # Where things stand, and what a store is refused by in every call
+
+    def header(self, store):
+        return header(store)
+
+    def tables(self, store):
+        return tables_of(*self.header(store)[1:])
+
+    def store_conditions(self, store):
+        """[01:RS2 RS3]; an order has no other [02:W2.9]."""
+        yield 10, self.header(store) is None
+        yield 11, marks_wrong(store, self.tables(store))
 
     # Tags
 
@@ -196,6 +229,10 @@ class Scheme:
 
     def anchor_tag(self, cl, anchor):
         return self.F(self.F(cl, number(1)), b"\2" + number(anchor))
+
+    def r_mark(self, rl, nonce, id):
+        """[02:W4.3]"""
+        return self.F(rl, nonce + id)
 
     # Rows
 
@@ -214,18 +251,18 @@ class Scheme:
 
     def put(self, store, name, *contents):
         """New rows of a table."""
-        t = tables(store)[name]
+        t = self.tables(store)[name]
         self.arrange(store, t, used_rows(store, t) + list(contents))
 
     def free_rows(self, store, name, places):
         """Freeing a row zeroes all of it [01:ST14], and the rows behind it move up."""
-        t = tables(store)[name]
+        t = self.tables(store)[name]
         self.arrange(store, t, [row(store, t, i) for i in used(store, t) if i not in places])
 
     def state_conditions(self, store):
         """20, a table not in form [02:W2.11], comes right after 11 [02:W2.12]."""
-        yield from store_conditions(store)
-        yield 20, not all(self.in_form(store, t) for t in tables(store).values())
+        yield from self.store_conditions(store)
+        yield 20, not all(self.in_form(store, t) for t in self.tables(store).values())
 
     def c_row(self, cl, tag, nonce, one, two):
         """A C row: mark, tag, nonce, two numbers under CE [01:ST9]."""
@@ -236,7 +273,7 @@ class Scheme:
         self.put(store, "C", self.c_row(cl, tag, nonce, one, two))
 
     def open_c(self, store, cl, i):
-        r = row(store, tables(store)["C"], i)
+        r = row(store, self.tables(store)["C"], i)
         plain = self.E(self.F(cl, number(2)), r[33:45], r[45:61])
         return int.from_bytes(plain[:8], "big"), int.from_bytes(plain[8:], "big")
 
@@ -248,7 +285,7 @@ class Scheme:
         Anchor B is tested before the counters are walked: damage there is damage
         even where a counter follows it.
         """
-        t = tables(store)["C"]
+        t = self.tables(store)["C"]
         anchors, start, count, held = 0, 0, 0, []
         while anchors < t.rows and self.lookup(store, t, self.anchor_tag(cl, anchors + 1)) is not None:
             anchors += 1
@@ -276,16 +313,30 @@ class Scheme:
             return refused
         mt, me, cl = token[1:33], token[33:65], token[65:97]
         counter = self.read(store, cl)
-        ids, nonces = parts(ids, 16), parts(nonces, 12)
+        ids = parts(ids, 16)
+        of_entries, of_counter, of_marks = self.nonces_for(parts(nonces, 12), len(ids))
         first_address = self.next_address(store, mt, counter)
         tags = [self.entry_tag(mt, first_address + i) for i in range(len(ids))]
         self.put(store, "M", *(b"\1" + tag + nonce + self.E(me, nonce, id)
-                               for tag, nonce, id in zip(tags, nonces, ids)))
+                               for tag, nonce, id in zip(tags, of_entries, ids)))
         self.put(store, "V", *(b"\1" + id + tag for tag, id in zip(tags, ids)))
         new = counter.count + len(ids)
-        self.put_counter(store, cl, counter, nonces[-1], new)
-        self.put(store, "S", b"\1" + token[97:])
+        self.put_counter(store, cl, counter, of_counter, new)
+        self.put(store, "S", b"\1" + self.log_part(token))
+        self.put_marks(store, token[141:], of_marks, ids)
         return Done((new,))
+
+    def nonces_for(self, nonces, j):
+        """One for each id, one for the counter, and R's after these, one for each id [02:W4.11 W4.12]."""
+        return nonces[:j], nonces[j], nonces[j + 1:]
+
+    def log_part(self, token):
+        """The 44 bytes before RL [02:W4.10]."""
+        return token[97:141]
+
+    def put_marks(self, store, rl, nonces, ids):
+        """One R row for each id [02:W4.13]: mark, id, nonce, R mark [02:W4.3]."""
+        self.put(store, "R", *(b"\1" + id + nonce + self.r_mark(rl, nonce, id) for nonce, id in zip(nonces, ids)))
 
     def next_address(self, store, mt, counter):
         return counter.count + 1
@@ -297,33 +348,41 @@ class Scheme:
     def insert_all_conditions(self, store, token, nonces, ids):
         yield from calls.insert_conditions(len(token), nonces, ids)
         yield from self.state_conditions(store)
-        yield 12, token[0] != header(store).p
+        yield 12, token[0] != self.header(store).p
         counter = self.read(store, token[65:97])
         yield 13, counter is None
         yield from self.room_conditions(store, counter.count, len(ids) // 16)
 
     def room_conditions(self, store, count, j):
-        t = tables(store)
+        t = self.tables(store)
         yield 14, count + j > GREATEST
         yield 15, len(free(store, t["M"])) < j or len(free(store, t["V"])) < j
         yield 16, not free(store, t["C"])
         yield 17, not free(store, t["S"])
+        yield 21, len(free(store, t["R"])) < j  # [02:W4.28 W4.30]
 
     # Erase
 
     def erase(self, store, id):
-        """Frees all V rows of the id and each M row with a tag of theirs [01:OP4]."""
+        """Frees all V rows of the id and each M row with a tag of theirs [01:OP4], and all R rows of the id [02:W4.14]. The
+        answer is the V rows freed."""
         refused = first(self.erase_all_conditions(store, id))
         if refused:
             return refused
-        v = tables(store)["V"]
+        v = self.tables(store)["V"]
         of_id = [i for i in used(store, v) if row(store, v, i)[1:17] == id]
         self.free_entries(store, {row(store, v, i)[17:] for i in of_id})
         self.free_rows(store, "V", of_id)
+        self.free_marks(store, id, of_id)
         return Done((len(of_id),))
 
+    def free_marks(self, store, id, reverse):
+        """The id's R rows, whatever rows of it V has."""
+        r = self.tables(store)["R"]
+        self.free_rows(store, "R", [i for i in used(store, r) if row(store, r, i)[1:17] == id])
+
     def free_entries(self, store, tags):
-        m = tables(store)["M"]
+        m = self.tables(store)["M"]
         self.free_rows(store, "M", [i for i in used(store, m) if row(store, m, i)[1:33] in tags])
 
     def erase_all_conditions(self, store, id):
@@ -342,7 +401,9 @@ class Scheme:
         refused = first(self.find_all_conditions(store, token))
         if refused:
             return refused
-        found = self.once(self.shares(store, token))
+        return self.give(self.once(self.shares(store, token)), output)
+
+    def give(self, found, output):
         if len(output) < 16 * len(found):
             return Refused(18, (len(found),))
         output[:16 * len(found)] = b"".join(found)
@@ -363,7 +424,7 @@ class Scheme:
 
     def share(self, store, mt, me, count):
         """The ids at addresses 1 to the count; a missing one is skipped [01:OP6]."""
-        m, found = tables(store)["M"], []
+        m, found = self.tables(store)["M"], []
         for address in range(1, count + 1):
             i = self.lookup(store, m, self.entry_tag(mt, address))
             if i is not None:
@@ -379,7 +440,7 @@ class Scheme:
     def counts(self, store, counter_key):
         """The counts of shares 0 to p, or None where one of the readings is damage."""
         readings = [self.read(store, self.F(counter_key, number(u)))
-                    for u in range(header(store).p + 1)]
+                    for u in range(self.header(store).p + 1)]
         return None if None in readings else [r.count for r in readings]
 
     def count(self, store, token):
@@ -392,17 +453,67 @@ class Scheme:
         yield from self.state_conditions(store)
         yield 13, self.counts(store, token) is None
 
+    # Test and joint find
+
+    def test(self, store, id, token):
+        """1 for yes, 0 for no."""
+        refused = first(self.test_all_conditions(store, id, token))
+        return refused or Done((int(self.tests(store, token, id)),))
+
+    def test_all_conditions(self, store, id, token):
+        yield from calls.test_conditions(id, len(token))
+        yield from self.state_conditions(store)
+
+    def tests(self, store, rl, id):
+        """Whether an R row of that id carries RL's R mark [02:W4.17]."""
+        return any(r[1:17] == id and self.carries(r, rl, id) for r in used_rows(store, self.tables(store)["R"]))
+
+    def carries(self, r, rl, id):
+        return r[29:61] == self.r_mark(rl, r[17:29], id)
+
+    def joint_find(self, store, given, output):
+        """18 is judged on the ids kept [02:W4.23]."""
+        refused = first(self.joint_find_all_conditions(store, given))
+        return refused or self.give(self.kept(store, parts(given, 128)), output)
+
+    def joint_find_all_conditions(self, store, given):
+        """Damage in any part is 13 [02:W4.22]."""
+        yield from calls.joint_find_conditions(len(given))
+        yield from self.state_conditions(store)
+        yield 13, any(self.counts(store, part[64:96]) is None for part in self.read_for_damage(store, parts(given, 128)))
+
+    def read_for_damage(self, store, given):
+        return given
+
+    def kept(self, store, given):
+        """The find of the chosen part, and of its ids those for which every other part tests yes [02:W4.19 W4.21]."""
+        at = self.chosen([self.judged(store, part) for part in given])
+        found = self.once(self.shares(store, given[at][:96]))
+        return [id for id in found if all(self.tests(store, part[96:], id) for part in self.asked(given, at))]
+
+    def judged(self, store, part):
+        """A part's count, erased entries included."""
+        return sum(self.counts(store, part[64:96]))
+
+    def chosen(self, counts):
+        """The place of the least [02:W4.19], the earlier on a tie [02:W4.20]."""
+        return counts.index(min(counts))
+
+    def asked(self, given, at):
+        """The parts that test: all but the chosen one."""
+        return given[:at] + given[at + 1:]
+
     # The rows that a count looks at
 
     def rows_read(self, store, token):
         """The sum over shares 0 to p."""
         tags = self.tags_met(store)
-        return sum(self.rows_at(tags, tag) for u in range(header(store).p + 1)
+        return sum(self.rows_at(tags, tag) for u in range(self.header(store).p + 1)
                    for tag in self.looked_up(store, self.F(token, number(u))))
 
     def tags_met(self, store):
         """The tags of the used rows of C, ascending as unsigned bytes, one for each row."""
-        return sorted(r[1:33] for r in used_rows(store, tables(store)["C"]))
+        return sorted(r[1:33] for r in used_rows(store, self.tables(store)["C"]))
 
     def looked_up(self, store, cl):
         """The tags that are looked up in a share, once each [02:W3.6]: anchors 1 to B+1 [02:W3.4] and counters Start+1 to
@@ -413,7 +524,7 @@ class Scheme:
 
     def lookups(self, store, held):
         """How many of a kind, so many of them held: one more, and never more than c [02:W3.7]."""
-        return min(held + 1, header(store).c)
+        return min(held + 1, self.header(store).c)
 
     def rows_at(self, tags, tag):
         """Those with a smaller tag [02:W3.2], and one more if a row follows them [02:W3.3]."""
@@ -443,11 +554,11 @@ class Scheme:
     def compact_all_conditions(self, store, token, nonces):
         yield from calls.compact_conditions(len(token), nonces)
         yield from self.state_conditions(store)
-        yield 19, len(nonces) // 12 < len(used(store, tables(store)["S"]))
+        yield 19, len(nonces) // 12 < len(used(store, self.tables(store)["S"]))
 
     def labels_of_s(self, store, token):
         """The CL of each used S row, in order of the rows."""
-        s = tables(store)["S"]
+        s = self.tables(store)["S"]
         rows = [row(store, s, i) for i in used(store, s)]
         return [self.E(token, r[1:13], r[13:45]) for r in rows]
 
@@ -464,11 +575,11 @@ class Scheme:
                    counter.start + counter.k, counter.count)
 
     def free_s(self, store, token, cl):
-        s = tables(store)["S"]
+        s = self.tables(store)["S"]
         rows = [(i, row(store, s, i)) for i in used(store, s)]
         self.free_rows(store, "S", [i for i, r in rows if self.E(token, r[1:13], r[13:45]) == cl])
 
-    # A store of the version before put in form
+    # A store put in form
 
     def order(self, store):
         """Puts every table in form [02:W2.6], keeps every used row [02:W2.7], answers how many there are
@@ -476,22 +587,22 @@ class Scheme:
         refused = first(self.order_conditions(store))
         if refused:
             return refused
-        for t in tables(store).values():
+        for t in self.tables(store).values():
             self.arrange(store, t, used_rows(store, t))
         return Done((self.ordered(store),))
 
     def ordered(self, store):
-        return sum(len(used(store, t)) for t in tables(store).values())
+        return sum(len(used(store, t)) for t in self.tables(store).values())
 
     def order_conditions(self, store):
         """10 and 11 only [02:W2.9]."""
-        yield from store_conditions(store)
+        yield from self.store_conditions(store)
 
     # A call of a list: its token, then the operation
 
     def call(self, store, call):
-        """What the call tells: its answer, and a find's whole output or None."""
-        output = bytearray(call.output) if isinstance(call, calls.Find) else None
+        """What the call tells: its answer, and a find's or a joint find's whole output or None."""
+        output = bytearray(call.output) if calls.has_output(call) else None
         token = self.token(call)
         if isinstance(token, Refused):
             return token, bytes(output) if output is not None else None
@@ -501,8 +612,10 @@ class Scheme:
             return self.erase(store, call.id), None
         if isinstance(call, calls.Order):
             return self.order(store), None
-        if isinstance(call, calls.Find):
-            answer = self.find(store, token, output)
+        if isinstance(call, calls.Test):
+            return self.test(store, call.id, token), None
+        if calls.has_output(call):
+            answer = (self.find if isinstance(call, calls.Find) else self.joint_find)(store, token, output)
             return answer, bytes(output)
         if isinstance(call, calls.Count):
             return self.count(store, token), None
@@ -517,4 +630,14 @@ class Scheme:
             return self.find_token(call.key, call.name, call.value)
         if isinstance(call, calls.Count):
             return self.count_token(call.key, call.name, call.value)
+        if isinstance(call, calls.Test):
+            return self.mark_token(call.key, call.name, call.value)
+        if isinstance(call, calls.JointFind):
+            return self.joined_parts(call.parts)
         return self.compact_token(call.key)
+
+    def joined_parts(self, made_from):
+        """The parts of a joint find, made in order [02:W4.24]; the first making refused ends the call [02:W4.25]."""
+        made = [self.part_token(*part) for part in made_from]
+        refused = [part for part in made if isinstance(part, Refused)]
+        return refused[0] if refused else b"".join(made)

@@ -21,8 +21,8 @@ from derived import settle  # noqa: E402, stands one folder up
 
 def main():
     model = scheme.Scheme(Real)
-    store = bytearray(scheme.length_of(4, 4, 4))
-    model.make(store, 1, 4, 4, 4)
+    store = bytearray(scheme.length_of(4, 4, 4, 4))
+    model.make(store, 1, 4, 4, 4, 4)
     for name, call, wanted in examples.worked():
         if name > "G6":
             break
