@@ -31,7 +31,7 @@ use Rattle.store.specs.declared.Surveys.{Surveys}
 use Rattle.store.specs.declared.Checked.{Checked}
 use Rattle.store.specs.declared.Checked.the-variants.{Fit, Refused}
 use Rattle.store.specs.Check.{surveyOf, surveysOf, tableBy, shapeBy, markedOf, checkedOf, partIn, spanIn, sizesIn}
-pub use Rattle.store.specs.Check.{tableM, tableV, tableC, tableS}
+pub use Rattle.store.specs.Check.{tableM, tableV, tableC, tableS, tableR}
 
 -- ---- sizes in range
 
@@ -43,16 +43,20 @@ pub record InRange (z : Sizes) : Type 0 where
   pub c-most : z .c ≤ 4096
   pub s-least : 1 ≤ z .s
   pub s-most : z .s ≤ 4096
+  pub r-least : 1 ≤ z .r
+  pub r-most : z .r ≤ 4096
 
 pub in-range : (z : Sizes) → sizesBad z ≡ false → InRange z
 unfolding sizesBad
 in-range z e =
-    let p = neither (ltb 15 (z .p)) (rowsBad (z .m) || (rowsBad (z .c) || rowsBad (z .s))) e in
-    let q = neither (rowsBad (z .m)) (rowsBad (z .c) || rowsBad (z .s)) (p .1) in
-    let r = neither (rowsBad (z .c)) (rowsBad (z .s)) (q .1) in
+    let p = neither (ltb 15 (z .p)) (rowsBad (z .m) || (rowsBad (z .c) || (rowsBad (z .s) || rowsBad (z .r)))) e in
+    let q = neither (rowsBad (z .m)) (rowsBad (z .c) || (rowsBad (z .s) || rowsBad (z .r))) (p .1) in
+    let x = neither (rowsBad (z .c)) (rowsBad (z .s) || rowsBad (z .r)) (q .1) in
+    let y = neither (rowsBad (z .s)) (rowsBad (z .r)) (x .1) in
     let m = neither (ltb (z .m) 1) (ltb 4096 (z .m)) (q .0) in
-    let c = neither (ltb (z .c) 1) (ltb 4096 (z .c)) (r .0) in
-    let s = neither (ltb (z .s) 1) (ltb 4096 (z .s)) (r .1) in
+    let c = neither (ltb (z .c) 1) (ltb 4096 (z .c)) (x .0) in
+    let s = neither (ltb (z .s) 1) (ltb 4096 (z .s)) (y .0) in
+    let r = neither (ltb (z .r) 1) (ltb 4096 (z .r)) (y .1) in
     record {
       p-most = ltb-false 15 (z .p) (p .0);
       m-least = ltb-false (z .m) 1 (m .0);
@@ -61,10 +65,12 @@ in-range z e =
       c-most = ltb-false 4096 (z .c) (c .1);
       s-least = ltb-false (z .s) 1 (s .0);
       s-most = ltb-false 4096 (z .s) (s .1);
+      r-least = ltb-false (z .r) 1 (r .0);
+      r-most = ltb-false 4096 (z .r) (r .1);
     }
 
 -- the length does not depend on p
-pub length-shares : (z : Sizes) → lengthFor (record { p = 0; m = z .m; c = z .c; s = z .s }) ≡ lengthFor z
+pub length-shares : (z : Sizes) → lengthFor (record { p = 0; m = z .m; c = z .c; s = z .s; r = z .r }) ≡ lengthFor z
 unfolding lengthFor
 length-shares z = refl
 
@@ -77,8 +83,8 @@ pub record GoodHeader (b : List ℕ) : Type 0 where
 pub good-header : (b : List ℕ) → headerBad b ≡ false → GoodHeader b
 unfolding headerBad
 good-header b e =
-    let p = neither (ltb (length b) headerLength) (not (eqb (getD b 0 0) 1) || (sizesBad (sizesOf b) || not (eqb (length b) (lengthFor (sizesOf b))))) e in
-    let q = neither (not (eqb (getD b 0 0) 1)) (sizesBad (sizesOf b) || not (eqb (length b) (lengthFor (sizesOf b)))) (p .1) in
+    let p = neither (ltb (length b) headerLength) (not (eqb (getD b 0 0) 2) || (sizesBad (sizesOf b) || not (eqb (length b) (lengthFor (sizesOf b))))) e in
+    let q = neither (not (eqb (getD b 0 0) 2)) (sizesBad (sizesOf b) || not (eqb (length b) (lengthFor (sizesOf b)))) (p .1) in
     let r = neither (sizesBad (sizesOf b)) (not (eqb (length b) (lengthFor (sizesOf b)))) (q .1) in
     record {
       long = ltb-false (length b) headerLength (p .0);
@@ -87,18 +93,18 @@ good-header b e =
     }
 
 -- the sizes that were read out of a slice
-pub sizes-read : (b : List ℕ) (p m c s : ℕ) → p ≡ getD b 1 0 → m ≡ 256 * getD b 2 0 + getD b 3 0 → c ≡ 256 * getD b 4 0 + getD b 5 0 → s ≡ 256 * getD b 6 0 + getD b 7 0
-    → record { p = p; m = m; c = c; s = s } ≡ sizesOf b
+pub sizes-read : (b : List ℕ) (p m c s r : ℕ) → p ≡ getD b 1 0 → m ≡ 256 * getD b 2 0 + getD b 3 0 → c ≡ 256 * getD b 4 0 + getD b 5 0 → s ≡ 256 * getD b 6 0 + getD b 7 0
+    → r ≡ 256 * getD b 8 0 + getD b 9 0 → record { p = p; m = m; c = c; s = s; r = r } ≡ sizesOf b
 unfolding sizesOf
-sizes-read b p m c s ep em ec es = λ i. record { p = ep i; m = em i; c = ec i; s = es i }
+sizes-read b p m c s r ep em ec es er = λ i. record { p = ep i; m = em i; c = ec i; s = es i; r = er i }
 
-pub header-read : (b : List ℕ) (z : Sizes) (k : ℕ) (range r : Bool) → headerLength ≤ length b → z ≡ sizesOf b → range ≡ sizesBad z → k ≡ lengthFor (record { p = 0; m = z .m; c = z .c; s = z .s })
-    → r ≡ (not (eqb (getD b 0 0) 1) || (range || not (eqb (length b) k))) → r ≡ headerBad b
+pub header-read : (b : List ℕ) (z : Sizes) (k : ℕ) (range r : Bool) → headerLength ≤ length b → z ≡ sizesOf b → range ≡ sizesBad z → k ≡ lengthFor (record { p = 0; m = z .m; c = z .c; s = z .s; r = z .r })
+    → r ≡ (not (eqb (getD b 0 0) 2) || (range || not (eqb (length b) k))) → r ≡ headerBad b
 unfolding headerBad
 header-read b z k range r l e f g h =
     h
-    ∙ ap₂ (λ (x : Bool) (y : ℕ). not (eqb (getD b 0 0) 1) || (x || not (eqb (length b) y))) (f ∙ ap sizesBad e) (g ∙ length-shares z ∙ ap lengthFor e)
-    ∙ ap (λ (x : Bool). x || (not (eqb (getD b 0 0) 1) || (sizesBad (sizesOf b) || not (eqb (length b) (lengthFor (sizesOf b)))))) (sym (le-ltb (length b) headerLength l))
+    ∙ ap₂ (λ (x : Bool) (y : ℕ). not (eqb (getD b 0 0) 2) || (x || not (eqb (length b) y))) (f ∙ ap sizesBad e) (g ∙ length-shares z ∙ ap lengthFor e)
+    ∙ ap (λ (x : Bool). x || (not (eqb (getD b 0 0) 2) || (sizesBad (sizesOf b) || not (eqb (length b) (lengthFor (sizesOf b)))))) (sym (le-ltb (length b) headerLength l))
 
 -- ---- making
 
@@ -149,17 +155,18 @@ surveyed b start w n most free bad e f =
     λ i. record { bad = x i; part = record { start = start; end = start + w * n; rows = n; free = y i } }
 
 -- the tables one after the other
-pub all-surveyed : (b : List ℕ) (z : Sizes) (xM xV xC xS : Surveyed) (bad : Bool) → bad ≡ (xM .bad || (xV .bad || (xC .bad || xS .bad)))
+pub all-surveyed : (b : List ℕ) (z : Sizes) (xM xV xC xS xR : Surveyed) (bad : Bool) → bad ≡ (xM .bad || (xV .bad || (xC .bad || (xS .bad || xR .bad))))
     → xM ≡ surveyOf b (startOf z tableM) (widthOf tableM) (rowsOf z tableM) (greatestMark tableM)
     → xV ≡ surveyOf b (startOf z tableV) (widthOf tableV) (rowsOf z tableV) (greatestMark tableV)
     → xC ≡ surveyOf b (startOf z tableC) (widthOf tableC) (rowsOf z tableC) (greatestMark tableC)
     → xS ≡ surveyOf b (startOf z tableS) (widthOf tableS) (rowsOf z tableS) (greatestMark tableS)
-    → record { bad = bad; shape = record { p = z .p; m = xM .part; v = xV .part; c = xC .part; s = xS .part } } ≡ surveysOf b z
+    → xR ≡ surveyOf b (startOf z tableR) (widthOf tableR) (rowsOf z tableR) (greatestMark tableR)
+    → record { bad = bad; shape = record { p = z .p; m = xM .part; v = xV .part; c = xC .part; s = xS .part; r = xR .part } } ≡ surveysOf b z
 unfolding surveyOf surveysOf
-all-surveyed b z xM xV xC xS bad e eM eV eC eS =
-    let w : bad ≡ (xM .bad || (xV .bad || (xC .bad || (xS .bad || false)))) = e ∙ ap (λ (x : Bool). xM .bad || (xV .bad || (xC .bad || x))) (sym (or-false (xS .bad))) in
-    (λ i. record { bad = w i; shape = record { p = z .p; m = xM .part; v = xV .part; c = xC .part; s = xS .part } })
-    ∙ (λ i. record { bad = eM i .bad || (eV i .bad || (eC i .bad || (eS i .bad || false))); shape = record { p = z .p; m = eM i .part; v = eV i .part; c = eC i .part; s = eS i .part } })
+all-surveyed b z xM xV xC xS xR bad e eM eV eC eS eR =
+    let w : bad ≡ (xM .bad || (xV .bad || (xC .bad || (xS .bad || (xR .bad || false))))) = e ∙ ap (λ (x : Bool). xM .bad || (xV .bad || (xC .bad || (xS .bad || x)))) (sym (or-false (xR .bad))) in
+    (λ i. record { bad = w i; shape = record { p = z .p; m = xM .part; v = xV .part; c = xC .part; s = xS .part; r = xR .part } })
+    ∙ (λ i. record { bad = eM i .bad || (eV i .bad || (eC i .bad || (eS i .bad || (eR i .bad || false)))); shape = record { p = z .p; m = eM i .part; v = eV i .part; c = eC i .part; s = eS i .part; r = eR i .part } })
 
 module _ (b : List ℕ) where
   pub checked-header : headerBad b ≡ true → Refused Header ≡ markedOf b
@@ -278,13 +285,15 @@ planned-none p e =
     let v = neither (p tableV) _ (m .1) in
     let c = neither (p tableC) _ (v .1) in
     let s = neither (p tableS) _ (c .1) in
-    go (m .0) (v .0) (c .0) (s .0)
+    let r = neither (p tableR) _ (s .1) in
+    go (m .0) (v .0) (c .0) (s .0) (r .0)
   where
-    go : p tableM ≡ false → p tableV ≡ false → p tableC ≡ false → p tableS ≡ false → (k : Which) → p k ≡ false
-    go m v c s tableM = m
-    go m v c s tableV = v
-    go m v c s tableC = c
-    go m v c s tableS = s
+    go : p tableM ≡ false → p tableV ≡ false → p tableC ≡ false → p tableS ≡ false → p tableR ≡ false → (k : Which) → p k ≡ false
+    go m v c s r tableM = m
+    go m v c s r tableV = v
+    go m v c s r tableC = c
+    go m v c s r tableS = s
+    go m v c s r tableR = r
 
 -- the number of rows of each table is in range
 rows-range : (z : Sizes) (k : Which) → InRange z → (1 ≤ rowsOf z k) × (rowsOf z k ≤ 4096)
@@ -292,6 +301,7 @@ rows-range z tableM r = (r .m-least, r .m-most)
 rows-range z tableV r = (r .m-least, r .m-most)
 rows-range z tableC r = (r .c-least, r .c-most)
 rows-range z tableS r = (r .s-least, r .s-most)
+rows-range z tableR r = (r .r-least, r .r-most)
 
 -- where the tables stand in what the checks found
 spans : (b : List ℕ) (k : Which) → spanIn (shapeBy b (sizesOf b)) k ≡ spanOf (sizesOf b) k
@@ -299,12 +309,14 @@ spans b tableM = refl
 spans b tableV = refl
 spans b tableC = refl
 spans b tableS = refl
+spans b tableR = refl
 
 found : (b : List ℕ) (k : Which) → freeRows (tableBy b (sizesOf b) k) ≡ partIn (shapeBy b (sizesOf b)) k .free
 found b tableM = refl
 found b tableV = refl
 found b tableC = refl
 found b tableS = refl
+found b tableR = refl
 
 -- what an operation needs to know of a table's part: it lies in the slice and has so many rows, and these are the table's
 pub record Fits (b : List ℕ) (z : Shape) (k : Which) : Type 0 where
@@ -356,29 +368,21 @@ module _ (b : List ℕ) (z : Shape) (e : markedOf b ≡ Fit z) where
       let l = laid-end (spanIn z) b (cut b) laid-marked k in
       ((w, (f .from, f .to)), (omega arith, sym (ap freeRows (marked-from k) ∙ marked-free k)))
 
-  -- whether one of the four is not in form
-  pub bad-forms : (fM fV fC fS : Bool)
+  -- whether one of the five is not in form
+  pub bad-forms : (fM fV fC fS fR : Bool)
       → fM ≡ inForm (widthOf tableM) (rows (widthOf tableM) (partIn z tableM .rows) (drop (partIn z tableM .start) b))
       → fV ≡ inForm (widthOf tableV) (rows (widthOf tableV) (partIn z tableV .rows) (drop (partIn z tableV .start) b))
       → fC ≡ inForm (widthOf tableC) (rows (widthOf tableC) (partIn z tableC .rows) (drop (partIn z tableC .start) b))
       → fS ≡ inForm (widthOf tableS) (rows (widthOf tableS) (partIn z tableS .rows) (drop (partIn z tableS .start) b))
-      → (not fM || (not fV || (not fC || not fS))) ≡ formBad (cut b)
+      → fR ≡ inForm (widthOf tableR) (rows (widthOf tableR) (partIn z tableR .rows) (drop (partIn z tableR .start) b))
+      → (not fM || (not fV || (not fC || (not fS || not fR)))) ≡ formBad (cut b)
   unfolding formBad
-  bad-forms fM fV fC fS eM eV eC eS =
-      ap (λ (x : Bool). not fM || (not fV || (not fC || x))) (sym (or-false (not fS)))
-      ∙ (λ i. not (eM′ i) || (not (eV′ i) || (not (eC′ i) || (not (eS′ i) || false))))
+  bad-forms fM fV fC fS fR eM eV eC eS eR =
+      ap (λ (x : Bool). not fM || (not fV || (not fC || (not fS || x)))) (sym (or-false (not fR)))
+      ∙ (λ i. not (formed tableM fM eM i) || (not (formed tableV fV eV i) || (not (formed tableC fC eC i) || (not (formed tableS fS eS i) || (not (formed tableR fR eR i) || false)))))
     where
-      eM′ : fM ≡ inForm (widthOf tableM) (cut b .table tableM)
-      eM′ = eM ∙ ap (inForm (widthOf tableM)) (marked-from tableM)
-
-      eV′ : fV ≡ inForm (widthOf tableV) (cut b .table tableV)
-      eV′ = eV ∙ ap (inForm (widthOf tableV)) (marked-from tableV)
-
-      eC′ : fC ≡ inForm (widthOf tableC) (cut b .table tableC)
-      eC′ = eC ∙ ap (inForm (widthOf tableC)) (marked-from tableC)
-
-      eS′ : fS ≡ inForm (widthOf tableS) (cut b .table tableS)
-      eS′ = eS ∙ ap (inForm (widthOf tableS)) (marked-from tableS)
+      formed : (k : Which) (f : Bool) → f ≡ inForm (widthOf k) (rows (widthOf k) (partIn z k .rows) (drop (partIn z k .start) b)) → f ≡ inForm (widthOf k) (cut b .table k)
+      formed k f e = e ∙ ap (inForm (widthOf k)) (marked-from k)
 
 -- of a slice that passed all three
 module _ (b : List ℕ) (z : Shape) (e : checkedOf b ≡ Fit z) where

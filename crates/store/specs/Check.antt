@@ -15,7 +15,7 @@ use Rattle.store.specs.declared.Surveyed.{Surveyed}
 use Rattle.store.specs.declared.Surveys.{Surveys}
 use Rattle.store.specs.declared.Checked.{Checked}
 use Rattle.store.specs.declared.Checked.the-variants.{Fit, Refused}
-pub use Rattle.scheme.specs.Store.{tableM, tableV, tableC, tableS}
+pub use Rattle.scheme.specs.Store.{tableM, tableV, tableC, tableS, tableR}
 
 -- what one pass over the marks of n rows of w bytes from a place on tells
 unfoldable pub surveyOf : List ℕ → ℕ → ℕ → ℕ → ℕ → Surveyed
@@ -32,7 +32,7 @@ abbrev pub partBy : List ℕ → Sizes → Which → Part
 partBy b z k = record { start = startOf z k; end = startOf z k + widthOf k * rowsOf z k; rows = rowsOf z k; free = freeRows (tableBy b z k) }
 
 abbrev pub shapeBy : List ℕ → Sizes → Shape
-shapeBy b z = record { p = z .p; m = partBy b z tableM; v = partBy b z tableV; c = partBy b z tableC; s = partBy b z tableS }
+shapeBy b z = record { p = z .p; m = partBy b z tableM; v = partBy b z tableV; c = partBy b z tableC; s = partBy b z tableS; r = partBy b z tableR }
 
 -- what the passes over all tables tell
 unfoldable pub surveysOf : List ℕ → Sizes → Surveys
@@ -53,9 +53,10 @@ partIn z tableM = z .m
 partIn z tableV = z .v
 partIn z tableC = z .c
 partIn z tableS = z .s
+partIn z tableR = z .r
 
 abbrev pub spanIn : Shape → Which → Span
 spanIn z k = record { start = partIn z k .start; end = partIn z k .end; rows = partIn z k .rows }
 
 abbrev pub sizesIn : Shape → Sizes
-sizesIn z = record { p = z .p; m = z .m .rows; c = z .c .rows; s = z .s .rows }
+sizesIn z = record { p = z .p; m = z .m .rows; c = z .c .rows; s = z .s .rows; r = z .r .rows }

@@ -1,5 +1,5 @@
 // The store, one lent slice: making it, the checks 10, 11 and 20 of every operation, and where its
-// tables stand (document 01, "Store"; document 02, "Rows in byte order"). What the checks find is handed on by value: an operation lends a table as
+// tables stand (document 01, "Store"; document 02, "Rows in byte order" and "Find by several fields"). What the checks find is handed on by value: an operation lends a table as
 // `&mut store[start..end]` by the bounds of its `Part`, and works out none itself.
 ghost use mathlib.Core.Path.{_≡_};
 ghost use mathlib.Core.Bool.{false, not, _||_};
@@ -13,8 +13,11 @@ ghost use Rattle.store.specs.Check.{surveyOf, surveysOf, markedOf, check
 use answer::Completion;
 use answer::Refusal;
 
-// The length of the header. [01:ST2]
-pub const HEADER: usize = 8;
+// The length of the header. [01:ST2] [02:W4.7]
+pub const HEADER: usize = 10;
+
+// The version of a store. [01:ST2] [02:W4.5]
+pub const VERSION: u8 = 2;
 
 // The width of a row of M. [01:ST6]
 pub const M_WIDTH: usize = 61;
@@ -27,6 +30,9 @@ pub const C_WIDTH: usize = 61;
 
 // The width of a row of S. [01:ST12]
 pub const S_WIDTH: usize = 45;
+
+// The width of a row of R. [02:W4.3]
+pub const R_WIDTH: usize = 61;
 
 // The most rows that a table can have. [01:ST2]
 pub const MOST_ROWS: usize = 4096;
@@ -46,6 +52,7 @@ pub struct Shape {
     pub v: Part,
     pub c: Part,
     pub s: Part,
+    pub r: Part,
 }
 
 // A table, and whether a mark above the greatest stands in it.
@@ -66,9 +73,9 @@ pub enum Checked {
     Refused(Refusal),
 }
 
-// Whether one of four holds.
-fn any(a: bool, b: bool, c: bool, d: bool) -> bool
-    ensures { λ r. ⌜ r ≡ (a || (b || (c || d))) ⌝ }
+// Whether one of five holds.
+fn any(a: bool, b: bool, c: bool, d: bool, e: bool) -> bool
+    ensures { λ r. ⌜ r ≡ (a || (b || (c || (d || e)))) ⌝ }
 {
     if a {
         return true;
@@ -79,7 +86,10 @@ fn any(a: bool, b: bool, c: bool, d: bool) -> bool
     if c {
         return true;
     }
-    d
+    if d {
+        return true;
+    }
+    e
 }
 
 // Whether a number of rows is outside 1 to 4,096.
@@ -89,28 +99,28 @@ fn bad_rows(n: u64) -> bool
     if n < 1 { true } else { (MOST_ROWS as u64) < n }
 }
 
-// Whether p, m, c or s is out of range. [01:KT3 ST2]
-fn bad_sizes(p: u64, m: u64, c: u64, s: u64) -> bool
-    ensures { λ r. ⌜ r ≡ sizesBad (record { p = p; m = m; c = c; s = s }) ⌝ }
+// Whether p, m, c, s or r is out of range. [01:KT3 ST2] [02:W4.2]
+fn bad_sizes(p: u64, m: u64, c: u64, s: u64, r: u64) -> bool
+    ensures { λ b. ⌜ b ≡ sizesBad (record { p = p; m = m; c = c; s = s; r = r }) ⌝ }
 {
-    any(15 < p, bad_rows(m), bad_rows(c), bad_rows(s))
+    any(15 < p, bad_rows(m), bad_rows(c), bad_rows(s), bad_rows(r))
 }
 
-// The length of a store with these sizes. [01:ST3]
-pub fn length_for(m: usize, c: usize, s: usize) -> usize
-    requires { ⌜ (m ≤ 65535) × ((c ≤ 65535) × (s ≤ 65535)) ⌝ }
-    ensures { λ r. ⌜ r ≡ lengthFor (record { p = 0; m = m; c = c; s = s }) ⌝ }
+// The length of a store with these sizes. [01:ST3] [02:W4.8]
+pub fn length_for(m: usize, c: usize, s: usize, r: usize) -> usize
+    requires { ⌜ ((m ≤ 65535) × (c ≤ 65535)) × ((s ≤ 65535) × (r ≤ 65535)) ⌝ }
+    ensures { λ n. ⌜ n ≡ lengthFor (record { p = 0; m = m; c = c; s = s; r = r }) ⌝ }
 {
-    HEADER + M_WIDTH * m + V_WIDTH * m + C_WIDTH * c + S_WIDTH * s
+    HEADER + M_WIDTH * m + V_WIDTH * m + C_WIDTH * c + S_WIDTH * s + R_WIDTH * r
 }
 
-// The header: version 1, p, then m, c, s, two bytes each, big-endian. [01:ST2]
-fn header(p: u64, m: u64, c: u64, s: u64) -> [u8; HEADER]
-    requires { ⌜ sizesBad (record { p = p; m = m; c = c; s = s }) ≡ false ⌝ }
-    ensures { λ r. ⌜ r ≡ headerOf (record { p = p; m = m; c = c; s = s }) ⌝ }
+// The header: the version, p, then m, c, s, r, two bytes each, big-endian. [01:ST2] [02:W4.5 W4.7]
+fn header(p: u64, m: u64, c: u64, s: u64, r: u64) -> [u8; HEADER]
+    requires { ⌜ sizesBad (record { p = p; m = m; c = c; s = s; r = r }) ≡ false ⌝ }
+    ensures { λ h. ⌜ h ≡ headerOf (record { p = p; m = m; c = c; s = s; r = r }) ⌝ }
 {
     [
-        1,
+        VERSION,
         p as u8,
         (m / 256) as u8,
         (m % 256) as u8,
@@ -118,22 +128,24 @@ fn header(p: u64, m: u64, c: u64, s: u64) -> [u8; HEADER]
         (c % 256) as u8,
         (s / 256) as u8,
         (s % 256) as u8,
+        (r / 256) as u8,
+        (r % 256) as u8,
     ]
 }
 
 // Makes a store: writes the header and zeroes the rest; refusals 7 and 8 leave the slice. [01:ST16 RI8 RI9]
-pub fn make(p: u64, m: u64, c: u64, s: u64, slice: &mut [u8]) -> Completion
-    ensures { λ r. ⌜ completion r ≡ makeOf (record { p = p; m = m; c = c; s = s }) (now (slice .entry)) .answer ⌝ }
-    ensures { λ _. ⌜ now (slice .exit) ≡ makeOf (record { p = p; m = m; c = c; s = s }) (now (slice .entry)) .store ⌝ }
+pub fn make(p: u64, m: u64, c: u64, s: u64, r: u64, slice: &mut [u8]) -> Completion
+    ensures { λ a. ⌜ completion a ≡ makeOf (record { p = p; m = m; c = c; s = s; r = r }) (now (slice .entry)) .answer ⌝ }
+    ensures { λ _. ⌜ now (slice .exit) ≡ makeOf (record { p = p; m = m; c = c; s = s; r = r }) (now (slice .entry)) .store ⌝ }
 {
-    if bad_sizes(p, m, c, s) {
+    if bad_sizes(p, m, c, s, r) {
         return Completion::Refused(Refusal::SizeRange);
     }
     let n = slice.len();
-    if n != length_for(m as usize, c as usize, s as usize) {
+    if n != length_for(m as usize, c as usize, s as usize, r as usize) {
         return Completion::Refused(Refusal::SliceLength);
     }
-    let h = header(p, m, c, s);
+    let h = header(p, m, c, s, r);
     octets::copy(&mut slice[0..HEADER], &h);
     octets::clear(&mut slice[HEADER..n]);
     Completion::Done
@@ -147,7 +159,7 @@ fn number(store: &[u8], at: usize) -> u64
     256 * octets::wide(store[at]) + octets::wide(store[at + 1])
 }
 
-// The condition of 10. [01:RS2]
+// The condition of 10. [01:RS2] [02:W4.5 W4.6]
 fn bad_header(store: &[u8]) -> bool
     ensures { λ r. ⌜ r ≡ headerBad (now (store .entry)) ⌝ }
 {
@@ -158,11 +170,13 @@ fn bad_header(store: &[u8]) -> bool
     let m = number(store, 2);
     let c = number(store, 4);
     let s = number(store, 6);
+    let r = number(store, 8);
     any(
         false,
-        store[0] != 1,
-        bad_sizes(octets::wide(store[1]), m, c, s),
-        n != length_for(m as usize, c as usize, s as usize),
+        false,
+        store[0] != VERSION,
+        bad_sizes(octets::wide(store[1]), m, c, s, r),
+        n != length_for(m as usize, c as usize, s as usize, r as usize),
     )
 }
 
@@ -186,27 +200,30 @@ fn survey(store: &[u8], start: usize, w: usize, n: usize, most: u8) -> Surveyed
 }
 
 // One pass over each table, one after the other, with the greatest mark that it allows. [01:ST3 ST5]
-fn survey_all(store: &[u8], p: u64, m: usize, c: usize, s: usize) -> Surveys
-    requires { ⌜ length (now store) ≡ lengthFor (record { p = p; m = m; c = c; s = s }) ⌝ }
-    ensures { λ r. ⌜ r ≡ surveysOf (now (store .entry)) (record { p = p; m = m; c = c; s = s }) ⌝ }
+fn survey_all(store: &[u8], p: u64, m: usize, c: usize, s: usize, r: usize) -> Surveys
+    requires { ⌜ length (now store) ≡ lengthFor (record { p = p; m = m; c = c; s = s; r = r }) ⌝ }
+    ensures { λ v. ⌜ v ≡ surveysOf (now (store .entry)) (record { p = p; m = m; c = c; s = s; r = r }) ⌝ }
 {
     let in_m = survey(store, HEADER, M_WIDTH, m, 1);
     let in_v = survey(store, in_m.part.end, V_WIDTH, m, 1);
     let in_c = survey(store, in_v.part.end, C_WIDTH, c, 1);
     let in_s = survey(store, in_c.part.end, S_WIDTH, s, 1);
+    let in_r = survey(store, in_s.part.end, R_WIDTH, r, 1);
     let part_m = in_m.part;
     let part_v = in_v.part;
     let part_c = in_c.part;
     let part_s = in_s.part;
+    let part_r = in_r.part;
     let shape = Shape {
         p,
         m: part_m,
         v: part_v,
         c: part_c,
         s: part_s,
+        r: part_r,
     };
     Surveys {
-        bad: any(in_m.bad, in_v.bad, in_c.bad, in_s.bad),
+        bad: any(in_m.bad, in_v.bad, in_c.bad, in_s.bad, in_r.bad),
         shape,
     }
 }
@@ -222,7 +239,8 @@ pub fn marked(store: &[u8]) -> Checked
     let m = number(store, 2) as usize;
     let c = number(store, 4) as usize;
     let s = number(store, 6) as usize;
-    let all = survey_all(store, p, m, c, s);
+    let r = number(store, 8) as usize;
+    let all = survey_all(store, p, m, c, s, r);
     if all.bad {
         return Checked::Refused(Refusal::Mark);
     }
@@ -250,6 +268,7 @@ fn bad_form(store: &[u8], z: Shape) -> bool
         !formed(store, z.v, V_WIDTH),
         !formed(store, z.c, C_WIDTH),
         !formed(store, z.s, S_WIDTH),
+        !formed(store, z.r, R_WIDTH),
     )
 }
 

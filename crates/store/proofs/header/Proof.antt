@@ -15,4 +15,4 @@ pub header-spec : {M : Type 1} → statement M
 header-spec =
     tie.close
     (tie.spec (λ c. omega (arith, in-range _ (c .pre))) (λ c. omega (arith, in-range _ (c .pre))) (λ c. search needs)
-    (λ c. omega (arith, in-range _ (c .pre))) (λ c. search needs) (λ c. omega (arith, in-range _ (c .pre))) (λ c. search needs) returns)
+    (λ c. omega (arith, in-range _ (c .pre))) (λ c. search needs) (λ c. omega (arith, in-range _ (c .pre))) (λ c. search needs) (λ c. omega (arith, in-range _ (c .pre))) (λ c. search needs) returns)

@@ -10,16 +10,16 @@ use Rattle.store.proofs.make.Statement.{statement}
 use Rattle.store.proofs.make.Tie as tie
 
 -- the sizes after 7
-range : (c : tie.Else1) → let a = c .before .before .before .args in InRange (record { p = a .p; m = a .m; c = a .c; s = a .s })
+range : (c : tie.Else1) → let a = c .before .before .before .args in InRange (record { p = a .p; m = a .m; c = a .c; s = a .s; r = a .r })
 range c = in-range _ (sym (c .before .bad-sizes .ensures) ∙ c .if1 .left)
 
 returns : tie.Need-returns
-returns c = let a = c .before .before .before .args in make-range (record { p = a .p; m = a .m; c = a .c; s = a .s }) (a .slice .now) (sym (c .before .bad-sizes .ensures) ∙ c .if1 .taken)
+returns c = let a = c .before .before .before .args in make-range (record { p = a .p; m = a .m; c = a .c; s = a .s; r = a .r }) (a .slice .now) (sym (c .before .bad-sizes .ensures) ∙ c .if1 .taken)
 
 returns-2 : tie.Need-returns-2
 returns-2 c =
     let a = c .before .before .before .before .before .args in
-    make-length (record { p = a .p; m = a .m; c = a .c; s = a .s }) (a .slice .now) (sym (c .before .before .before .bad-sizes .ensures) ∙ c .before .before .if1 .left)
+    make-length (record { p = a .p; m = a .m; c = a .c; s = a .s; r = a .r }) (a .slice .now) (sym (c .before .before .before .bad-sizes .ensures) ∙ c .before .before .if1 .left)
     (λ e. c .if2 .taken (e ∙ sym (c .before .length-for .ensures ∙ length-shares _)))
 
 -- the slice has room for the header
@@ -42,7 +42,7 @@ part-clear-start c = omega (arith, long (c .before .before .before .before .befo
 returns-3 : tie.Need-returns-3
 returns-3 c =
     let a = c .before .before .before .before .before .before .before .before .before .before .before .before .before .before .before .args in
-    let z : Sizes = record { p = a .p; m = a .m; c = a .c; s = a .s } in
+    let z : Sizes = record { p = a .p; m = a .m; c = a .c; s = a .s; r = a .r } in
     let whole = c .before .before .before .before .before .before .before .before .before .before .if2 .left ∙ c .before .before .before .before .before .before .before .before .before .before .before .length-for .ensures ∙ length-shares _ in
     make-done z (a .slice .now) (sym (c .before .before .before .before .before .before .before .before .before .before .before .before .before .bad-sizes .ensures) ∙ c .before .before .before .before .before .before .before .before .before .before .before .before .if1 .left) whole _
     (made z (a .slice .now) (c .before .before .before .before .before .before .copy .last .0) (c .before .before .clear .last .0) (length (a .slice .now)) refl whole (c .before .before .before .before .before .before .copy .ensures ∙ c .before .before .before .before .before .before .before .before .before .header .ensures) (c .before .before .clear .ensures))
