@@ -1,19 +1,19 @@
 -- Tags under a prepared key are the scheme's tags at the program's suite.
 use Prim.Native.Nat.{ℕ}
 use mathlib.Core.Path.{_≡_}
-use mathlib.Core.List.{List, _∷_}
+use mathlib.Core.List.{List, _∷_, _++_}
 use Rattle.hmac.specs.declared.Keyed.{Keyed}
 use Rattle.compression.specs.Compression.{words}
 use Rattle.hmac.specs.Hmac.{F, Inner, Outer}
 use Rattle.hmac.proofs.Laws.{from-prepared}
 use Rattle.scheme.specs.Suite.{number8}
 use Rattle.scheme.specs.Keys.{CT, share}
-use Rattle.scheme.specs.Store.{entryTag, counterTag, anchorTag}
+use Rattle.scheme.specs.Store.{entryTag, counterTag, anchorTag, rMark}
 use Rattle.suite.specs.Program.{program}
 use Rattle.format.specs.declared.Address.{Address}
 use Rattle.format.specs.declared.Position.{Position}
 use Rattle.format.specs.declared.AnchorNumber.{AnchorNumber}
-use Rattle.format.specs.Tags.{tagBy, numberedBy, entryTagBy, counterTagBy, anchorTagBy, Prepared}
+use Rattle.format.specs.Tags.{tagBy, numberedBy, entryTagBy, counterTagBy, anchorTagBy, rMarkBy, Prepared}
 
 -- what the preparing of a key tells
 pub prepared : (k : Keyed) (key : List ℕ) → (words (k .inner) ≡ Inner key) × (words (k .outer) ≡ Outer key) → Prepared k key
@@ -43,3 +43,8 @@ anchor-tag-is k cl b p = tag-by k (CT program cl) (2 ∷ number8 (b .0)) p
 pub share-is : (k : Keyed) (key : List ℕ) (u : ℕ) → Prepared k key → numberedBy k u ≡ share program key u
 unfolding share program
 share-is k key u p = numbered-is k key u p
+
+-- [02:W4.3]
+pub r-mark-is : (k : Keyed) (rl nonce id : List ℕ) → Prepared k rl → rMarkBy k nonce id ≡ rMark program rl nonce id
+unfolding rMarkBy rMark program
+r-mark-is k rl nonce id p = tag-by k rl (nonce ++ id) p

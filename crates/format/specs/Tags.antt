@@ -2,7 +2,7 @@
 -- say that these are the scheme's.
 use Prim.Native.Nat.{ℕ}
 use mathlib.Core.Path.{_≡_}
-use mathlib.Core.List.{List, _∷_}
+use mathlib.Core.List.{List, _∷_, _++_}
 use Rattle.compression.specs.Compression.{words}
 use Rattle.hmac.specs.declared.Keyed.{Keyed}
 use Rattle.hmac.specs.Hmac.{Inner, Outer, Tag}
@@ -31,6 +31,10 @@ counterTagBy ct a = tagBy ct (1 ∷ number8 (a .0))
 
 unfoldable pub anchorTagBy : Keyed → AnchorNumber → List ℕ
 anchorTagBy ct b = tagBy ct (2 ∷ number8 (b .0))
+
+-- the R mark of an id under a nonce [02:W4.3]
+unfoldable pub rMarkBy : Keyed → List ℕ → List ℕ → List ℕ
+rMarkBy rl nonce id = tagBy rl (nonce ++ id)
 
 -- the two hash values of a key
 pub record Prepared (k : Keyed) (key : List ℕ) : Type 0 where

@@ -2,8 +2,9 @@
 // number, the tags under a prepared key, and the keys of a CL. The rows themselves are in row.
 ghost use mathlib.Core.Path.{_≡_};
 ghost use mathlib.Core.List.{_∷_};
+ghost use lib.ListN.{length};
 ghost use Rattle.scheme.specs.Suite.{number8};
-ghost use Rattle.format.specs.Tags.{numberedBy, entryTagBy, counterTagBy, anchorTagBy, KeysOf};
+ghost use Rattle.format.specs.Tags.{numberedBy, entryTagBy, counterTagBy, anchorTagBy, rMarkBy, KeysOf};
 
 pub mod row;
 
@@ -18,8 +19,11 @@ pub const NONCE: usize = 12;
 // The length of an id. [01:ST7]
 pub const ID: usize = 16;
 
-// The length of an insert token. [01:KT7]
-pub const INSERT_TOKEN: usize = 141;
+// The length of an insert token. [01:KT7] [02:W4.9]
+pub const INSERT_TOKEN: usize = 173;
+
+// Where RL stands in an insert token. [02:W4.9]
+pub const INSERT_RL: usize = 141;
 
 // The length of a find token. [01:KT8]
 pub const FIND_TOKEN: usize = 96;
@@ -29,6 +33,12 @@ pub const COUNT_TOKEN: usize = 32;
 
 // The length of a compaction token. [01:KT10]
 pub const COMPACTION_TOKEN: usize = 32;
+
+// The length of a label's RL, which is what a test takes. [02:W4.16]
+pub const MARK_TOKEN: usize = 32;
+
+// The length of a part of a joint find. [02:W4.18]
+pub const PART_TOKEN: usize = 128;
 
 // Entry address: the number in the tag of an M row. [01:ST17 FM10]
 pub struct Address(pub u64);
@@ -78,6 +88,17 @@ pub fn anchor_tag(ct: Keyed, b: AnchorNumber) -> [u8; 32]
 {
     let m = message(2, b.0);
     hmac::tagged(ct, &m)
+}
+
+// The R mark of an id under a nonce, with the prepared RL: F(RL, n then id). [02:W4.3]
+pub fn r_mark(rl: Keyed, nonce: &[u8], id: &[u8]) -> [u8; 32]
+    requires { ⌜ (length (now nonce) ≡ 12) × (length (now id) ≡ 16) ⌝ }
+    ensures { λ r. ⌜ r ≡ rMarkBy rl (now (nonce .entry)) (now (id .entry)) ⌝ }
+{
+    let mut m = [0u8; 28];
+    octets::copy_at(&mut m, 0, nonce);
+    octets::copy_at(&mut m, 12, id);
+    hmac::tagged(rl, &m)
 }
 
 // The keys of one CL: CT prepared, and CE. [01:KT6]

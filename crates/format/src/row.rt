@@ -1,5 +1,5 @@
-// Rows (document 01, "Store"): those of M, V, C and S as they are written, and the text in a row that is
-// read.
+// Rows (document 01, "Store"; document 02, "Find by several fields"): those of M, V, C, S and R as they are
+// written, and what is read of a row.
 ghost use mathlib.Core.Path.{_≡_};
 ghost use mathlib.Core.Bool.{not, _&&_};
 ghost use mathlib.Core.List.{_∷_, _++_, []};
@@ -9,9 +9,9 @@ ghost use Rattle.chacha20.specs.Cipher.{E};
 ghost use Rattle.table.specs.Lists.{same};
 ghost use Rattle.table.specs.Table.{rows, isFree, body};
 ghost use Rattle.scheme.specs.Suite.{number8};
-ghost use Rattle.scheme.specs.Store.{tableM, tableS, tableV, widthOf, reverseId, reverseTag, entryRow, reverseRow, countedRow, counterRow, anchorRow, logRow, clIn};
+ghost use Rattle.scheme.specs.Store.{tableM, tableS, tableV, tableR, widthOf, reverseId, reverseTag, entryRow, reverseRow, countedRow, counterRow, anchorRow, logRow, clIn, labelRow, labelNonce, labelMark};
 ghost use Rattle.suite.specs.Program.{program};
-ghost use Rattle.format.specs.Tags.{Prepared, KeysOf};
+ghost use Rattle.format.specs.Tags.{rMarkBy, Prepared, KeysOf};
 ghost use Rattle.format.specs.Rows.{textIn};
 use crate::Address;
 use crate::AnchorNumber;
@@ -21,9 +21,11 @@ use crate::Position;
 use crate::anchor_tag;
 use crate::counter_tag;
 use crate::entry_tag;
+use crate::r_mark;
 use hmac::Keyed;
 use store::C_WIDTH;
 use store::M_WIDTH;
+use store::R_WIDTH;
 use store::S_WIDTH;
 use store::V_WIDTH;
 
@@ -137,7 +139,7 @@ pub fn text_at(t: &[u8], n: usize, i: usize, key: &[u8; 32]) -> [u8; 16]
     plain
 }
 
-// A row of S: mark, and the last 44 bytes of the token. [01:ST12 OP1]
+// A row of S: mark, and the 44 bytes of the token before RL. [01:ST12 OP1] [02:W4.10]
 pub fn log_row(log: &[u8]) -> [u8; S_WIDTH]
     requires { ⌜ length (now log) ≡ 44 ⌝ }
     ensures { λ r. ⌜ r ≡ logRow (now (log .entry)) ⌝ }
@@ -189,4 +191,31 @@ pub fn tag_at(t: &[u8], n: usize, i: usize) -> [u8; 32]
     let mut tag = [0u8; 32];
     octets::copy(&mut tag, &t[at..e]);
     tag
+}
+
+// A row of R: mark, id, nonce, and the R mark, with the prepared RL. [02:W4.3]
+pub fn label_row(k: Keyed, rl: &[u8], nonce: &[u8], id: &[u8]) -> [u8; R_WIDTH]
+    requires { ⌜ Prepared k (now rl) × ((length (now nonce) ≡ 12) × (length (now id) ≡ 16)) ⌝ }
+    ensures { λ r. ⌜ r ≡ labelRow program (now (rl .entry)) (now (nonce .entry)) (now (id .entry)) ⌝ }
+{
+    let mark = r_mark(k, nonce, id);
+    let mut row = [1u8; R_WIDTH];
+    octets::copy_at(&mut row, 1, id);
+    octets::copy_at(&mut row, 17, nonce);
+    octets::copy_at(&mut row, 29, &mark);
+    row
+}
+
+// Whether the R mark in the row of R at an index is that of the id under the row's nonce, with the
+// prepared RL. [02:W4.17]
+pub fn is_marked(t: &[u8], n: usize, i: usize, rl: Keyed, id: &[u8]) -> bool
+    requires { ⌜ (i < n) × ((length (now t) ≡ widthOf tableR * n) × (length (now id) ≡ 16)) ⌝ }
+    ensures { λ r. ⌜ r ≡ same (labelMark (body (getD (rows (widthOf tableR) n (now (t .entry))) i []))) (rMarkBy rl (labelNonce (body (getD (rows (widthOf tableR) n (now (t .entry))) i []))) (now (id .entry))) ⌝ }
+{
+    let at = R_WIDTH * i;
+    let nonce = at + 17;
+    let mark = at + 29;
+    let e = at + R_WIDTH;
+    let wanted = r_mark(rl, &t[nonce..mark], id);
+    octets::same(&t[mark..e], &wanted)
 }
