@@ -1,12 +1,13 @@
 -- Laws of what a line asks for: an id that a word is or is not, ids one after the other, the first word that is none, numbers, a token
 -- that was printed.
-use Prim.Native.Nat.{ℕ, zero, suc, _+_, _*_, _-_, _<_, _≤_}
+use Prim.Native.Nat.{ℕ, zero, suc, _+_, _*_, _-_, _/_, _%_, _<_, _≤_}
 use mathlib.Core.Path.{_≡_, refl, sym, ap, ap₂, subst, _∙_}
 use mathlib.Core.Bool.{Bool, true, false, cond}
 use mathlib.Core.List.{List, [], _++_}
 use native.Mathlib.Numerals.{add-one}
 use native.Mathlib.Omega.{arith}
 use lib.Dec.{ltb, eqb}
+use borrow.Author.Tests.{ltb-false}
 use lib.ListN.{length, getD, take, replicate}
 use lib.Seq.{take-add}
 use Rattle.octets.specs.Compare.{same}
@@ -24,7 +25,7 @@ use Rattle.words.specs.declared.Command.{Command}
 use Rattle.words.specs.declared.Command.the-variants.{New as New₀, Key as Key₀, Insert as Insert₀, Find as Find₀, Count as Count₀, Erase as Erase₀, Compact as Compact₀, Order as Order₀, Token as Token₀, Show as Show₀, Help as Help₀, Unknown}
 use Rattle.request.specs.Ids.{idOf, idsOf}
 use Rattle.request.specs.Token.{tokenOf}
-use Rattle.request.specs.Request.{withNumber, withIds, idsFrom, firstBad, idsGiven, newOf, insertOf, insertByOf, countOf, eraseOf, insertTokenOf, makingBy, makingOf, pickRequest, hasToken, requestBy, requestWith, requestOf, idsIn}
+use Rattle.request.specs.Request.{withNumber, withIds, idsFrom, firstBad, idsGiven, newOf, insertOf, insertByOf, findOf, countOf, eraseOf, insertTokenOf, makingBy, makingOf, pickRequest, hasToken, requestBy, requestWith, requestOf, Bounded}
 use Rattle.request.specs.declared.Request.{Request}
 use Rattle.request.specs.declared.Request.the-variants.{Misused, NotId, Insert, Find, Count, Erase, Compact, FindToken, CountToken, CompactionToken, InsertBy, FindBy, CountBy, CompactBy}
 
@@ -98,59 +99,69 @@ pub making-of : (line : List ℕ) (c d : Command) (n : ℕ) (r : Request) → c 
 unfolding makingOf
 making-of line c d n r e k h p = p ∙ ap₂ (λ (x : Command) (m : ℕ). makingBy x m line) (sym h ∙ e) k
 
--- no request brings more than 65 ids
-few-number : (d : Parsed) (i : ℕ) (f : ℕ → Request) → ((n : ℕ) → idsIn (f n) ≤ 65) → idsIn (withNumber d i f) ≤ 65
-few-number (Number n) i f h = h n
-few-number Bad i f h = omega arith
+-- every request is bounded
+bounded-number : (d : Parsed) (i : ℕ) (f : ℕ → Request) → ((n : ℕ) → Bounded (f n)) → Bounded (withNumber d i f)
+bounded-number (Number n) i f h = h n
+bounded-number Bad i f h = tt
 
-few-pick : (b : Bool) (p q : Request) → idsIn p ≤ 65 → idsIn q ≤ 65 → idsIn (pickRequest b p q) ≤ 65
-few-pick true p q h k = h
-few-pick false p q h k = k
+bounded-pick : (b : Bool) (p q : Request) → Bounded p → Bounded q → Bounded (pickRequest b p q)
+bounded-pick true p q h k = h
+bounded-pick false p q h k = k
 
-few-making : (c : Command) (n : ℕ) (line : List ℕ) → idsIn (makingBy c n line) ≤ 65
+bounded-making : (c : Command) (n : ℕ) (line : List ℕ) → Bounded (makingBy c n line)
 unfolding insertTokenOf
-few-making New₀ n line = omega arith
-few-making Key₀ n line = omega arith
-few-making Insert₀ n line =
-    few-pick (eqb n 7) _ (Misused Token₀) (few-number (decimalOf (wordAt 5 line)) 5 _ (λ p. few-number (decimalOf (wordAt 6 line)) 6 _ (λ u. omega arith))) (omega arith)
-few-making Find₀ n line = few-pick (eqb n 5) FindToken (Misused Token₀) (omega arith) (omega arith)
-few-making Count₀ n line = few-pick (eqb n 5) CountToken (Misused Token₀) (omega arith) (omega arith)
-few-making Erase₀ n line = omega arith
-few-making Compact₀ n line = few-pick (eqb n 3) CompactionToken (Misused Token₀) (omega arith) (omega arith)
-few-making Order₀ n line = omega arith
-few-making Token₀ n line = omega arith
-few-making Show₀ n line = omega arith
-few-making Help₀ n line = omega arith
-few-making Unknown n line = omega arith
+bounded-making New₀ n line = tt
+bounded-making Key₀ n line = tt
+bounded-making Insert₀ n line =
+    bounded-pick (eqb n 7) _ (Misused Token₀) (bounded-number (decimalOf (wordAt 5 line)) 5 _ (λ p. bounded-number (decimalOf (wordAt 6 line)) 6 _ (λ u. tt))) tt
+bounded-making Find₀ n line = bounded-pick (eqb n 5) FindToken (Misused Token₀) tt tt
+bounded-making Count₀ n line = bounded-pick (eqb n 5) CountToken (Misused Token₀) tt tt
+bounded-making Erase₀ n line = tt
+bounded-making Compact₀ n line = bounded-pick (eqb n 3) CompactionToken (Misused Token₀) tt tt
+bounded-making Order₀ n line = tt
+bounded-making Token₀ n line = tt
+bounded-making Show₀ n line = tt
+bounded-making Help₀ n line = tt
+bounded-making Unknown n line = tt
 
-few-ids : (line : List ℕ) (first : ℕ) (f : ℕ → Request) → ((n : ℕ) → n ≤ 65 → idsIn (f n) ≤ 65) → idsIn (idsFrom first line f) ≤ 65
-few-ids line first f h =
-    few-pick (ltb (firstBad (idsGiven first line) first line) (first + idsGiven first line)) (NotId (firstBad (idsGiven first line) first line)) (f (idsGiven first line)) (omega arith) (h (idsGiven first line) (omega arith))
+bounded-ids : (line : List ℕ) (first : ℕ) (f : ℕ → Request) → ((n : ℕ) → n ≤ 65 → Bounded (f n)) → Bounded (idsFrom first line f)
+bounded-ids line first f h =
+    bounded-pick (ltb (firstBad (idsGiven first line) first line) (first + idsGiven first line)) (NotId (firstBad (idsGiven first line) first line)) (f (idsGiven first line)) tt (h (idsGiven first line) (omega arith))
 
-few-count : (n : ℕ) (p q : Request) (line : List ℕ) → idsIn p ≤ 65 → idsIn q ≤ 65 → idsIn (countOf n p q line) ≤ 65
+-- a number of pairs is told where it is at most 8
+bounded-pairs : (n : ℕ) (b : Bool) → ltb 8 n ≡ b → Bounded (pickRequest b (Misused Find₀) (Find n))
+bounded-pairs n true e = tt
+bounded-pairs n false e = omega (arith, ltb-false 8 n e)
+
+bounded-find : (line : List ℕ) → Bounded (findOf line)
+unfolding findOf
+bounded-find line =
+    let n : ℕ = wordCount line - 3 in
+    bounded-pick (eqb (n % 2) 0) _ (Misused Find₀) (bounded-pairs (n / 2) (ltb 8 (n / 2)) refl) tt
+
+bounded-count : (n : ℕ) (p q : Request) (line : List ℕ) → Bounded p → Bounded q → Bounded (countOf n p q line)
 unfolding countOf
-few-count n p q line h k =
-    few-pick (eqb (wordCount line) n) p _ h (few-pick (eqb (wordCount line) (n + 1)) _ (Misused Count₀) (few-pick (same (wordAt n line) (ascii "--rows")) q (Misused Count₀) k (omega arith)) (omega arith))
+bounded-count n p q line h k =
+    bounded-pick (eqb (wordCount line) n) p _ h (bounded-pick (eqb (wordCount line) (n + 1)) _ (Misused Count₀) (bounded-pick (same (wordAt n line) (ascii "--rows")) q (Misused Count₀) k tt) tt)
 
-few-by : (c : Command) (b : Bool) (line : List ℕ) → idsIn (requestBy c b line) ≤ 65
+bounded-by : (c : Command) (b : Bool) (line : List ℕ) → Bounded (requestBy c b line)
 unfolding newOf insertOf insertByOf eraseOf makingOf
-few-by New₀ b line =
-    few-number (decimalOf (wordAt 2 line)) 2 _ (λ p. few-number (decimalOf (wordAt 3 line)) 3 _ (λ m. few-number (decimalOf (wordAt 4 line)) 4 _ (λ c. few-number (decimalOf (wordAt 5 line)) 5 _ (λ s. omega arith))))
-few-by Key₀ b line = omega arith
-few-by Insert₀ b line =
-    few-pick b _ _ (few-ids line 4 InsertBy (λ n h. h)) (few-number (decimalOf (wordAt 5 line)) 5 _ (λ u. few-ids line 6 (Insert u) (λ n h. h)))
-few-by Find₀ b line = few-pick b FindBy Find (omega arith) (omega arith)
-few-by Count₀ b line =
-    few-pick b _ _ (few-count 4 (CountBy false) (CountBy true) line (omega arith) (omega arith)) (few-count 5 (Count false) (Count true) line (omega arith) (omega arith))
-few-by Erase₀ b line = few-pick (isIdOf (wordAt 2 line)) Erase (NotId 2) (omega arith) (omega arith)
-few-by Compact₀ b line = few-pick b CompactBy Compact (omega arith) (omega arith)
-few-by Order₀ b line = omega arith
-few-by Token₀ b line = few-making (commandOf (wordAt 1 line)) (wordCount line) line
-few-by Show₀ b line = omega arith
-few-by Help₀ b line = omega arith
-few-by Unknown b line = omega arith
+bounded-by New₀ b line =
+    bounded-number (decimalOf (wordAt 2 line)) 2 _ (λ p. bounded-number (decimalOf (wordAt 3 line)) 3 _ (λ m. bounded-number (decimalOf (wordAt 4 line)) 4 _ (λ c. bounded-number (decimalOf (wordAt 5 line)) 5 _ (λ s. bounded-number (decimalOf (wordAt 6 line)) 6 _ (λ r. tt)))))
+bounded-by Key₀ b line = tt
+bounded-by Insert₀ b line =
+    bounded-pick b _ _ (bounded-ids line 4 InsertBy (λ n h. h)) (bounded-number (decimalOf (wordAt 5 line)) 5 _ (λ u. bounded-ids line 6 (Insert u) (λ n h. h)))
+bounded-by Find₀ b line = bounded-pick b FindBy _ tt (bounded-find line)
+bounded-by Count₀ b line = bounded-pick b _ _ (bounded-count 4 (CountBy false) (CountBy true) line tt tt) (bounded-count 5 (Count false) (Count true) line tt tt)
+bounded-by Erase₀ b line = bounded-pick (isIdOf (wordAt 2 line)) Erase (NotId 2) tt tt
+bounded-by Compact₀ b line = bounded-pick b CompactBy Compact tt tt
+bounded-by Order₀ b line = tt
+bounded-by Token₀ b line = bounded-making (commandOf (wordAt 1 line)) (wordCount line) line
+bounded-by Show₀ b line = tt
+bounded-by Help₀ b line = tt
+bounded-by Unknown b line = tt
 
-pub few : (line : List ℕ) (r : Request) → r ≡ requestOf line → (r ≡ requestOf line) × (idsIn r ≤ 65)
+pub bounded : (line : List ℕ) (r : Request) → r ≡ requestOf line → (r ≡ requestOf line) × Bounded r
 unfolding requestOf
-few line r e =
-    (e, subst (λ (x : Request). idsIn x ≤ 65) (sym e) (few-pick (wordsFit (commandOf (wordAt 0 line)) (hasToken line) (wordCount line)) _ (Misused (commandOf (wordAt 0 line))) (few-by (commandOf (wordAt 0 line)) (hasToken line) line) (omega arith)))
+bounded line r e =
+    (e, subst Bounded (sym e) (bounded-pick (wordsFit (commandOf (wordAt 0 line)) (hasToken line) (wordCount line)) _ (Misused (commandOf (wordAt 0 line))) (bounded-by (commandOf (wordAt 0 line)) (hasToken line) line) tt))

@@ -1,5 +1,5 @@
 -- What a command line asks for, by its words: word 0 is the command's own.
-use Prim.Native.Nat.{ℕ, zero, suc, _+_, _-_, min}
+use Prim.Native.Nat.{ℕ, zero, suc, _+_, _-_, _/_, _%_, _≤_, min}
 use mathlib.Core.Bool.{Bool, true, false, cond}
 use mathlib.Core.List.{List}
 use lib.Dec.{ltb, eqb}
@@ -28,9 +28,10 @@ withNumber Bad i f = NotNumber i
 abbrev pub numberAt : ℕ → List ℕ → (ℕ → Request) → Request
 numberAt i line f = withNumber (decimalOf (wordAt i line)) i f
 
--- new STORE P M C S
+-- new STORE P M C S R
 unfoldable pub newOf : List ℕ → Request
-newOf line = numberAt 2 line (λ p. numberAt 3 line (λ m. numberAt 4 line (λ c. numberAt 5 line (λ s. New p m c s))))
+newOf line =
+    numberAt 2 line (λ p. numberAt 3 line (λ m. numberAt 4 line (λ c. numberAt 5 line (λ s. numberAt 6 line (λ r. New p m c s r)))))
 
 -- the first word that is no id, of n words from word i on; the word after them where all are
 unfoldable pub firstBad : ℕ → ℕ → List ℕ → ℕ
@@ -55,6 +56,13 @@ insertOf line = numberAt 5 line (λ u. idsFrom 6 line (Insert u))
 -- insert STORE --token TOKEN ID...
 unfoldable pub insertByOf : List ℕ → Request
 insertByOf line = idsFrom 4 line InsertBy
+
+-- find STORE KEYFILE, then 1 to 8 times FIELD VALUE: by so many words after KEYFILE [02:W4.18]
+abbrev pub pairsOf : ℕ → Request
+pairsOf n = pickRequest (eqb (n % 2) 0) (pickRequest (ltb 8 (n / 2)) (Misused Find₀) (Find (n / 2))) (Misused Find₀)
+
+unfoldable pub findOf : List ℕ → Request
+findOf line = pairsOf (wordCount line - 3)
 
 -- a count takes so many words; --rows after them, and nothing else, asks for the rows looked at too [02:W3.8]
 unfoldable pub countOf : ℕ → Request → Request → List ℕ → Request
@@ -93,7 +101,7 @@ abbrev pub requestBy : Command → Bool → List ℕ → Request
 requestBy New₀ b line = newOf line
 requestBy Key₀ b line = Key
 requestBy Insert₀ b line = pickRequest b (insertByOf line) (insertOf line)
-requestBy Find₀ b line = pickRequest b FindBy Find
+requestBy Find₀ b line = pickRequest b FindBy (findOf line)
 requestBy Count₀ b line = pickRequest b (countOf 4 (CountBy false) (CountBy true) line) (countOf 5 (Count false) (Count true) line)
 requestBy Erase₀ b line = eraseOf line
 requestBy Compact₀ b line = pickRequest b CompactBy Compact
@@ -113,26 +121,26 @@ requestWith c b line = pickRequest (wordsFit c b (wordCount line)) (requestBy c 
 unfoldable pub requestOf : List ℕ → Request
 requestOf line = requestWith (commandOf (wordAt 0 line)) (hasToken line) line
 
--- how many ids a request brings
-abbrev pub idsIn : Request → ℕ
-idsIn (Help c) = 0
-idsIn (Misused c) = 0
-idsIn (NotNumber i) = 0
-idsIn (NotId i) = 0
-idsIn (New p m c s) = 0
-idsIn Key = 0
-idsIn (Insert u n) = n
-idsIn Find = 0
-idsIn (Count rows) = 0
-idsIn Erase = 0
-idsIn Compact = 0
-idsIn Order = 0
-idsIn Show = 0
-idsIn (InsertToken p u) = 0
-idsIn FindToken = 0
-idsIn CountToken = 0
-idsIn CompactionToken = 0
-idsIn (InsertBy n) = n
-idsIn FindBy = 0
-idsIn (CountBy rows) = 0
-idsIn CompactBy = 0
+-- a request brings at most 65 ids, and a find at most 8 fields
+abbrev pub Bounded : Request → Type 0
+Bounded (Help c) = Unit {0}
+Bounded (Misused c) = Unit {0}
+Bounded (NotNumber i) = Unit {0}
+Bounded (NotId i) = Unit {0}
+Bounded (New p m c s r) = Unit {0}
+Bounded Key = Unit {0}
+Bounded (Insert u n) = n ≤ 65
+Bounded (Find n) = n ≤ 8
+Bounded (Count rows) = Unit {0}
+Bounded Erase = Unit {0}
+Bounded Compact = Unit {0}
+Bounded Order = Unit {0}
+Bounded Show = Unit {0}
+Bounded (InsertToken p u) = Unit {0}
+Bounded FindToken = Unit {0}
+Bounded CountToken = Unit {0}
+Bounded CompactionToken = Unit {0}
+Bounded (InsertBy n) = n ≤ 65
+Bounded FindBy = Unit {0}
+Bounded (CountBy rows) = Unit {0}
+Bounded CompactBy = Unit {0}

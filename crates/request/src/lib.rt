@@ -5,7 +5,7 @@ ghost use Prim.Native.Nat.{_+_, _*_, _≤_};
 ghost use lib.ListN.{length};
 ghost use Rattle.words.specs.Decimal.{decimalOf};
 ghost use Rattle.words.specs.Line.{wordAt};
-ghost use Rattle.request.specs.Request.{firstBad, idsGiven, newOf, insertOf, insertByOf, countOf, eraseOf, insertTokenOf, makingOf, requestBy, requestOf, idsIn};
+ghost use Rattle.request.specs.Request.{firstBad, idsGiven, newOf, insertOf, insertByOf, findOf, countOf, eraseOf, insertTokenOf, makingOf, requestBy, requestOf, Bounded};
 ghost use Rattle.request.specs.Ids.{idOf, idsOf};
 
 pub mod token;
@@ -23,26 +23,47 @@ pub enum Request {
     // The word that is no number, or no id.
     NotNumber(usize),
     NotId(usize),
-    New { p: u64, m: u64, c: u64, s: u64 },
+    New {
+        p: u64,
+        m: u64,
+        c: u64,
+        s: u64,
+        r: u64,
+    },
     Key,
     // At share u, so many ids.
-    Insert { u: u64, n: usize },
-    Find,
+    Insert {
+        u: u64,
+        n: usize,
+    },
+    // By so many fields with their values. [02:W4.18]
+    Find {
+        pairs: usize,
+    },
     // Whether the rows looked at are told too.
-    Count { rows: bool },
+    Count {
+        rows: bool,
+    },
     Erase,
     Compact,
     Order,
     Show,
     // The making of a token: of an insert's for shares 0 to p, at share u.
-    InsertToken { p: u64, u: u64 },
+    InsertToken {
+        p: u64,
+        u: u64,
+    },
     FindToken,
     CountToken,
     CompactionToken,
     // With a token in place of key file, field, value and share; so many ids.
-    InsertBy { n: usize },
+    InsertBy {
+        n: usize,
+    },
     FindBy,
-    CountBy { rows: bool },
+    CountBy {
+        rows: bool,
+    },
     CompactBy,
 }
 
@@ -111,7 +132,10 @@ fn new(line: &[u8]) -> Request
     let Parsed::Number(s) = number(line, 5) else {
         return Request::NotNumber(5);
     };
-    Request::New { p, m, c, s }
+    let Parsed::Number(r) = number(line, 6) else {
+        return Request::NotNumber(6);
+    };
+    Request::New { p, m, c, s, r }
 }
 
 // How many ids stand from word `first` on. At most 65 are read: one more than an insert takes, so that it
@@ -145,6 +169,21 @@ fn insert_by(line: &[u8]) -> Request
         return Request::NotId(bad);
     }
     Request::InsertBy { n }
+}
+
+// A find by the pairs of words after the key file. [02:W4.18]
+fn find(line: &[u8]) -> Request
+    ensures { λ r. ⌜ r ≡ findOf (now (line .entry)) ⌝ }
+{
+    let rest = octets::above(line::count(line), 3);
+    let pairs = rest / 2;
+    if rest % 2 != 0 {
+        return Request::Misused(Command::Find);
+    }
+    if 8 < pairs {
+        return Request::Misused(Command::Find);
+    }
+    Request::Find { pairs }
 }
 
 // A count that takes n words: this request, and the other where `--rows` follows them.
@@ -244,11 +283,7 @@ fn by_command(c: Command, token: bool, line: &[u8]) -> Request
         Command::New => new(line),
         Command::Key => Request::Key,
         Command::Insert => if token { insert_by(line) } else { insert(line) },
-        Command::Find => if token {
-            Request::FindBy
-        } else {
-            Request::Find
-        },
+        Command::Find => if token { Request::FindBy } else { find(line) },
         Command::Count => if token { count_by(line) } else { count(line) },
         Command::Erase => erase(line),
         Command::Compact => if token {
@@ -267,7 +302,7 @@ fn by_command(c: Command, token: bool, line: &[u8]) -> Request
 // What a line asks for.
 pub fn read(line: &[u8]) -> Request
     ensures { λ r. ⌜ r ≡ requestOf (now (line .entry)) ⌝ }
-    ensures { λ r. ⌜ idsIn r ≤ 65 ⌝ }
+    ensures { λ r. ⌜ Bounded r ⌝ }
 {
     let c = words::command_of(line::word(line, 0));
     let token = words::is(line::word(line, 2), b"--token");

@@ -29,14 +29,14 @@ commandOf w =
     (pickCommand (same w (ascii "erase")) Erase
     (pickCommand (same w (ascii "compact")) Compact (pickCommand (same w (ascii "order")) Order (readerOf w))))))
 
--- new takes STORE P M C S, key KEYFILE, insert STORE KEYFILE FIELD VALUE SHARE and the ids, find and count STORE KEYFILE FIELD
+-- new takes STORE P M C S R, key KEYFILE, insert STORE KEYFILE FIELD VALUE SHARE and the ids, find and count STORE KEYFILE FIELD
 -- VALUE, erase STORE ID, compact STORE KEYFILE, order and show STORE; insert, find, count and compact with a token take STORE --token TOKEN
--- in place of what comes before the ids; token takes a command and KEYFILE at least; what may follow a count's words is said by its request
+-- in place of what comes before the ids; token takes a command and KEYFILE at least; what may follow a find's or a count's words is said by its request
 abbrev pub wordsFit : Command → Bool → ℕ → Bool
-wordsFit New b n = eqb n 6
+wordsFit New b n = eqb n 7
 wordsFit Key b n = eqb n 2
 wordsFit Insert b n = cond b (leb 4 n) (leb 6 n)
-wordsFit Find b n = cond b (eqb n 4) (eqb n 5)
+wordsFit Find b n = cond b (eqb n 4) (leb 5 n)
 wordsFit Count b n = cond b (leb 4 n) (leb 5 n)
 wordsFit Erase b n = eqb n 3
 wordsFit Compact b n = cond b (eqb n 4) (eqb n 3)

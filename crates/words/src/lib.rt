@@ -125,10 +125,10 @@ pub fn fit(c: Command, token: bool, n: usize) -> bool
     ensures { λ r. ⌜ r ≡ wordsFit c token n ⌝ }
 {
     match c {
-        Command::New => n == 6,
+        Command::New => n == 7,
         Command::Key => n == 2,
         Command::Insert => if token { 4 <= n } else { 6 <= n },
-        Command::Find => if token { n == 4 } else { n == 5 },
+        Command::Find => if token { n == 4 } else { 5 <= n },
         Command::Count => if token { 4 <= n } else { 5 <= n },
         Command::Erase => n == 3,
         Command::Compact => if token { n == 4 } else { n == 3 },

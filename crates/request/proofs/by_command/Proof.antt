@@ -34,7 +34,7 @@ returns-5 : tie.Need-returns-5
 returns-5 c = chosen (c .before .before .before .before .args .line .now) (c .before .enum-told4 .given .1) (c .if2 .taken) refl
 
 returns-6 : tie.Need-returns-6
-returns-6 c = chosen (c .before .before .before .before .args .line .now) (c .before .enum-told4 .given .1) (c .if2 .left) refl
+returns-6 c = chosen (c .before .before .before .before .before .args .line .now) (c .before .before .enum-told4 .given .1) (c .before .if2 .left) (c .find .ensures)
 
 returns-7 : tie.Need-returns-7
 returns-7 c = chosen (c .before .before .before .before .before .args .line .now) (c .before .before .enum-told5 .given .1) (c .before .if3 .taken) (c .count-by .ensures)
@@ -69,4 +69,4 @@ returns-16 c = arm (c .before .before .before .args .line .now) (c .before .befo
 pub by-command-spec : {M : Type 1} → statement M
 by-command-spec =
     tie.close
-    (tie.spec (λ c. search needs) (λ c κs. search needs) (λ c. search needs) (λ c. search needs) (λ c κs. search needs) (λ c κs. search needs) (λ c. search needs) (λ c. search needs) (λ c κs. search needs) (λ c κs. search needs) (λ c. search needs) (λ c κs. search needs) (λ c. search needs) (λ c. search needs) (λ c. search needs) (λ c κs. search needs) (λ c. search needs) (λ c. search needs) (λ c κs. search needs) (λ c κs. search needs) (λ c. search needs) returns returns-2 returns-3 returns-4 returns-5 returns-6 returns-7 returns-8 returns-9 returns-10 returns-11 returns-12 returns-13 returns-14 returns-15 returns-16)
+    (tie.spec (λ c. search needs) (λ c κs. search needs) (λ c. search needs) (λ c. search needs) (λ c κs. search needs) (λ c κs. search needs) (λ c. search needs) (λ c κs. search needs) (λ c. search needs) (λ c κs. search needs) (λ c κs. search needs) (λ c. search needs) (λ c κs. search needs) (λ c. search needs) (λ c. search needs) (λ c. search needs) (λ c κs. search needs) (λ c. search needs) (λ c. search needs) (λ c κs. search needs) (λ c κs. search needs) (λ c. search needs) returns returns-2 returns-3 returns-4 returns-5 returns-6 returns-7 returns-8 returns-9 returns-10 returns-11 returns-12 returns-13 returns-14 returns-15 returns-16)
