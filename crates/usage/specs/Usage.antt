@@ -6,10 +6,10 @@ use Rattle.words.specs.declared.Command.{Command}
 use Rattle.words.specs.declared.Command.the-variants.{New, Key, Insert, Find, Count, Erase, Compact, Order, Token, Show, Help, Unknown}
 
 unfoldable pub usageLine : Command → List ℕ
-usageLine New = ascii "mazhkuri new STORE P M C S: makes a store for shares 0 to P (at most 15) with M entries, C counters and S log rows (1 to 4096 each)\n"
+usageLine New = ascii "mazhkuri new STORE P M C S R: makes a store for shares 0 to P (at most 15) with M entries, C counters, S log rows and R labels (1 to 4096 each)\n"
 usageLine Key = ascii "mazhkuri key KEYFILE: makes a key file of 32 random bytes, for its owner alone\n"
 usageLine Insert = ascii "mazhkuri insert STORE KEYFILE FIELD VALUE SHARE ID..., or insert STORE --token TOKEN ID...: inserts 1 to 64 ids of 32 hex digits each; prints the new count of this share\n"
-usageLine Find = ascii "mazhkuri find STORE KEYFILE FIELD VALUE, or find STORE --token TOKEN: prints each id on a line\n"
+usageLine Find = ascii "mazhkuri find STORE KEYFILE FIELD VALUE [FIELD VALUE]..., or find STORE --token TOKEN: prints each id on a line; by 2 to 8 fields, the ids that are under each of them\n"
 usageLine Count = ascii "mazhkuri count STORE KEYFILE FIELD VALUE [--rows], or count STORE --token TOKEN [--rows]: prints how many ids were ever inserted, erased ones among them; with --rows, the rows looked at too\n"
 usageLine Erase = ascii "mazhkuri erase STORE ID: erases an id from every field; prints how many entries it had\n"
 usageLine Compact = ascii "mazhkuri compact STORE KEYFILE, or compact STORE --token TOKEN: frees counter and log rows; prints the anchors written and the counters freed\n"

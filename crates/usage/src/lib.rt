@@ -6,8 +6,8 @@ ghost use lib.ListN.{length};
 ghost use Rattle.buffer.specs.Put.{Put};
 ghost use Rattle.usage.specs.Usage.{usageLine, firstLines, helpText};
 
-const NEW: [u8; 132] =
-    *b"mazhkuri new STORE P M C S: makes a store for shares 0 to P (at most 15) with M entries, C counters and S log rows (1 to 4096 each)\n";
+const NEW: [u8; 144] =
+    *b"mazhkuri new STORE P M C S R: makes a store for shares 0 to P (at most 15) with M entries, C counters, S log rows and R labels (1 to 4096 each)\n";
 
 const KEY: [u8; 79] =
     *b"mazhkuri key KEYFILE: makes a key file of 32 random bytes, for its owner alone\n";
@@ -15,8 +15,8 @@ const KEY: [u8; 79] =
 const INSERT: [u8; 170] =
     *b"mazhkuri insert STORE KEYFILE FIELD VALUE SHARE ID..., or insert STORE --token TOKEN ID...: inserts 1 to 64 ids of 32 hex digits each; prints the new count of this share\n";
 
-const FIND: [u8; 95] =
-    *b"mazhkuri find STORE KEYFILE FIELD VALUE, or find STORE --token TOKEN: prints each id on a line\n";
+const FIND: [u8; 167] =
+    *b"mazhkuri find STORE KEYFILE FIELD VALUE [FIELD VALUE]..., or find STORE --token TOKEN: prints each id on a line; by 2 to 8 fields, the ids that are under each of them\n";
 
 const COUNT: [u8; 190] =
     *b"mazhkuri count STORE KEYFILE FIELD VALUE [--rows], or count STORE --token TOKEN [--rows]: prints how many ids were ever inserted, erased ones among them; with --rows, the rows looked at too\n";
@@ -67,8 +67,8 @@ pub fn put_usage(to: &mut [u8], at: usize, c: Command) -> usize
 
 // What the commands that make files, those that take a field, and erase take.
 fn put_first(to: &mut [u8]) -> usize
-    requires { ⌜ 765 ≤ length (now to) ⌝ }
-    ensures { λ r. ⌜ (Put (now (to .entry)) 0 firstLines (now (to .exit)) r) × (r ≤ 765) ⌝ }
+    requires { ⌜ 840 ≤ length (now to) ⌝ }
+    ensures { λ r. ⌜ (Put (now (to .entry)) 0 firstLines (now (to .exit)) r) × (r ≤ 840) ⌝ }
 {
     let a = put(to, 0, &NEW);
     let b = put(to, a, &KEY);
