@@ -16,10 +16,15 @@ returns-3 : tie.Need-returns-3
 returns-3 c = (simp (le-ltb _ _ (c .before .before .if1 .left), le-ltb _ _ (c .before .if2 .left), lt-ltb _ _ (c .if3 .taken)), omega arith)
 
 returns-4 : tie.Need-returns-4
-unfolding lengthFor
 returns-4 c =
     let e = c .before in
-    (simp (le-ltb _ _ (e .before .before .if1 .left), le-ltb _ _ (e .before .if2 .left), le-ltb _ _ (e .if3 .left)) (c .length-for .ensures), omega (arith, c .length-for .ensures))
+    (simp (le-ltb _ _ (e .before .before .if1 .left), le-ltb _ _ (e .before .if2 .left), le-ltb _ _ (e .if3 .left), lt-ltb _ _ (c .if4 .taken)), omega arith)
+
+returns-5 : tie.Need-returns-5
+unfolding lengthFor
+returns-5 c =
+    let e = c .before in
+    (simp (le-ltb _ _ (e .before .before .before .if1 .left), le-ltb _ _ (e .before .before .if2 .left), le-ltb _ _ (e .before .if3 .left), le-ltb _ _ (e .if4 .left)) (c .length-for .ensures), omega (arith, c .length-for .ensures))
 
 pub length-spec : {M : Type 1} → statement M
-length-spec = tie.close (tie.spec returns returns-2 returns-3 (λ c κs. search needs) returns-4)
+length-spec = tie.close (tie.spec returns returns-2 returns-3 returns-4 (λ c κs. search needs) returns-5)
