@@ -4,7 +4,6 @@ use mathlib.Core.Bool.{Bool, true, false}
 use mathlib.Core.List.{List, [], _∷_}
 use Prim.Native.Nat.{ℕ}
 use Rattle.answer.specs.Answer.{done}
-use Rattle.store.specs.Check.{checkedOf}
 use Rattle.advice.specs.Advise.{roomOf}
 use Rattle.advice.specs.declared.Room.{Room}
 use Rattle.compact.specs.declared.Tally.{Tally}
@@ -12,7 +11,7 @@ use Rattle.outcome.specs.declared.Outcome.{Outcome}
 use Rattle.outcome.specs.declared.Outcome.the-variants.{Compacted, WrongKey}
 use Rattle.outcome.specs.Told.{told, pickOutcome, isWrongKey, compacted, withRoom, Roomed}
 
-pub roomed : (before : List ℕ) (o : Outcome) (x : Room) → o ≡ withRoom x o → x ≡ roomOf (checkedOf before) → Roomed before o
+pub roomed : (before : List ℕ) (o : Outcome) (x : Room) → o ≡ withRoom x o → x ≡ roomOf before → Roomed before o
 roomed before o x e h = e ∙ ap (λ y. withRoom y o) h
 
 -- a compaction with another key is told by its own answer

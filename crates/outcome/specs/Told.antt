@@ -8,7 +8,6 @@ use Rattle.answer.specs.Answer.{Answer, done, refused, refusal}
 use Rattle.advice.specs.Advise.{roomOf}
 use Rattle.compact.specs.declared.Tally.{Tally}
 use Rattle.advice.specs.declared.Room.{Room}
-use Rattle.store.specs.Check.{checkedOf}
 use Rattle.outcome.specs.declared.Outcome.{Outcome}
 use Rattle.outcome.specs.declared.Outcome.the-variants.{Number, Counted, Compacted, Damaged, WrongKey, Refused, Done, BadWords}
 
@@ -48,4 +47,4 @@ withRoom x BadWords = BadWords
 
 -- what is said of a refusal goes by the room that the store had before the call
 abbrev pub Roomed : List ℕ → Outcome → Type 0
-Roomed before o = o ≡ withRoom (roomOf (checkedOf before)) o
+Roomed before o = o ≡ withRoom (roomOf before) o
