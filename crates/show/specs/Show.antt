@@ -20,10 +20,15 @@ tableLine name total free =
 unfoldable pub sharesLine : ℕ → List ℕ
 sharesLine p = ascii "a store for shares 0 to " ++ counted p (ascii "\n")
 
--- the shares, then the four tables
+-- the shares, then the tables that have a row for each entry
+unfoldable pub entryLines : Shape → List ℕ
+entryLines x =
+    sharesLine (x .p)
+    ++ (tableLine (ascii "entries  (M)") (x .m .rows) (x .m .free) ++ tableLine (ascii "reverse  (V)") (x .v .rows) (x .v .free))
+
+-- these, then the other three tables [02:W4.1]
 unfoldable pub shapeLines : Shape → List ℕ
 shapeLines x =
-    sharesLine (x .p)
-    ++ (tableLine (ascii "entries  (M)") (x .m .rows) (x .m .free)
-    ++ (tableLine (ascii "reverse  (V)") (x .v .rows) (x .v .free)
-    ++ (tableLine (ascii "counters (C)") (x .c .rows) (x .c .free) ++ tableLine (ascii "log      (S)") (x .s .rows) (x .s .free))))
+    entryLines x
+    ++ (tableLine (ascii "counters (C)") (x .c .rows) (x .c .free)
+    ++ (tableLine (ascii "log      (S)") (x .s .rows) (x .s .free) ++ tableLine (ascii "labels   (R)") (x .r .rows) (x .r .free)))

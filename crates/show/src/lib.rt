@@ -4,7 +4,7 @@ ghost use mathlib.Core.Path.{_≡_};
 ghost use Prim.Native.Nat.{_+_, _≤_};
 ghost use lib.ListN.{length};
 ghost use Rattle.buffer.specs.Put.{Put};
-ghost use Rattle.show.specs.Show.{barText, tableLine, sharesLine, shapeLines};
+ghost use Rattle.show.specs.Show.{barText, tableLine, sharesLine, entryLines, shapeLines};
 use buffer::put;
 use buffer::put_counted;
 use store::Shape;
@@ -40,14 +40,23 @@ fn put_shares(to: &mut [u8], p: u64) -> usize
     put_counted(to, e, p, b"\n")
 }
 
-// What `show` prints of a store.
-pub fn shape(x: Shape, to: &mut [u8]) -> usize
-    requires { ⌜ (((x .m .rows ≤ 4096) × (x .v .rows ≤ 4096)) × ((x .c .rows ≤ 4096) × (x .s .rows ≤ 4096))) × (1024 ≤ length (now to)) ⌝ }
-    ensures { λ r. ⌜ Put (now (to .entry)) 0 (shapeLines x) (now (to .exit)) r ⌝ }
+// The shares, and the two tables that have a row for each entry.
+fn put_entries(x: Shape, to: &mut [u8]) -> usize
+    requires { ⌜ ((x .m .rows ≤ 4096) × (x .v .rows ≤ 4096)) × (281 ≤ length (now to)) ⌝ }
+    ensures { λ r. ⌜ (Put (now (to .entry)) 0 (entryLines x) (now (to .exit)) r) × (r ≤ 281) ⌝ }
 {
     let m = put_shares(to, x.p);
     let v = put_table(to, m, b"entries  (M)", x.m.rows, x.m.free);
-    let c = put_table(to, v, b"reverse  (V)", x.v.rows, x.v.free);
+    put_table(to, v, b"reverse  (V)", x.v.rows, x.v.free)
+}
+
+// What `show` prints of a store. [02:W4.1]
+pub fn shape(x: Shape, to: &mut [u8]) -> usize
+    requires { ⌜ (((x .m .rows ≤ 4096) × (x .v .rows ≤ 4096)) × ((x .c .rows ≤ 4096) × ((x .s .rows ≤ 4096) × (x .r .rows ≤ 4096)))) × (1024 ≤ length (now to)) ⌝ }
+    ensures { λ r. ⌜ Put (now (to .entry)) 0 (shapeLines x) (now (to .exit)) r ⌝ }
+{
+    let c = put_entries(x, to);
     let s = put_table(to, c, b"counters (C)", x.c.rows, x.c.free);
-    put_table(to, s, b"log      (S)", x.s.rows, x.s.free)
+    let r = put_table(to, s, b"log      (S)", x.s.rows, x.s.free);
+    put_table(to, r, b"labels   (R)", x.r.rows, x.r.free)
 }
