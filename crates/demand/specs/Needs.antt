@@ -1,7 +1,7 @@
 -- What a request needs of the system, and when the store's file is written.
 use Prim.Native.Nat.{ℕ, _+_, _*_}
 use mathlib.Core.Bool.{Bool, true, false}
-use Rattle.store.specs.declared.Checked.{Checked}
+use mathlib.Core.List.{List}
 use Rattle.advice.specs.Advise.{lengthOf, roomOf}
 use Rattle.request.specs.declared.Request.{Request}
 use Rattle.request.specs.declared.Request.the-variants.{Help, Misused, NotNumber, NotId, New, Key, Insert, Find, Count, Erase, Compact, Order, Show, InsertToken, FindToken, CountToken, CompactionToken, InsertBy, FindBy, CountBy, CompactBy}
@@ -15,10 +15,10 @@ needsOf (Help c) = Words
 needsOf (Misused c) = Words
 needsOf (NotNumber i) = Words
 needsOf (NotId i) = Words
-needsOf (New p m c s) = NewStore (lengthOf m c s)
+needsOf (New p m c s r) = NewStore (lengthOf m c s r)
 needsOf Key = KeyFile
 needsOf (Insert u n) = Lock
-needsOf Find = Store
+needsOf (Find n) = Store
 needsOf (Count rows) = Store
 needsOf Erase = Lock
 needsOf Compact = Lock
@@ -38,10 +38,10 @@ takesKey (Help c) = false
 takesKey (Misused c) = false
 takesKey (NotNumber i) = false
 takesKey (NotId i) = false
-takesKey (New p m c s) = false
+takesKey (New p m c s r) = false
 takesKey Key = false
 takesKey (Insert u n) = true
-takesKey Find = true
+takesKey (Find n) = true
 takesKey (Count rows) = true
 takesKey Erase = false
 takesKey Compact = true
@@ -62,10 +62,10 @@ takesToken (Help c) = false
 takesToken (Misused c) = false
 takesToken (NotNumber i) = false
 takesToken (NotId i) = false
-takesToken (New p m c s) = false
+takesToken (New p m c s r) = false
 takesToken Key = false
 takesToken (Insert u n) = false
-takesToken Find = false
+takesToken (Find n) = false
 takesToken (Count rows) = false
 takesToken Erase = false
 takesToken Compact = false
@@ -80,30 +80,30 @@ takesToken FindBy = true
 takesToken (CountBy rows) = true
 takesToken CompactBy = true
 
--- random bytes: a nonce for an insert's token, where it is made, one for each id and one for the counter; for a compaction, one for
--- each used row of S
-abbrev pub randomOf : Request → Checked → ℕ
-randomOf (Help c) x = 0
-randomOf (Misused c) x = 0
-randomOf (NotNumber i) x = 0
-randomOf (NotId i) x = 0
-randomOf (New p m c s) x = 0
-randomOf Key x = 0
-randomOf (Insert u n) x = 12 * (n + 2)
-randomOf Find x = 0
-randomOf (Count rows) x = 0
-randomOf Erase x = 0
-randomOf Compact x = 12 * roomOf x .logged
-randomOf Order x = 0
-randomOf Show x = 0
-randomOf (InsertToken p u) x = 12
-randomOf FindToken x = 0
-randomOf CountToken x = 0
-randomOf CompactionToken x = 0
-randomOf (InsertBy n) x = 12 * (n + 1)
-randomOf FindBy x = 0
-randomOf (CountBy rows) x = 0
-randomOf CompactBy x = 12 * roomOf x .logged
+-- random bytes: a nonce for an insert's token, where it is made, one for each id, one for the counter and one more for each id [02:W4.11];
+-- for a compaction, one for each used row of S
+abbrev pub randomOf : Request → List ℕ → ℕ
+randomOf (Help c) before = 0
+randomOf (Misused c) before = 0
+randomOf (NotNumber i) before = 0
+randomOf (NotId i) before = 0
+randomOf (New p m c s r) before = 0
+randomOf Key before = 0
+randomOf (Insert u n) before = 12 * (2 * n + 2)
+randomOf (Find n) before = 0
+randomOf (Count rows) before = 0
+randomOf Erase before = 0
+randomOf Compact before = 12 * roomOf before .logged
+randomOf Order before = 0
+randomOf Show before = 0
+randomOf (InsertToken p u) before = 12
+randomOf FindToken before = 0
+randomOf CountToken before = 0
+randomOf CompactionToken before = 0
+randomOf (InsertBy n) before = 12 * (2 * n + 1)
+randomOf FindBy before = 0
+randomOf (CountBy rows) before = 0
+randomOf CompactBy before = 12 * roomOf before .logged
 
 -- a refusal changes nothing, and a compaction with another key is not kept
 abbrev pub made : Outcome → Bool
@@ -122,10 +122,10 @@ changes (Help c) o = false
 changes (Misused c) o = false
 changes (NotNumber i) o = false
 changes (NotId i) o = false
-changes (New p m c s) o = made o
+changes (New p m c s r) o = made o
 changes Key o = false
 changes (Insert u n) o = made o
-changes Find o = false
+changes (Find n) o = false
 changes (Count rows) o = false
 changes Erase o = made o
 changes Compact o = made o

@@ -1,8 +1,7 @@
 // What a request of the command line needs of the system, and whether the store's file is written after it.
 ghost use mathlib.Core.Path.{_≡_};
 ghost use Prim.Native.Nat.{_≤_};
-ghost use Rattle.store.specs.Check.{checkedOf};
-ghost use Rattle.request.specs.Request.{idsIn};
+ghost use Rattle.request.specs.Request.{Bounded};
 ghost use Rattle.demand.specs.Needs.{needsOf, takesKey, takesToken, randomOf};
 ghost use Rattle.demand.specs.Needs.{made as Needs·made, changes as Needs·changes};
 use outcome::Outcome;
@@ -30,10 +29,10 @@ pub fn needed(q: Request) -> Needs
         Request::Misused(_) => Needs::Words,
         Request::NotNumber(_) => Needs::Words,
         Request::NotId(_) => Needs::Words,
-        Request::New { p: _, m, c, s } => Needs::NewStore(advice::length(m, c, s)),
+        Request::New { p: _, m, c, s, r } => Needs::NewStore(advice::length(m, c, s, r)),
         Request::Key => Needs::KeyFile,
         Request::Insert { u: _, n: _ } => Needs::Lock,
-        Request::Find => Needs::Store,
+        Request::Find { pairs: _ } => Needs::Store,
         Request::Count { rows: _ } => Needs::Store,
         Request::Erase => Needs::Lock,
         Request::Compact => Needs::Lock,
@@ -64,10 +63,11 @@ pub fn takes_key(q: Request) -> bool
             m: _,
             c: _,
             s: _,
+            r: _,
         } => false,
         Request::Key => false,
         Request::Insert { u: _, n: _ } => true,
-        Request::Find => true,
+        Request::Find { pairs: _ } => true,
         Request::Count { rows: _ } => true,
         Request::Erase => false,
         Request::Compact => true,
@@ -98,10 +98,11 @@ pub fn takes_token(q: Request) -> bool
             m: _,
             c: _,
             s: _,
+            r: _,
         } => false,
         Request::Key => false,
         Request::Insert { u: _, n: _ } => false,
-        Request::Find => false,
+        Request::Find { pairs: _ } => false,
         Request::Count { rows: _ } => false,
         Request::Erase => false,
         Request::Compact => false,
@@ -120,8 +121,8 @@ pub fn takes_token(q: Request) -> bool
 
 // How many random bytes a request takes.
 pub fn random_for(q: Request, store: &[u8]) -> usize
-    requires { ⌜ idsIn q ≤ 65 ⌝ }
-    ensures { λ r. ⌜ (r ≡ randomOf q (checkedOf (now (store .entry)))) × (r ≤ 49152) ⌝ }
+    requires { ⌜ Bounded q ⌝ }
+    ensures { λ r. ⌜ (r ≡ randomOf q (now (store .entry))) × (r ≤ 49152) ⌝ }
 {
     match q {
         Request::Help(_) => 0,
@@ -133,10 +134,11 @@ pub fn random_for(q: Request, store: &[u8]) -> usize
             m: _,
             c: _,
             s: _,
+            r: _,
         } => 0,
         Request::Key => 0,
-        Request::Insert { u: _, n } => 12 * (n + 2),
-        Request::Find => 0,
+        Request::Insert { u: _, n } => 12 * (2 * n + 2),
+        Request::Find { pairs: _ } => 0,
         Request::Count { rows: _ } => 0,
         Request::Erase => 0,
         Request::Compact => 12 * advice::room_in(store).logged,
@@ -146,7 +148,7 @@ pub fn random_for(q: Request, store: &[u8]) -> usize
         Request::FindToken => 0,
         Request::CountToken => 0,
         Request::CompactionToken => 0,
-        Request::InsertBy { n } => 12 * (n + 1),
+        Request::InsertBy { n } => 12 * (2 * n + 1),
         Request::FindBy => 0,
         Request::CountBy { rows: _ } => 0,
         Request::CompactBy => 12 * advice::room_in(store).logged,
@@ -182,10 +184,11 @@ pub fn changes(q: Request, o: Outcome) -> bool
             m: _,
             c: _,
             s: _,
+            r: _,
         } => made(o),
         Request::Key => false,
         Request::Insert { u: _, n: _ } => made(o),
-        Request::Find => false,
+        Request::Find { pairs: _ } => false,
         Request::Count { rows: _ } => false,
         Request::Erase => made(o),
         Request::Compact => made(o),
