@@ -2,7 +2,7 @@
 ghost use Prim.Native.Nat.{_+_, _≤_};
 ghost use lib.ListN.{length};
 ghost use Rattle.buffer.specs.Put.{Put};
-ghost use Rattle.messages.specs.Message.{plural, entriesSentence, sentenceOf, messageLine};
+ghost use Rattle.messages.specs.Message.{plural, roomSentence, sentenceOf, messageLine};
 use advice::Advice;
 use advice::Room;
 use answer::Refusal;
@@ -22,16 +22,20 @@ const SHARES: [u8; 49] = *b"P must be 0 to 15, and SHARE 0 to P: give others\n";
 
 const TOKEN: [u8; 64] = *b"this is no token for this command: make one with mazhkuri token\n";
 
-const SIZES: [u8; 69] = *b"P must be 0 to 15, and M, C and S 1 to 4096 each: choose other sizes\n";
+const SIZES: [u8; 72] =
+    *b"P must be 0 to 15, and M, C, S and R 1 to 4096 each: choose other sizes\n";
 
 const NO_STORE: [u8; 116] =
     *b"the file is no store, or not whole: its header or its length is wrong: check the name, or take a copy that is whole\n";
 
+const OLD: [u8; 121] =
+    *b"this is a store of version 1, which an earlier mazhkuri made: make a new one with mazhkuri new, and insert the ids again\n";
+
 const MARKS: [u8; 93] =
     *b"a row of the file is marked neither free nor used: it was damaged: take a copy that is whole\n";
 
-const ORDER: [u8; 130] =
-    *b"a table of the store is not in byte order: an earlier version wrote it, or it was changed: copy it, then run mazhkuri order STORE\n";
+const ORDER: [u8; 126] =
+    *b"a table of the store is not in byte order: something else wrote it, or it was changed: copy it, then run mazhkuri order STORE\n";
 
 const DAMAGE: [u8; 96] =
     *b"a counter in the file does not hold what was written: it was damaged: take a copy that is whole\n";
@@ -64,13 +68,13 @@ fn put_plural(to: &mut [u8], at: usize, n: u64, one: &[u8], many: &[u8]) -> usiz
     }
 }
 
-// What to say where the store has room for n entries only.
-fn put_entries(to: &mut [u8], at: usize, n: u64, given: u64) -> usize
-    requires { ⌜ at + 200 ≤ length (now to) ⌝ }
-    ensures { λ r. ⌜ Put (now (to .entry)) at (entriesSentence n given) (now (to .exit)) r ⌝ }
+// What to say where the store has room for n more only, in words for one and for others.
+fn put_room(to: &mut [u8], at: usize, n: u64, given: u64, one: &[u8], many: &[u8]) -> usize
+    requires { ⌜ (length (now one) ≤ 16) × ((length (now many) ≤ 16) × (at + 200 ≤ length (now to))) ⌝ }
+    ensures { λ r. ⌜ Put (now (to .entry)) at (roomSentence n given (now (one .entry)) (now (many .entry))) (now (to .exit)) r ⌝ }
 {
     let a = put(to, at, b"the store has room for ");
-    let b = put_plural(to, a, n, b" more entry, ", b" more entries, ");
+    let b = put_plural(to, a, n, one, many);
     let e = put_plural(to, b, given, b" was given", b" were given");
     put(
         to,
@@ -128,15 +132,24 @@ fn put_sentence(to: &mut [u8], at: usize, a: Advice, given: u64) -> usize
         Advice::Token => put(to, at, &TOKEN),
         Advice::Sizes => put(to, at, &SIZES),
         Advice::NoStore => put(to, at, &NO_STORE),
+        Advice::Old => put(to, at, &OLD),
         Advice::Marks => put(to, at, &MARKS),
         Advice::Order => put(to, at, &ORDER),
         Advice::TokenShares(p) => put_token_shares(to, at, p),
         Advice::Damage => put(to, at, &DAMAGE),
         Advice::Count => put(to, at, &COUNT),
-        Advice::Entries(n) => put_entries(to, at, n as u64, given),
+        Advice::Entries(n) => put_room(
+            to,
+            at,
+            n as u64,
+            given,
+            b" more entry, ",
+            b" more entries, ",
+        ),
         Advice::Compact => put(to, at, &COMPACT),
         Advice::Larger => put(to, at, &LARGER),
         Advice::Log => put(to, at, &LOG),
+        Advice::Labels(n) => put_room(to, at, n as u64, given, b" more label, ", b" more labels, "),
         Advice::Output(n) => put_output(to, at, n),
         Advice::Fault => put(to, at, &FAULT),
     }
@@ -148,7 +161,7 @@ fn put_refusal(to: &mut [u8], r: Refusal, room: Room, given: u64) -> usize
     ensures { λ n. ⌜ Put (now (to .entry)) 0 (messageLine (Outcome.Refused r room) given) (now (to .exit)) n ⌝ }
 {
     let e = put_counted(to, 0, answer::number(r), b": ");
-    let a = advice::advise(r, room.p, room.entries, room.logged);
+    let a = advice::advise(r, room);
     put_sentence(to, e, a, given)
 }
 
