@@ -1,5 +1,6 @@
 -- Lines that the definitions give, read off.
 use mathlib.Core.Path.{_≡_, refl}
+use mathlib.Core.Bool.{false}
 use Rattle.answer.specs.declared.Refusal.the-variants.{EntryRows}
 use Rattle.text.specs.Ascii.{ascii}
 use Rattle.outcome.specs.declared.Outcome.the-variants.{Number, Counted, Compacted, Refused}
@@ -27,6 +28,6 @@ compacted : answerLine (Compacted (record { anchors = 2; counters = 10 })) ≡ a
 unfolding spelled decimalText tallyLine refusedLine answerLine
 compacted = refl
 
-refused : answerLine (Refused EntryRows (record { p = 1; entries = 1; logged = 0 })) ≡ ascii "refused 15\n"
+refused : answerLine (Refused EntryRows (record { p = 1; entries = 1; labels = 3; logged = 0; old = false })) ≡ ascii "refused 15\n"
 unfolding spelled decimalText tallyLine refusedLine answerLine
 refused = refl

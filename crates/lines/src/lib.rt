@@ -61,10 +61,10 @@ fn put_digits(to: &mut [u8], at: usize, bytes: &[u8], digits: &mut [u8]) -> usiz
 
 // The line of an id's or a token's digits, after the first `at` bytes.
 pub fn put_hex(to: &mut [u8], at: usize, bytes: &[u8]) -> usize
-    requires { ⌜ (length (now bytes) ≤ 141) × (at + (2 * length (now bytes) + 1) ≤ length (now to)) ⌝ }
+    requires { ⌜ (length (now bytes) ≤ 173) × (at + (2 * length (now bytes) + 1) ≤ length (now to)) ⌝ }
     ensures { λ r. ⌜ (Put (now (to .entry)) at (hexLine (now (bytes .entry))) (now (to .exit)) r) × (r ≡ at + (2 * length (now (bytes .entry)) + 1)) ⌝ }
 {
-    let mut digits = [0u8; 282];
+    let mut digits = [0u8; 346];
     let n = 2 * bytes.len();
     put_digits(to, at, bytes, &mut digits[..n])
 }

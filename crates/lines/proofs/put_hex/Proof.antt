@@ -1,4 +1,4 @@
--- At most 141 bytes have room.
+-- At most 173 bytes have room.
 use Prim.Native.Nat.{ℕ, _*_}
 use mathlib.Core.Path.{sym}
 use native.Mathlib.Omega.{arith}
@@ -9,10 +9,10 @@ use Rattle.lines.proofs.put_hex.Statement.{statement}
 use Rattle.lines.proofs.put_hex.Tie as tie
 
 slice-aggregate-put-digits : tie.Need-slice-aggregate-put-digits
-slice-aggregate-put-digits c = sym (length-take-le (2 * length (c .before .before .before .before .args .bytes .now)) (replicate 282 0) (omega (arith, c .before .before .before .before .pre .0)))
+slice-aggregate-put-digits c = sym (length-take-le (2 * length (c .before .before .before .before .args .bytes .now)) (replicate 346 0) (omega (arith, c .before .before .before .before .pre .0)))
 
 put-digits-requires : tie.Need-put-digits-requires
-put-digits-requires c κs = (length-take-le (2 * length (c .before .before .before .before .args .bytes .now)) (replicate 282 0) (omega (arith, c .before .before .before .before .pre .0)), c .before .before .before .before .pre .1)
+put-digits-requires c κs = (length-take-le (2 * length (c .before .before .before .before .args .bytes .now)) (replicate 346 0) (omega (arith, c .before .before .before .before .pre .0)), c .before .before .before .before .pre .1)
 
 returns : tie.Need-returns
 returns c = c .before .before .before .put-digits .ensures .0
