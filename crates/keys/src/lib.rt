@@ -34,13 +34,14 @@ pub struct FieldKeys {
     pub cl: [u8; 32],
 }
 
-// F(KC, x), with the prepared master key: the count token. [01:KT9]
-pub fn count_key(k: Keyed, x: &[u8]) -> [u8; 32]
+// F(F(K, n), x), with the prepared master key: the count token of a label x at 2, its RL at 4.
+// [01:KT9] [02:W4.4]
+pub fn label_key(k: Keyed, n: u64, x: &[u8]) -> [u8; 32]
     requires { ⌜ length (now x) ≤ 65536 ⌝ }
-    ensures { λ r. ⌜ ((key : List ℕ) → Prepared k key → r ≡ F (KC program key) (now (x .entry))) ⌝ }
+    ensures { λ r. ⌜ ((key : List ℕ) → Prepared k key → r ≡ F (F key (number8 n)) (now (x .entry))) ⌝ }
 {
-    let kc = format::numbered(k, 2);
-    once(&kc, x)
+    let under = format::numbered(k, n);
+    once(&under, x)
 }
 
 // The parts of a find token, with the prepared master key.

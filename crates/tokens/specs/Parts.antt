@@ -13,8 +13,8 @@ pub record Parts (K : List ℕ) (f : Field) (k : FieldKeys) : Type 0 where
   pub me : k .me ≡ MEof program K f
   pub cl : k .cl ≡ CLof program K f
 
--- an insert token, of those parts and KS [01:KT7]
-unfoldable pub Token : FieldKeys → List ℕ → ℕ → ℕ → List ℕ → List ℕ
-Token k ks p u nonce =
+-- an insert token, of those parts, KS and RL [01:KT7] [02:W4.9]
+unfoldable pub Token : FieldKeys → List ℕ → List ℕ → ℕ → ℕ → List ℕ → List ℕ
+Token k ks rl p u nonce =
     ((p ∷ []) ++ (share program (k .mt) u ++ share program (k .me) u))
-    ++ (share program (k .cl) u ++ (nonce ++ program .E ks nonce (share program (k .cl) u)))
+    ++ ((share program (k .cl) u ++ (nonce ++ program .E ks nonce (share program (k .cl) u))) ++ rl)

@@ -4,13 +4,19 @@ ghost use mathlib.Core.Path.{_≡_};
 ghost use mathlib.Core.List.{List, _++_};
 ghost use Prim.Native.Nat.{ℕ, _≤_, _+_};
 ghost use lib.ListN.{length};
-ghost use Rattle.scheme.specs.Keys.{findToken, countToken};
+ghost use Rattle.hmac.specs.Hmac.{F};
+ghost use Rattle.scheme.specs.Suite.{number8};
+ghost use Rattle.scheme.specs.Labels.{label};
+ghost use Rattle.scheme.specs.Keys.{RL, findToken, partToken};
 ghost use Rattle.suite.specs.Program.{program};
 ghost use Rattle.format.specs.Tags.{Prepared};
 ghost use Rattle.labels.specs.Field.{fieldOf};
 ghost use Rattle.tokens.specs.Parts.{Parts, Token};
-use format::COUNT_TOKEN;
+use format::FIND_TOKEN;
+use format::INSERT_RL;
 use format::INSERT_TOKEN;
+use format::MARK_TOKEN;
+use format::PART_TOKEN;
 use hmac::Keyed;
 use keys::FieldKeys;
 
@@ -48,21 +54,48 @@ pub fn write_find(key: &[u8], name: &[u8], value: &[u8], to: &mut [u8])
     three(to, &mt, &me, &cl);
 }
 
-// The count token's bytes for a valid key and field.
-pub fn count_part(key: &[u8], name: &[u8], value: &[u8]) -> [u8; COUNT_TOKEN]
-    requires { ⌜ (length (now key) ≡ 32) × ((length (now name) ≤ 255) × (length (now value) ≤ 1024)) ⌝ }
-    ensures { λ r. ⌜ r ≡ countToken program (now (key .entry)) (fieldOf (now (name .entry)) (now (value .entry))) ⌝ }
+// F(F(K, n), x) for the label x of a valid field, with the prepared master key: the count token at 2.
+// [01:KT9]
+pub fn field_key(k: Keyed, n: u64, name: &[u8], value: &[u8]) -> [u8; 32]
+    requires { ⌜ (length (now name) ≤ 255) × (length (now value) ≤ 1024) ⌝ }
+    ensures { λ r. ⌜ ((key : List ℕ) → Prepared k key → r ≡ F (F key (number8 n)) (label (fieldOf (now (name .entry)) (now (value .entry))))) ⌝ }
 {
     let mut x = [0u8; 1281];
-    let n = labels::label(name, value, &mut x);
-    keys::count_key(hmac::prepare(key), &x[..n])
+    let l = labels::label(name, value, &mut x);
+    keys::label_key(k, n, &x[..l])
+}
+
+// RL of a valid field, with the prepared master key: what a test takes. [02:W4.4 W4.16]
+pub fn mark_key(k: Keyed, name: &[u8], value: &[u8]) -> [u8; MARK_TOKEN]
+    requires { ⌜ (length (now name) ≤ 255) × (length (now value) ≤ 1024) ⌝ }
+    ensures { λ r. ⌜ ((key : List ℕ) → Prepared k key → r ≡ RL program key (fieldOf (now (name .entry)) (now (value .entry)))) ⌝ }
+{
+    field_key(k, 4, name, value)
+}
+
+// Writes a part of a joint find for a valid key and field: the find token, then RL. [02:W4.18]
+pub fn write_part(key: &[u8], name: &[u8], value: &[u8], to: &mut [u8])
+    requires { ⌜ ((length (now key) ≡ 32) × ((length (now name) ≤ 255) × (length (now value) ≤ 1024))) × (length (now to) ≡ 128) ⌝ }
+    ensures { λ _. ⌜ now (to .exit) ≡ partToken program (now (key .entry)) (fieldOf (now (name .entry)) (now (value .entry))) ⌝ }
+{
+    let rl = mark_key(hmac::prepare(key), name, value);
+    write_find(key, name, value, &mut to[0..FIND_TOKEN]);
+    octets::copy(&mut to[FIND_TOKEN..PART_TOKEN], &rl);
 }
 
 // Writes an insert token for a valid key, field, p, share and nonce: p and MT and ME, then CL, the
-// nonce and CL under KS. [01:KT5 KT6 KT7]
-pub fn write_insert(k: FieldKeys, ks: &[u8; 32], p: u8, u: u64, nonce: &[u8], to: &mut [u8])
-    requires { ⌜ (length (now nonce) ≡ 12) × (length (now to) ≡ 141) ⌝ }
-    ensures { λ _. ⌜ now (to .exit) ≡ Token k (now (ks .entry)) p u (now (nonce .entry)) ⌝ }
+// nonce and CL under KS, then RL. [01:KT5 KT6 KT7] [02:W4.9]
+pub fn write_insert(
+    k: FieldKeys,
+    ks: &[u8; 32],
+    rl: &[u8; 32],
+    p: u8,
+    u: u64,
+    nonce: &[u8],
+    to: &mut [u8],
+)
+    requires { ⌜ (length (now nonce) ≡ 12) × (length (now to) ≡ 173) ⌝ }
+    ensures { λ _. ⌜ now (to .exit) ≡ Token k (now (ks .entry)) (now (rl .entry)) p u (now (nonce .entry)) ⌝ }
 {
     let mt = k.mt;
     let me = k.me;
@@ -74,5 +107,6 @@ pub fn write_insert(k: FieldKeys, ks: &[u8; 32], p: u8, u: u64, nonce: &[u8], to
     let mut log = clu;
     chacha20::apply_short(ks, nonce, &mut log);
     three(&mut to[0..65], &head, &mtu, &meu);
-    three(&mut to[65..INSERT_TOKEN], &clu, nonce, &log);
+    three(&mut to[65..INSERT_RL], &clu, nonce, &log);
+    octets::copy(&mut to[INSERT_RL..INSERT_TOKEN], rl);
 }

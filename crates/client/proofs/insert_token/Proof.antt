@@ -50,16 +50,20 @@ parts-requires : tie.Need-parts-requires
 parts-requires c κs =
     in-range _ _ (sym (c .before .before .before .before .before .outside .ensures) ∙ c .before .before .before .before .if2 .left)
 
+mark-key-requires : tie.Need-mark-key-requires
+mark-key-requires c κs = parts-requires (c .before .before) κs
+
 cast-write-insert : tie.Need-cast-write-insert
 cast-write-insert c =
-    let d = c .before .before .before .before in
+    let d = c .before .before .before .before .before .before in
     let a = d .before .before .before .before .before .before .before .before .before .before .args in
     omega (arith, share-range (a .p) (a .u) (sym (d .before .before .shares-outside .ensures) ∙ d .before .if3 .left))
 
 returns-5 : tie.Need-returns-5
 unfolding insertTokenTests
 returns-5 c =
-    let l = c .before .before .before in
+    let r = c .before .before .before .before in
+    let l = r .before in
     let q = l .before in
     let k = q .before in
     let d = k .before in
@@ -73,7 +77,7 @@ returns-5 c =
       simp (key, field, shares, nonce),
       simp (key, field, shares, nonce)
           (c .write-insert .ensures
-          ∙ token-is K (fieldOf (a .name .now) (a .value .now)) (q .parts .result) (l .log-key .result) (a .p) (a .u) (a .nonce .now) (q .parts .ensures K of) (l .log-key .ensures K of)),
+          ∙ token-is K (fieldOf (a .name .now) (a .value .now)) (q .parts .result) (l .log-key .result) (r .mark-key .result) (a .p) (a .u) (a .nonce .now) (q .parts .ensures K of) (l .log-key .ensures K of) (r .mark-key .ensures K of)),
     )
 
 pub insert-token-spec : {M : Type 1} → statement M
@@ -89,6 +93,7 @@ insert-token-spec =
     (λ c κs. search needs)
     parts-requires
     (λ c κs. search needs)
+    mark-key-requires
     cast-write-insert
     (λ c κs. search needs)
     returns-5)

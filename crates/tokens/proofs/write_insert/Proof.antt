@@ -1,107 +1,82 @@
--- Two halves of three pieces each.
-use Rattle.tokens.specs.Parts.{Token}
-use Rattle.suite.specs.Program.{program}
-use Rattle.scheme.specs.Keys.{share}
-use Rattle.chacha20.specs.Cipher.{E}
-use Rattle.octets.proofs.Parts.{halves, length-part}
-use native.Mathlib.Omega.{arith}
+-- Three parts: two of three pieces each, then RL.
 use Prim.Native.Nat.{ℕ}
+use mathlib.Core.Path.{_≡_, ap, ap₂, _∙_}
 use mathlib.Core.List.{List, [], _∷_, _++_}
-use mathlib.Core.Path.{ap, ap₂, _∙_}
+use native.Mathlib.Omega.{arith}
+use lib.ListN.{length, length-append}
+use Rattle.octets.specs.Part.{back}
+use Rattle.octets.proofs.Parts.{length-part, length-back}
+use Rattle.chacha20.specs.Cipher.{E}
+use Rattle.scheme.specs.Keys.{share}
+use Rattle.suite.specs.Program.{program}
+use Rattle.tokens.specs.Parts.{Token}
+use Rattle.tokens.proofs.Laws.{thirds}
 use borrow.Author.Needs.{needs}
 use Rattle.tokens.proofs.write_insert.Statement.{statement}
 use Rattle.tokens.proofs.write_insert.Tie as tie
 
-number-once-requires : tie.Need-number-once-requires
-number-once-requires c κs = search needs
+abbrev start : tie.After-three2 → tie.Start
+start t = t .before .before .before .before .before .before .before .before .before .before .before .before .before .before .before .before .before .before .before .before .before .before .before .before .before .before
 
-number-once-requires-2 : tie.Need-number-once-requires-2
-number-once-requires-2 c κs = search needs
+-- the first two parts, and how long they and the whole are
+abbrev one : tie.After-three2 → List ℕ
+one t = t .before .before .before .before .before .before .three .last .0
 
-number-once-requires-3 : tie.Need-number-once-requires-3
-number-once-requires-3 c κs = search needs
+abbrev two : tie.After-three2 → List ℕ
+two t = t .three2 .last .0
 
-slice-aggregate-apply-short : tie.Need-slice-aggregate-apply-short
-slice-aggregate-apply-short c = search needs
+first : (t : tie.After-three2) → length (one t) ≡ 65
+first t = t .before .before .before .before .before .before .three .kept .0 ∙ length-part (start t .args .to .now) 0 65 (omega (arith, start t .pre .1))
 
-apply-short-requires : tie.Need-apply-short-requires
-apply-short-requires c κs = search needs
+whole : (t : tie.After-three2) → length (back (start t .args .to .now) 0 65 (one t)) ≡ 173
+whole t = length-back (start t .args .to .now) 0 65 (one t) (omega arith) (omega (arith, start t .pre .1)) (first t) ∙ start t .pre .1
 
-sub-three : tie.Need-sub-three
-sub-three c = search needs
+second : (t : tie.After-three2) → length (two t) ≡ 76
+second t = t .three2 .kept .0 ∙ length-part (back (start t .args .to .now) 0 65 (one t)) 65 141 (omega (arith, whole t))
 
-part-three-start : tie.Need-part-three-start
-part-three-start c = search needs
-
-part-three-end : tie.Need-part-three-end
-part-three-end c = search needs
-
-slice-aggregate-three : tie.Need-slice-aggregate-three
-slice-aggregate-three c = search needs
-
-slice-aggregate-three-2 : tie.Need-slice-aggregate-three-2
-slice-aggregate-three-2 c = search needs
-
-slice-aggregate-three-3 : tie.Need-slice-aggregate-three-3
-slice-aggregate-three-3 c = search needs
-
-three-requires : tie.Need-three-requires
-three-requires c κs = search needs
-
-sub-three-2 : tie.Need-sub-three-2
-sub-three-2 c = search needs
-
-part-three-start-2 : tie.Need-part-three-start-2
-part-three-start-2 c = search needs
-
-part-three-end-2 : tie.Need-part-three-end-2
-part-three-end-2 c = search needs
-
-slice-aggregate-three-4 : tie.Need-slice-aggregate-three-4
-slice-aggregate-three-4 c = search needs
-
-slice-aggregate-three-5 : tie.Need-slice-aggregate-three-5
-slice-aggregate-three-5 c = search needs
-
-three-requires-2 : tie.Need-three-requires-2
-three-requires-2 c κs = search needs
-
-same-length : tie.Need-same-length
-same-length c = search needs
+part-copy-end : tie.Need-part-copy-end
+part-copy-end c =
+    let t = c .before .before in
+    omega (arith, whole t, length-back (back (start t .args .to .now) 0 65 (one t)) 65 141 (two t) (omega arith) (omega (arith, whole t)) (second t))
 
 returns : tie.Need-returns
 unfolding Token share program
 returns c =
-    let a = c .before .before .before .before .before .before .before .before .before .before .before .before .before .before .before .before .before .before .before .before .before .before .before .before .before .before .before .before .args in
-    let clu = c .before .before .before .before .before .before .before .before .before .before .before .before .before .before .before .before .before .number-once3 .ensures in
-    halves (a .to .now) (c .before .before .before .before .before .before .before .before .three .last .0) (c .before .before .three2 .last .0) 65 141 (c .before .before .before .before .before .before .before .before .before .before .before .before .before .before .before .before .before .before .before .before .before .before .before .before .before .before .before .before .pre .1)
-    (c .before .before .before .before .before .before .before .before .three .kept .0 ∙ length-part (a .to .now) 0 65 (omega (arith, c .before .before .before .before .before .before .before .before .before .before .before .before .before .before .before .before .before .before .before .before .before .before .before .before .before .before .before .before .pre .1)))
+    let t = c .before .before .before .before .before .before .before in
+    let a = start t .args in
+    let clu = t .before .before .before .before .before .before .before .before .before .before .before .before .before .before .before .number-once3 .ensures in
+    thirds (a .to .now) (one t) (two t) (c .before .before .copy .last .0) 65 141 173 (start t .pre .1) (first t) (length-append (one t) (two t) ∙ omega (arith, first t, second t)) (omega arith)
     ∙ ap₂ (λ (x y : List ℕ). x ++ y)
-    (c .before .before .before .before .before .before .before .before .three .ensures ∙ ap₂ (λ (x y : List ℕ). (a .p ∷ []) ++ (x ++ y)) (c .before .before .before .before .before .before .before .before .before .before .before .before .before .before .before .before .before .before .before .before .before .number-once .ensures) (c .before .before .before .before .before .before .before .before .before .before .before .before .before .before .before .before .before .before .before .number-once2 .ensures))
-    (c .before .before .three2 .ensures
-    ∙ ap₂ (λ (x y : List ℕ). x ++ (a .nonce .now ++ y)) clu (c .before .before .before .before .before .before .before .before .before .before .before .before .before .before .apply-short .ensures ∙ ap (E (a .ks .now) (a .nonce .now)) clu))
+    (t .before .before .before .before .before .before .three .ensures ∙ ap₂ (λ (x y : List ℕ). (a .p ∷ []) ++ (x ++ y)) (t .before .before .before .before .before .before .before .before .before .before .before .before .before .before .before .before .before .before .before .number-once .ensures) (t .before .before .before .before .before .before .before .before .before .before .before .before .before .before .before .before .before .number-once2 .ensures))
+    (ap₂ (λ (x y : List ℕ). x ++ y)
+    (t .three2 .ensures ∙ ap₂ (λ (x y : List ℕ). x ++ (a .nonce .now ++ y)) clu (t .before .before .before .before .before .before .before .before .before .before .before .before .apply-short .ensures ∙ ap (E (a .ks .now) (a .nonce .now)) clu))
+    (c .before .before .copy .ensures))
 
 pub write-insert-spec : {M : Type 1} → statement M
 write-insert-spec =
     tie.close
     (tie.spec
-    number-once-requires
-    number-once-requires-2
-    number-once-requires-3
-    slice-aggregate-apply-short
-    apply-short-requires
-    sub-three
-    part-three-start
-    part-three-end
-    slice-aggregate-three
-    slice-aggregate-three-2
-    slice-aggregate-three-3
-    three-requires
-    sub-three-2
-    part-three-start-2
-    part-three-end-2
-    slice-aggregate-three-4
-    slice-aggregate-three-5
-    three-requires-2
-    same-length
+    (λ c κs. search needs)
+    (λ c κs. search needs)
+    (λ c κs. search needs)
+    (λ c. search needs)
+    (λ c κs. search needs)
+    (λ c. search needs)
+    (λ c. search needs)
+    (λ c. search needs)
+    (λ c. search needs)
+    (λ c. search needs)
+    (λ c. search needs)
+    (λ c κs. search needs)
+    (λ c. search needs)
+    (λ c. search needs)
+    (λ c. search needs)
+    (λ c. search needs)
+    (λ c. search needs)
+    (λ c κs. search needs)
+    (λ c. search needs)
+    (λ c. search needs)
+    part-copy-end
+    (λ c κs. search needs)
+    (λ c. search needs)
     returns)
