@@ -1,4 +1,4 @@
--- Rows of M and V made one after the other.
+-- Rows of M, V and R made one after the other.
 use Prim.Native.Nat.{ℕ, zero, suc, _+_, _-_, _*_, _≤_, _<_}
 use mathlib.Core.Path.{_≡_, refl, sym, ap, ap₂, _∙_}
 use mathlib.Core.List.{List, [], _∷_}
@@ -11,8 +11,8 @@ use Rattle.octets.proofs.Parts.{length-part}
 use Rattle.table.specs.Table.{Row, Table, rows}
 use Rattle.table.proofs.Rows.{rows-length}
 use Rattle.table.proofs.Walk.{row-part}
-use Rattle.scheme.specs.Store.{entryRow, reverseRow}
-use Rattle.scheme.specs.Insert.{entryRows, reverseRows}
+use Rattle.scheme.specs.Store.{entryRow, reverseRow, labelRow}
+use Rattle.scheme.specs.Insert.{entryRows, reverseRows, labelRows}
 use Rattle.suite.specs.Program.{program}
 
 pub piece-long : (w i : ℕ) (l : List ℕ) → w * i + w ≤ length l → length (take (w * i + w - w * i) (drop (w * i) l)) ≡ w
@@ -65,3 +65,24 @@ module _ (mt : List ℕ) where
         e
         ∙ ap₂ (λ (k : ℕ) (id : List ℕ). entryRow program mt me (g + i + 1) (take k (drop (12 * i) nonces)) id) (add-sub-cancel-left (12 * i) 12) (row-part 16 n i ids h)
         ∙ sym (entry-at me g i (rows 16 n ids) nonces (rw (rows-length 16 n ids) h))
+
+module _ (rl : List ℕ) where
+  pub length-labels : (ids : List (List ℕ)) (nonces : List ℕ) → length (labelRows program rl ids nonces) ≡ length ids
+  length-labels [] nonces = refl
+  length-labels (id ∷ ids) nonces = ap suc (length-labels ids (drop 12 nonces))
+
+  label-at : (i : ℕ) (ids : List (List ℕ)) (nonces : List ℕ) → i < length ids
+      → getD (labelRows program rl ids nonces) i [] ≡ labelRow program rl (take 12 (drop (12 * i) nonces)) (getD ids i [])
+  label-at i [] nonces h = absurd (not-suc-le-zero h)
+  label-at zero (id ∷ ids) nonces h = refl
+  label-at (suc i) (id ∷ ids) nonces h =
+      let n : 12 + 12 * i ≡ 12 * suc i = omega arith in
+      label-at i ids (drop 12 nonces) (le-of-suc-le-suc h)
+      ∙ ap (λ (l : List ℕ). labelRow program rl (take 12 l) (getD ids i [])) (drop-drop (12 * i) 12 nonces ∙ ap (λ (k : ℕ). drop k nonces) n)
+
+  pub made-label : (n i : ℕ) (ids nonces : List ℕ) (row : Row) → i < n
+      → row ≡ labelRow program rl (take (12 * i + 12 - 12 * i) (drop (12 * i) nonces)) (take (16 * i + 16 - 16 * i) (drop (16 * i) ids))
+      → row ≡ getD (labelRows program rl (rows 16 n ids) nonces) i []
+  made-label n i ids nonces row h e =
+      e ∙ ap₂ (λ (k : ℕ) (id : List ℕ). labelRow program rl (take k (drop (12 * i) nonces)) id) (add-sub-cancel-left (12 * i) 12) (row-part 16 n i ids h)
+      ∙ sym (label-at i (rows 16 n ids) nonces (rw (rows-length 16 n ids) h))

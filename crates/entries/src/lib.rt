@@ -1,5 +1,5 @@
 // The rows of M and of V that an insert writes for its ids (document 01, "Operations": insert), made
-// one after the other.
+// one after the other. Those of R are in label.
 ghost use mathlib.Core.Path.{_≡_};
 ghost use Prim.Native.Nat.{_*_, _≤_};
 ghost use lib.ListN.{length};
@@ -8,6 +8,9 @@ ghost use Rattle.scheme.specs.Store.{tableM, tableV, widthOf};
 ghost use Rattle.scheme.specs.Reading.{limit};
 ghost use Rattle.scheme.specs.Insert.{entryRows, reverseRows};
 ghost use Rattle.suite.specs.Program.{program};
+
+pub mod label;
+
 use format::Address;
 use format::ID;
 use format::NONCE;
