@@ -15,7 +15,12 @@ abbrev pub testedOf : Tested → Option Answer
 testedOf Passed = none
 testedOf (Refused r) = some (refusal r)
 
--- 14 to 17, for a new count and n ids [01:RS7 RS8 RS9 RS10]
+-- 14 to 17, then 21, for a new count and n ids [01:RS7 RS8 RS9 RS10] [02:W4.28 W4.30]
 unfoldable pub roomTests : Shape → ℕ → ℕ → List Test
 roomTests z count n =
-    (ltb limit count ⇒ 14) ∷ (ltb (z .m .free) n || ltb (z .v .free) n ⇒ 15) ∷ (ltb (z .c .free) 1 ⇒ 16) ∷ (ltb (z .s .free) 1 ⇒ 17) ∷ []
+    (ltb limit count ⇒ 14)
+    ∷ (ltb (z .m .free) n || ltb (z .v .free) n ⇒ 15)
+    ∷ (ltb (z .c .free) 1 ⇒ 16)
+    ∷ (ltb (z .s .free) 1 ⇒ 17)
+    ∷ (ltb (z .r .free) n ⇒ 21)
+    ∷ []

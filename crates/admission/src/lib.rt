@@ -1,5 +1,6 @@
 // What an insert is refused by, of its input and for lack of room (document 01, "Refusals from the
-// input": 4, 5 and 6; "Refusals from the state": 14 to 17), in the definition's order.
+// input": 4, 5 and 6; "Refusals from the state": 14 to 17; document 02, "Find by several fields": 21), in the definition's
+// order.
 ghost use mathlib.Core.Path.{_≡_};
 ghost use mathlib.Core.Bool.{not, _||_};
 ghost use mathlib.Core.List.{_++_};
@@ -35,12 +36,12 @@ fn bad_ids(n: usize) -> bool
     64 < n / ID
 }
 
-// 4, 5 and 6. [01:RI5 RI6 RI7]
+// 4, 5 and 6. [01:RI5 RI6 RI7] [02:W4.11]
 pub fn input(ids: &[u8], nonces: &[u8], token: &[u8]) -> Tested
     ensures { λ r. ⌜ testedOf r ≡ verdict (insertInputTests (now (ids .entry)) (now (nonces .entry)) ++ tokenTests insertTokenLength (now (token .entry))) ⌝ }
 {
     let n = ids.len() / ID;
-    if nonces.len() != NONCE * (n + 1) {
+    if nonces.len() != NONCE * (2 * n + 1) {
         return Tested::Refused(Refusal::NonceLength);
     }
     if bad_ids(ids.len()) {
@@ -59,7 +60,7 @@ fn crowded(z: Shape, n: usize) -> bool
     if z.m.free < n { true } else { z.v.free < n }
 }
 
-// 14 to 17, for a new count and the number of ids. [01:RS7 RS8 RS9 RS10]
+// 14 to 17, then 21, for a new count and the number of ids. [01:RS7 RS8 RS9 RS10] [02:W4.28 W4.30]
 pub fn room(z: Shape, count: u64, n: usize) -> Tested
     ensures { λ r. ⌜ testedOf r ≡ verdict (roomTests z count n) ⌝ }
 {
@@ -74,6 +75,9 @@ pub fn room(z: Shape, count: u64, n: usize) -> Tested
     }
     if z.s.free < 1 {
         return Tested::Refused(Refusal::LogRows);
+    }
+    if z.r.free < n {
+        return Tested::Refused(Refusal::LabelRows);
     }
     Tested::Passed
 }

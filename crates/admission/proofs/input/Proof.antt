@@ -25,4 +25,4 @@ returns-4 c =
     simp (eq-eqb _ _ (c .before .before .before .if1 .left), sym (c .before .before .bad-ids .ensures) ∙ c .before .if2 .left, eq-eqb _ _ (c .if3 .left))
 
 pub input-spec : {M : Type 1} → statement M
-input-spec = tie.close (tie.spec (λ c. search needs) (λ c. search needs) returns (λ c κs. search needs) returns-2 returns-3 returns-4)
+input-spec = tie.close (tie.spec (λ c. search needs) (λ c. search needs) (λ c. search needs) returns (λ c κs. search needs) returns-2 returns-3 returns-4)

@@ -30,9 +30,20 @@ returns-4 c =
 returns-5 : tie.Need-returns-5
 unfolding roomTests
 returns-5 c =
-    let d = c .before .before in
+    let e = c .before .before in
+    let d = e .before .before in
     let r = d .before .before .before in
-    simp (le-ltb _ _ (r .before .if1 .left), sym (r .crowded .ensures) ∙ d .before .before .if2 .left, le-ltb _ _ (d .if3 .left), le-ltb _ _ (c .if4 .left))
+    simp
+    (le-ltb _ _ (r .before .if1 .left), sym (r .crowded .ensures) ∙ d .before .before .if2 .left, le-ltb _ _ (d .if3 .left), le-ltb _ _ (e .if4 .left), lt-ltb _ _ (c .if5 .taken))
+
+returns-6 : tie.Need-returns-6
+unfolding roomTests
+returns-6 c =
+    let e = c .before .before in
+    let d = e .before .before in
+    let r = d .before .before .before in
+    simp
+    (le-ltb _ _ (r .before .if1 .left), sym (r .crowded .ensures) ∙ d .before .before .if2 .left, le-ltb _ _ (d .if3 .left), le-ltb _ _ (e .if4 .left), le-ltb _ _ (c .if5 .left))
 
 pub room-spec : {M : Type 1} → statement M
-room-spec = tie.close (tie.spec returns (λ c κs. search needs) returns-2 returns-3 returns-4 returns-5)
+room-spec = tie.close (tie.spec returns (λ c κs. search needs) returns-2 returns-3 returns-4 returns-5 returns-6)
