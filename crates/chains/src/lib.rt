@@ -46,7 +46,7 @@ fn bucket(x: &[u8]) -> usize
 }
 
 // The id of number i.
-fn id_at(t: &[u8], m: usize, me: Keyed, index: &[u32], ids: &[u8], i: usize) -> [u8; ID]
+pub fn id_at(t: &[u8], m: usize, me: Keyed, index: &[u32], ids: &[u8], i: usize) -> [u8; ID]
     requires { ⌜ (length (now t) ≡ widthOf tableM * m) × Readable me (rows (widthOf tableM) m (now t)) (now index) (now ids) i ⌝ }
     ensures { λ r. ⌜ r ≡ idBy me (rows (widthOf tableM) m (now (t .entry))) (rowAt (now (index .entry)) i) ⌝ }
 {
