@@ -40,6 +40,7 @@ use Rattle.counter.proofs.Shares.{share-read}
 use Rattle.find.specs.declared.Counts.{Counts}
 use Rattle.ids.specs.declared.EntryKeys.{EntryKeys}
 use Rattle.find.specs.Counts.{filled, countsOf}
+pub use Rattle.find.specs.Counts.{Sound}
 use Rattle.find.specs.Given.{givenAnswer, givenOutput, Empty}
 use Rattle.chains.specs.Chains.{Kept, kept, keptIds, Chained}
 use Rattle.chains.proofs.Chains.{RowsM}
@@ -58,11 +59,6 @@ module _ (f : ℕ → Reading) (p : ℕ) where
       → (anyOf (λ u. damaged (f u)) (upTo p) ≡ false) × (n ≡ sum (map (λ u. countOf (f u)) (upTo p))) → record { damaged = false; of = of; sum = n } ≡ countsOf f p
   unfolding countsOf
   counts-done of n o e = rw (e .0) (λ j. record { damaged = false; of = o j; sum = e .1 j })
-
-pub record Sound (f : ℕ → Reading) (p : ℕ) (c : Counts) : Type 0 where
-  pub none-damaged : anyOf (λ u. damaged (f u)) (upTo p) ≡ false
-  pub of : c .of ≡ filled (λ u. countOf (f u)) (p + 1) (replicate 16 0)
-  pub sum : c .sum ≡ sum (map (λ u. countOf (f u)) (upTo p))
 
 -- by whether one is damaged
 abbrev countsBy : (ℕ → Reading) → ℕ → Bool → Counts

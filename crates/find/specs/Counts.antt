@@ -1,6 +1,7 @@
 -- What the readings of shares 0 to p come to: their counts, in an array of 16, with the sum, or that one is damaged
 -- (document 01, "Operations": find; "Refusals from the state": 13).
 use Prim.Native.Nat.{ℕ, zero, suc, _+_}
+use mathlib.Core.Path.{_≡_}
 use mathlib.Core.Bool.{true, false, cond}
 use mathlib.Core.List.{List, map}
 use lib.ListN.{set, replicate}
@@ -19,3 +20,9 @@ countsOf f p =
     cond (anyOf (λ u. damaged (f u)) (upTo p))
     (record { damaged = true; of = replicate 16 0; sum = 0 })
     (record { damaged = false; of = filled (λ u. countOf (f u)) (p + 1) (replicate 16 0); sum = sum (map (λ u. countOf (f u)) (upTo p)) })
+
+-- counts of shares none of which is damaged
+pub record Sound (f : ℕ → Reading) (p : ℕ) (c : Counts) : Type 0 where
+  pub none-damaged : anyOf (λ u. damaged (f u)) (upTo p) ≡ false
+  pub of : c .of ≡ filled (λ u. countOf (f u)) (p + 1) (replicate 16 0)
+  pub sum : c .sum ≡ sum (map (λ u. countOf (f u)) (upTo p))

@@ -39,10 +39,10 @@ const FEW: usize = BUCKETS + MOST_ROWS;
 const MANY: usize = BUCKETS + 16 * MOST_ROWS;
 
 // What the shares count, and the sum; or that one is damaged.
-struct Counts {
-    damaged: bool,
-    of: [u64; 16],
-    sum: u64,
+pub struct Counts {
+    pub damaged: bool,
+    pub of: [u64; 16],
+    pub sum: u64,
 }
 
 // Reads the counters of shares 0 to p out of the part that holds table C, from the prepared F(KC, x).
@@ -76,7 +76,7 @@ fn read_all(t: &[u8], c: usize, used: usize, clx: Keyed, p: u64) -> Counts
 }
 
 // Reads the counters of all shares of a store that passed the checks, under a find token. [01:RS6]
-fn counts_in(store: &[u8], z: Shape, token: &[u8]) -> Counts
+pub fn counts_in(store: &[u8], z: Shape, token: &[u8]) -> Counts
     requires { ⌜ (checkedOf (now store) ≡ Checked.Fit z) × (length (now token) ≡ findTokenLength) ⌝ }
     ensures { λ r. ⌜ r ≡ countsOf (shareReading program (now (store .entry)) (findCL (now (token .entry)))) (z .p) ⌝ }
 {
