@@ -7,23 +7,12 @@ ghost use Rattle.suite.specs.Program.{program};
 ghost use Rattle.client.specs.Making.{makingAnswer, makingToken, fieldOf};
 ghost use Rattle.advice.specs.Advise.{roomFor};
 ghost use Rattle.outcome.specs.Told.{told, withRoom};
-use advice::Room;
 use format::COMPACTION_TOKEN;
 use format::COUNT_TOKEN;
 use format::FIND_TOKEN;
 use format::INSERT_TOKEN;
 use outcome::Outcome;
 use outcome::of_completion;
-
-fn room_for(p: u64) -> Room
-    ensures { λ r. ⌜ r ≡ roomFor p ⌝ }
-{
-    Room {
-        p,
-        entries: 0,
-        logged: 0,
-    }
-}
 
 pub fn insert_token(
     key: &[u8],
@@ -39,7 +28,7 @@ pub fn insert_token(
     ensures { λ _. ⌜ now (token .exit) ≡ makingToken (insertTokenTests (now (key .entry)) (fieldOf (now (name .entry)) (now (value .entry))) p u (now (nonce .entry))) (insertToken program (now (key .entry)) (fieldOf (now (name .entry)) (now (value .entry))) p u (now (nonce .entry))) (now (token .entry)) ⌝ }
 {
     let made = client::insert_token(key, name, value, p, u, nonce, token);
-    of_completion(made, room_for(p))
+    of_completion(made, advice::room_for(p))
 }
 
 pub fn find_token(key: &[u8], name: &[u8], value: &[u8], token: &mut [u8; FIND_TOKEN]) -> Outcome
@@ -48,7 +37,7 @@ pub fn find_token(key: &[u8], name: &[u8], value: &[u8], token: &mut [u8; FIND_T
     ensures { λ _. ⌜ now (token .exit) ≡ makingToken (fieldTokenTests (now (key .entry)) (fieldOf (now (name .entry)) (now (value .entry)))) (findToken program (now (key .entry)) (fieldOf (now (name .entry)) (now (value .entry)))) (now (token .entry)) ⌝ }
 {
     let made = client::find_token(key, name, value, token);
-    of_completion(made, room_for(0))
+    of_completion(made, advice::room_for(0))
 }
 
 pub fn count_token(key: &[u8], name: &[u8], value: &[u8], token: &mut [u8; COUNT_TOKEN]) -> Outcome
@@ -57,7 +46,7 @@ pub fn count_token(key: &[u8], name: &[u8], value: &[u8], token: &mut [u8; COUNT
     ensures { λ _. ⌜ now (token .exit) ≡ makingToken (fieldTokenTests (now (key .entry)) (fieldOf (now (name .entry)) (now (value .entry)))) (countToken program (now (key .entry)) (fieldOf (now (name .entry)) (now (value .entry)))) (now (token .entry)) ⌝ }
 {
     let made = client::count_token(key, name, value, token);
-    of_completion(made, room_for(0))
+    of_completion(made, advice::room_for(0))
 }
 
 pub fn compaction_token(key: &[u8], token: &mut [u8; COMPACTION_TOKEN]) -> Outcome
@@ -66,5 +55,5 @@ pub fn compaction_token(key: &[u8], token: &mut [u8; COMPACTION_TOKEN]) -> Outco
     ensures { λ _. ⌜ now (token .exit) ≡ makingToken (keyTests (now (key .entry))) (compactionToken program (now (key .entry))) (now (token .entry)) ⌝ }
 {
     let made = client::compaction_token(key, token);
-    of_completion(made, room_for(0))
+    of_completion(made, advice::room_for(0))
 }
