@@ -13,19 +13,19 @@ use Rattle.table.proofs.Counting.{neither}
 use Rattle.answer.specs.Answer.{Answer, done, refused, refusal}
 use Rattle.answer.specs.declared.Refusal.{Refusal}
 use Rattle.answer.specs.Verdict.{verdict, answerOr, unlessRefused}
-use Rattle.scheme.specs.Keys.{insertTokenLength, tokenP, tokenMT, tokenME, tokenCL, tokenLog}
+use Rattle.scheme.specs.Keys.{insertTokenLength, tokenP, tokenMT, tokenME, tokenCL, tokenLog, tokenRL}
 use Rattle.scheme.specs.Store.{Sizes, Store, widthOf, sizesOf, cut, joined, stateTests, counterRow, logRow}
 use Rattle.scheme.specs.Reading.{Reading, limit, damaged, countOf, positionOf, reading}
 use Rattle.scheme.specs.Reading.Reading.{counter, damage}
 use Rattle.scheme.specs.Refusals.{lengthNot, idCount, idsIn, insertInputTests, tokenTests}
 use Rattle.scheme.specs.Insert
-use Rattle.scheme.specs.Insert.{entryRows, reverseRows, insertReading, newCount, insertStateTests, insertVerdict, newEntries, newReverses, newCounter, newLog, insertedStore}
+use Rattle.scheme.specs.Insert.{entryRows, reverseRows, labelRows, counterNonce, labelNonces, insertReading, newCount, insertStateTests, insertVerdict, newEntries, newReverses, newCounter, newLog, newLabels, insertedStore}
 use Rattle.scheme.proofs.Verdicts.{orElse, verdict-append, passed, length-passed}
 use Rattle.suite.specs.Program.{program}
 use Rattle.store.specs.declared.Shape.{Shape}
 use Rattle.store.specs.declared.Checked.the-variants.{Fit, Refused}
 use Rattle.store.specs.Check.{checkedOf}
-use Rattle.store.proofs.Laws.{tableM, tableV, tableC, tableS, unfit, fit-verdict, fit-sizes, free-rows, fits}
+use Rattle.store.proofs.Laws.{tableM, tableV, tableC, tableS, tableR, unfit, fit-verdict, fit-sizes, free-rows, fits}
 use Rattle.counter.proofs.Readings.{reading-bounds}
 use Rattle.admission.specs.Tests.{roomTests}
 use Rattle.insert.specs.Tests.{Accepted, Lengths, Room}
@@ -35,7 +35,7 @@ use Rattle.insert.specs.Tests.{Accepted, Lengths, Room}
 pub lengths : (ids nonces token : List ℕ) → Accepted ids nonces token → Lengths ids nonces token
 unfolding insertInputTests tokenTests
 lengths ids nonces token a =
-    let p = passed (lengthNot (12 * (idCount ids + 1)) nonces) (refused 4 []) _ (a .passes) in
+    let p = passed (lengthNot (12 * (2 * idCount ids + 1)) nonces) (refused 4 []) _ (a .passes) in
     let q = passed (not (eqb (length ids % 16) 0) || (ltb (idCount ids) 1 || ltb 64 (idCount ids))) (refused 5 []) _ (p .1) in
     let r = passed (lengthNot insertTokenLength token) (refused 6 []) none (q .1) in
     let u = neither (not (eqb (length ids % 16) 0)) (ltb (idCount ids) 1 || ltb 64 (idCount ids)) (q .0) in
@@ -44,7 +44,7 @@ lengths ids nonces token a =
     record {
       id-bytes = omega arith;
       most = ltb-false 64 (idCount ids) (w .1);
-      nonce-bytes = length-passed (12 * (idCount ids + 1)) nonces (p .0);
+      nonce-bytes = length-passed (12 * (2 * idCount ids + 1)) nonces (p .0);
       token-bytes = length-passed insertTokenLength token (r .0);
     }
 
@@ -58,7 +58,8 @@ roomy z count n e =
     let p = passed (ltb limit count) (refused 14 []) _ e in
     let q = passed (ltb (z .m .free) n || ltb (z .v .free) n) (refused 15 []) _ (p .1) in
     let r = passed (ltb (z .c .free) 1) (refused 16 []) _ (q .1) in
-    let s = passed (ltb (z .s .free) 1) (refused 17 []) none (r .1) in
+    let s = passed (ltb (z .s .free) 1) (refused 17 []) _ (r .1) in
+    let t = passed (ltb (z .r .free) n) (refused 21 []) none (s .1) in
     let u = neither (ltb (z .m .free) n) (ltb (z .v .free) n) (q .0) in
     record {
       small = ltb-false limit count (p .0);
@@ -67,6 +68,7 @@ roomy z count n e =
         reverses = ltb-false (z .v .free) n (u .1);
         counter = ltb-false (z .c .free) 1 (r .0);
         log = ltb-false (z .s .free) 1 (s .0);
+        labels = ltb-false (z .r .free) n (t .0);
       };
     }
 
@@ -101,7 +103,7 @@ module _ (before ids nonces token : List ℕ) where
 
   -- the store with the new rows
   abbrev with-new : Store
-  with-new = insertedStore before (newEntries program before ids nonces token) (newReverses program before ids nonces token) (newCounter program before ids nonces token) (newLog program before ids nonces token)
+  with-new = insertedStore before (newEntries program before ids nonces token) (newReverses program before ids nonces token) (newCounter program before ids nonces token) (newLog program before ids nonces token) (newLabels program before ids nonces token)
 
   -- a refusal changes no byte [01:RS13]
   pub refuse : (r : Answer) → insertVerdict program before ids nonces token ≡ some r → Gives r before
@@ -137,7 +139,7 @@ module _ (before ids nonces token : List ℕ) where
       checked =
           let free = free-rows before z f in
           state ∙ fit-verdict before z (insertStateTests program before ids nonces token) f
-          ∙ rw (← fit-sizes before z f, free tableM, free tableV, free tableC, free tableS) refl
+          ∙ rw (← fit-sizes before z f, free tableM, free tableV, free tableC, free tableS, free tableR) refl
 
       pub refused-shares : (tokenP token ≡ z .p → ⊥) → Gives (refused 12 []) before
       refused-shares n = refuse (refused 12 []) (checked ∙ rw (ne-eqb (tokenP token) (z .p) n))
@@ -160,16 +162,19 @@ module _ (before ids nonces token : List ℕ) where
           refused-room r h = refuse r (read ∙ sym h)
 
           -- the rows are those of the definition
-          rows-are : (row : Row) → row ≡ counterRow program (tokenCL token) (start + k + 1) (drop (12 * idCount ids) nonces) (n + idCount ids)
-              → insertedStore before (entryRows program (tokenMT token) (tokenME token) n (idsIn ids) nonces) (reverseRows program (tokenMT token) n (idsIn ids)) row (logRow (tokenLog token)) ≡ with-new
-          unfolding newEntries newReverses newCounter newLog newCount
+          abbrev store-with : Row → Store
+          store-with row =
+              insertedStore before (entryRows program (tokenMT token) (tokenME token) n (idsIn ids) nonces) (reverseRows program (tokenMT token) n (idsIn ids)) row (logRow (tokenLog token))
+              (labelRows program (tokenRL token) (idsIn ids) (labelNonces ids nonces))
+
+          rows-are : (row : Row) → row ≡ counterRow program (tokenCL token) (start + k + 1) (counterNonce ids nonces) (n + idCount ids) → store-with row ≡ with-new
+          unfolding newEntries newReverses newCounter newLog newLabels newCount
           rows-are row g =
-              ap (λ (x : Row). insertedStore before (entryRows program (tokenMT token) (tokenME token) n (idsIn ids) nonces) (reverseRows program (tokenMT token) n (idsIn ids)) x (logRow (tokenLog token))) g
+              ap store-with g
               ∙ ap (λ (r : Reading). insertedStore before (entryRows program (tokenMT token) (tokenME token) (countOf r) (idsIn ids) nonces) (reverseRows program (tokenMT token) (countOf r) (idsIn ids))
-              (counterRow program (tokenCL token) (positionOf r + 1) (drop (12 * idCount ids) nonces) (countOf r + idCount ids)) (logRow (tokenLog token))) e
+              (counterRow program (tokenCL token) (positionOf r + 1) (counterNonce ids nonces) (countOf r + idCount ids)) (logRow (tokenLog token)) (labelRows program (tokenRL token) (idsIn ids) (labelNonces ids nonces))) e
 
           pub accepted : (row : Row) (after : List ℕ) → none ≡ verdict (roomTests z (n + idCount ids) (idCount ids))
-              → row ≡ counterRow program (tokenCL token) (start + k + 1) (drop (12 * idCount ids) nonces) (n + idCount ids)
-              → after ≡ joined (insertedStore before (entryRows program (tokenMT token) (tokenME token) n (idsIn ids) nonces) (reverseRows program (tokenMT token) n (idsIn ids)) row (logRow (tokenLog token)))
+              → row ≡ counterRow program (tokenCL token) (start + k + 1) (counterNonce ids nonces) (n + idCount ids) → after ≡ joined (store-with row)
               → Gives (done ((n + idCount ids) ∷ [])) after
           accepted row after h g w = wrote (n + idCount ids) after (read ∙ sym h) (sym counted) (w ∙ ap joined (rows-are row g))

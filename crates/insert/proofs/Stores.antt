@@ -1,30 +1,29 @@
--- The four tables lent one after the other: each comes back with the new rows in it.
-use Prim.Native.Nat.{ℕ, _+_, _-_, _*_, _≤_}
-use mathlib.Core.Path.{_≡_, refl, sym, ap, ap₂, _∙_}
+-- The tables lent one after the other: each comes back with the new rows in it.
+use Prim.Native.Nat.{ℕ}
+use mathlib.Core.Path.{_≡_, refl, ap, subst, _∙_}
 use mathlib.Core.Bool.{true}
 use mathlib.Core.List.{List, [], _∷_, _++_}
 use native.Mathlib.Omega.{arith}
 use lib.ListN.{length}
 use lib.Seq.{take-all}
 use Rattle.table.specs.Table.{Row, Table, rows}
-use Rattle.table.specs.Order.{ascending, usedRows, inForm, sorted, withRows}
+use Rattle.table.specs.Order.{ascending, usedRows, sorted, withRows}
 use Rattle.table.proofs.Counting.{count-append}
 use Rattle.table.proofs.Order.{true-ascending, sorted-ascending, sorted-Same, arranged-same}
-use Rattle.scheme.specs.Store.{Which, tableM, tableV, tableC, tableS, widthOf, cut, joined, putIn}
+use Rattle.scheme.specs.Store.{Which, tableM, tableV, tableC, tableS, tableR, widthOf, cut, joined, putIn}
 use Rattle.scheme.specs.Layout.{Laid}
-use Rattle.scheme.specs.Insert.{insertedStore}
+use Rattle.scheme.specs.Insert.{addedTo, insertedStore}
 use Rattle.store.specs.declared.Shape.{Shape}
 use Rattle.store.specs.Check.{partIn, spanIn}
-use Rattle.store.proofs.Stores.{LaidStore, part, part-long, part-rows}
+use Rattle.store.specs.Tables.{tableOf, Replaced}
+use Rattle.store.proofs.Stores.{LaidStore, part-rows, replace}
+use Rattle.insert.specs.Tests.{placedStore}
 
--- there is room in a table, and it is in form
-pub may-merge : (z : Shape) (g : LaidStore z) (k : Which) (new : List ℕ) (n : ℕ) → length new ≡ widthOf k * n → n ≤ partIn z k .free → partIn z k .free ≤ partIn z k .rows
-    → inForm (widthOf k) (g .store .table k) ≡ true → partIn z k .rows - partIn z k .free ≡ length (usedRows (g .store .table k)) → ascending (rows (widthOf k) n new) ≡ true
-    → ((length (part z g k) ≡ widthOf k * partIn z k .rows) × ((length new ≡ widthOf k * n) × (partIn z k .rows - partIn z k .free + n ≤ partIn z k .rows)))
-    × ((inForm (widthOf k) (rows (widthOf k) (partIn z k .rows) (part z g k)) ≡ true) × ((partIn z k .rows - partIn z k .free ≡ length (usedRows (rows (widthOf k) (partIn z k .rows) (part z g k)))) × (ascending (rows (widthOf k) n new) ≡ true)))
-may-merge z g k new n e h l f u o =
-    let r = part-rows z g k in
-    ((part-long z g k, (e, omega arith)), (ap (inForm (widthOf k)) r ∙ f, (u ∙ ap (λ (t : Table). length (usedRows t)) (sym r), o)))
+-- a table that came back with new rows
+pub with-added : (z : Shape) (g : LaidStore z) (k : Which) (new : List Row) (after : List ℕ)
+    → Replaced (g .bytes) (partIn z k) (widthOf k) (withRows (widthOf k) new (tableOf (g .bytes) (partIn z k) (widthOf k))) after → Laid (spanIn z) after (addedTo k new (g .store))
+with-added z g k new after r =
+    subst (λ (t : Table). Laid (spanIn z) after (putIn k (withRows (widthOf k) new t) (g .store))) (part-rows z g k) (replace z g k (withRows (widthOf k) new (tableOf (g .bytes) (partIn z k) (widthOf k))) after r .laid)
 
 -- one row as a list of rows
 pub only : (w : ℕ) (row : Row) → length row ≡ w → rows w 1 row ≡ row ∷ []
@@ -43,19 +42,20 @@ with-sorted w new t =
     arranged-same w (length t) (sorted new ++ usedRows t) (new ++ usedRows t)
     (record { counts = λ p. omega (arith, count-append p (sorted new) (usedRows t), count-append p new (usedRows t), sorted-Same new .counts p) })
 
-pub inserted-sorted : (b : List ℕ) (newM newV : List Row) (newC newS : Row) → insertedStore b (sorted newM) (sorted newV) newC newS ≡ insertedStore b newM newV newC newS
-unfolding insertedStore
-inserted-sorted b newM newV newC newS =
-    ap₂ (λ (tM tV : Table). putIn tableS (withRows (widthOf tableS) (newS ∷ []) (cut b .table tableS)) (putIn tableC (withRows (widthOf tableC) (newC ∷ []) (cut b .table tableC)) (putIn tableV tV (putIn tableM tM (cut b)))))
-    (with-sorted (widthOf tableM) newM (cut b .table tableM)) (with-sorted (widthOf tableV) newV (cut b .table tableV))
+-- C and S take one row each
+pub placed : (b after : List ℕ) (z : Shape) (newM newV : List Row) (newC newS : Row) → length newC ≡ widthOf tableC → length newS ≡ widthOf tableS
+    → Laid (spanIn z) after (addedTo tableS (rows (widthOf tableS) 1 newS) (addedTo tableC (rows (widthOf tableC) 1 newC) (addedTo tableV newV (addedTo tableM newM (cut b)))))
+    → Laid (spanIn z) after (placedStore b newM newV newC newS)
+unfolding placedStore
+placed b after z newM newV newC newS hC hS l = rw (only (widthOf tableC) newC hC, only (widthOf tableS) newS hS) at l
 
--- the four tables with their rows
-pub all-inserted : (b after : List ℕ) (z : Shape) (newM newV : List Row) (newC newS : Row) (tM tV tC tS : Table) → length newC ≡ widthOf tableC → length newS ≡ widthOf tableS
-    → tM ≡ withRows (widthOf tableM) newM (cut b .table tableM) → tV ≡ withRows (widthOf tableV) newV (cut b .table tableV)
-    → tC ≡ withRows (widthOf tableC) (rows (widthOf tableC) 1 newC) (cut b .table tableC) → tS ≡ withRows (widthOf tableS) (rows (widthOf tableS) 1 newS) (cut b .table tableS)
-    → Laid (spanIn z) after (putIn tableS tS (putIn tableC tC (putIn tableV tV (putIn tableM tM (cut b))))) → after ≡ joined (insertedStore b newM newV newC newS)
-unfolding insertedStore
-all-inserted b after z newM newV newC newS tM tV tC tS hC hS eM eV eC eS l =
-    let fC = eC ∙ ap (λ (r : List Row). withRows (widthOf tableC) r (cut b .table tableC)) (only (widthOf tableC) newC hC) in
-    let fS = eS ∙ ap (λ (r : List Row). withRows (widthOf tableS) r (cut b .table tableS)) (only (widthOf tableS) newS hS) in
-    l .bytes ∙ (λ i. joined (putIn tableS (fS i) (putIn tableC (fC i) (putIn tableV (eV i) (putIn tableM (eM i) (cut b))))))
+-- then R takes its rows
+pub all-inserted : (b mid after : List ℕ) (z : Shape) (newM newV rowsM rowsV : List Row) (newC newS rowS : Row) (newR : List Row)
+    → rowsM ≡ sorted newM → rowsV ≡ sorted newV → rowS ≡ newS → Laid (spanIn z) mid (placedStore b rowsM rowsV newC rowS)
+    → Replaced mid (z .r) (widthOf tableR) (withRows (widthOf tableR) newR (tableOf mid (z .r) (widthOf tableR))) after → after ≡ joined (insertedStore b newM newV newC newS newR)
+unfolding placedStore insertedStore
+all-inserted b mid after z newM newV rowsM rowsV newC newS rowS newR eM eV eS l r =
+    let tM = ap (λ (x : List Row). withRows (widthOf tableM) x (cut b .table tableM)) eM ∙ with-sorted (widthOf tableM) newM (cut b .table tableM) in
+    let tV = ap (λ (x : List Row). withRows (widthOf tableV) x (cut b .table tableV)) eV ∙ with-sorted (widthOf tableV) newV (cut b .table tableV) in
+    with-added z (record { bytes = mid; store = placedStore b rowsM rowsV newC rowS; laid = l }) tableR newR after r .bytes
+    ∙ (λ i. joined (addedTo tableR newR (addedTo tableS (eS i ∷ []) (addedTo tableC (newC ∷ []) (putIn tableV (tV i) (putIn tableM (tM i) (cut b)))))))

@@ -2,7 +2,6 @@
 use Rattle.labels.proofs.Laws.{in-range}
 use Rattle.scheme.specs.Refusals.{fieldTokenTests}
 use borrow.Author.Tests.{eq-eqb, ne-eqb}
-use native.Mathlib.Omega.{arith}
 use mathlib.Core.Path.{sym, _∙_}
 use borrow.Author.Needs.{needs}
 use Rattle.client.proofs.part_token.Statement.{statement}
