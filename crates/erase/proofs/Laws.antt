@@ -9,7 +9,7 @@ use borrow.Author.Tests.{eq-eqb, ne-eqb}
 use lib.ListN.{length, getD, take, drop, replicate, length-drop, drop-of-length-le}
 use lib.Seq.{drop-cons}
 use Rattle.table.specs.Lists.{same, select, count, anyOf}
-use Rattle.table.specs.Table.{Table, rows, isFree, body, used}
+use Rattle.table.specs.Table.{Table, rows, markBad, isFree, body, used}
 use Rattle.table.specs.Order.{reordered, closed}
 use Rattle.table.proofs.Walk.{row-part, row-length}
 use Rattle.table.proofs.Search.{startsWith}
@@ -18,15 +18,16 @@ use Rattle.closing.proofs.Flags.{free-flagged-one}
 use Rattle.answer.specs.Answer.{done, refused, refusal}
 use Rattle.answer.specs.declared.Refusal.{Refusal}
 use Rattle.answer.specs.Verdict.{verdict}
-use Rattle.scheme.specs.Store.{tableM, tableV, widthOf, cut, joined, putIn, stateTests, reverseId, reverseTag}
+use Rattle.scheme.specs.Store.{Which, tableM, tableV, tableR, widthOf, greatestMark, cut, joined, putIn, stateTests, reverseId, reverseTag, labelId}
 use Rattle.scheme.specs.Layout.{Laid}
 use Rattle.scheme.specs.Refusals.{idTests}
-use Rattle.scheme.specs.Erase.{isReverse, erasedTags, isErased, erasedStore, eraseVerdict, erase}
+use Rattle.scheme.specs.Erase.{isReverse, erasedTags, isErased, isLabel, erasedStore, eraseVerdict, erase}
 use Rattle.store.specs.declared.Shape.{Shape}
 use Rattle.store.specs.declared.Checked.the-variants.{Fit, Refused}
-use Rattle.store.specs.Check.{checkedOf, spanIn}
-use Rattle.store.proofs.Laws.{unfit, fit-verdict}
-use Rattle.erase.specs.Tags.{erasedBy}
+use Rattle.store.specs.Check.{checkedOf, partIn, spanIn}
+use Rattle.store.proofs.Laws.{unfit, fit-verdict, fits, searchable}
+use Rattle.store.proofs.Stores.{LaidStore, part-rows, still-in-order}
+use Rattle.erase.specs.Tags.{Clean, hasId, erasedBy}
 
 -- ---- flags by one test after another
 
@@ -123,32 +124,36 @@ pub ids-start : (id r : List ℕ) → length id ≡ 16 → isIds id r ≡ starts
 unfolding reverseId
 ids-start id r e = ap (λ (k : ℕ). not (isFree r) && same (take k (body r)) id) (sym e)
 
--- ---- both tables closed up
+-- ---- tables closed up
+
+-- the flagged rows given up
+pub closed-by : (w : ℕ) (q : List ℕ → Bool) (t : Table) (fs : List ℕ) → length t ≤ 4096 → fs ≡ flagged q t (replicate 4096 0)
+    → reordered w (freeFlagged w fs t) ≡ closed w q t
+unfolding closed
+closed-by w q t fs h f = ap (λ (g : List ℕ). reordered w (freeFlagged w g t)) f ∙ ap (reordered w) (free-flagged-one w q 4096 t h)
+
+module _ (b : List ℕ) (z : Shape) (e : checkedOf b ≡ Fit z) (g : LaidStore z) (k : Which) where
+  -- a table that has not been lent yet is as the checks found it
+  pub still-clean : greatestMark k ≡ 1 → g .store .table k ≡ cut b .table k → Clean (g .bytes) (partIn z k) (widthOf k)
+  still-clean m s = record {
+    order = still-in-order z g k b e s;
+    marks = ap (markBad 1) (part-rows z g k ∙ s) ∙ searchable b z e k m .marks;
+    most = fits b z e k .most;
+  }
 
 module _ (before id : List ℕ) where
-  pub reverse-is : (n : ℕ) → n ≡ length id → n ≡ 16 → (b : List ℕ) → same (take n b) id ≡ isReverse before id b
+  pub freed-are : (t : Table) → count (hasId id) (used t) ≡ count (isReverse before id) (used t)
   unfolding isReverse reverseId
-  reverse-is n e f b = ap (λ (k : ℕ). same (take k b) id) f
+  freed-are t = refl
 
-  pub closed-V : (t : Table) (fs : List ℕ) → length id ≡ 16 → length t ≤ 4096 → fs ≡ flagged (λ b. same (take (length id) b) id) t (replicate 4096 0)
-      → reordered (widthOf tableV) (freeFlagged (widthOf tableV) fs t) ≡ closed (widthOf tableV) (isReverse before id) t
-  unfolding closed
-  closed-V t fs e h f =
-      ap (λ (g : List ℕ). reordered (widthOf tableV) (freeFlagged (widthOf tableV) g t)) f
-      ∙ ap (reordered (widthOf tableV)) (free-flagged-one (widthOf tableV) (λ b. same (take (length id) b) id) 4096 t h)
-      ∙ ap (λ (q : List ℕ → Bool). reordered (widthOf tableV) (Rattle.table.specs.Table.freeWhere (widthOf tableV) q t)) (λ i b. reverse-is (length id) refl e b i)
-
-  pub closed-M : (t : Table) (fs : List ℕ) → length t ≤ 4096 → fs ≡ flagged (erasedBy id (cut before .table tableV)) t (replicate 4096 0)
-      → reordered (widthOf tableM) (freeFlagged (widthOf tableM) fs t) ≡ closed (widthOf tableM) (isErased before id) t
-  unfolding closed isErased erasedTags isReverse
-  closed-M t fs h f =
-      ap (λ (g : List ℕ). reordered (widthOf tableM) (freeFlagged (widthOf tableM) g t)) f
-      ∙ ap (reordered (widthOf tableM)) (free-flagged-one (widthOf tableM) (erasedBy id (cut before .table tableV)) 4096 t h)
-
-  pub both-closed : (after : List ℕ) (z : Shape) (tM tV : Table) → tM ≡ closed (widthOf tableM) (isErased before id) (cut before .table tableM) → tV ≡ closed (widthOf tableV) (isReverse before id) (cut before .table tableV)
-      → Laid (spanIn z) after (putIn tableV tV (putIn tableM tM (cut before))) → after ≡ joined (erasedStore before id)
-  unfolding erasedStore
-  both-closed after z tM tV eM eV l = l .bytes ∙ (λ i. joined (putIn tableV (eV i) (putIn tableM (eM i) (cut before))))
+  -- M by the tags in v, which is V as it was
+  pub all-closed : (after : List ℕ) (z : Shape) (v tM tV tR : Table) → v ≡ cut before .table tableV → tM ≡ cut before .table tableM → tV ≡ cut before .table tableV → tR ≡ cut before .table tableR
+      → Laid (spanIn z) after (putIn tableR (closed (widthOf tableR) (hasId id) tR) (putIn tableV (closed (widthOf tableV) (hasId id) tV) (putIn tableM (closed (widthOf tableM) (erasedBy id v) tM) (cut before))))
+      → after ≡ joined (erasedStore before id)
+  unfolding erasedStore isErased erasedTags isReverse isLabel reverseId labelId
+  all-closed after z v tM tV tR e eM eV eR l =
+      l .bytes
+      ∙ (λ i. joined (putIn tableR (closed (widthOf tableR) (hasId id) (eR i)) (putIn tableV (closed (widthOf tableV) (hasId id) (eV i)) (putIn tableM (closed (widthOf tableM) (erasedBy id (e i)) (eM i)) (cut before)))))
 
 -- the call's ways out, in the order of its refusals
 module _ (before id : List ℕ) where

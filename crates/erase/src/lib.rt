@@ -1,17 +1,19 @@
-// Erase of an id (document 01, "Operations"): frees all its V rows and each M row with a tag of theirs.
+// Erase of an id (document 01, "Operations"; document 02, "Find by several fields"): frees all its V
+// rows, each M row with a tag of theirs, and all its R rows.
 ghost use mathlib.Core.Path.{_≡_};
 ghost use Rattle.table.specs.Lists.{count};
-ghost use Prim.Native.Nat.{_*_, _≤_};
+ghost use Prim.Native.Nat.{_*_, _≤_, _<_};
 ghost use lib.ListN.{length, replicate};
 ghost use Rattle.table.specs.Table.{rows, used};
-ghost use Rattle.table.specs.Order.{Searchable};
+ghost use Rattle.table.specs.Order.{Searchable, closed};
 ghost use Rattle.closing.specs.Flags.{flagged};
 ghost use Rattle.answer.specs.Answer.{counted};
 ghost use Rattle.scheme.specs.Store.{tableM, tableV, widthOf, cut, joined};
 ghost use Rattle.scheme.specs.Erase.{isReverse, erasedStore, erase as eraseOf};
 ghost use Rattle.store.specs.Check.{checkedOf};
 ghost use Rattle.store.specs.declared.Checked.the-variants.{Fit};
-ghost use Rattle.erase.specs.Tags.{erasedBy};
+ghost use Rattle.store.specs.Tables.{tableOf, Replaced};
+ghost use Rattle.erase.specs.Tags.{Clean, hasId, erasedBy};
 use answer::Counted;
 use answer::Refusal;
 use format::ID;
@@ -19,6 +21,8 @@ use format::row;
 use store::Checked;
 use store::M_WIDTH;
 use store::MOST_ROWS;
+use store::Part;
+use store::R_WIDTH;
 use store::Shape;
 use store::V_WIDTH;
 
@@ -57,15 +61,11 @@ fn flag_entries(
     }
 }
 
-// The erasure in a store that passed the checks: the id's rows of V are flagged and the rows of M with a
-// tag of theirs; then both tables close up. Tells how many V rows were freed. [01:OP4 OP5] [02:W2.4]
-fn erase_rows(store: &mut [u8], z: Shape, id: &[u8; ID]) -> u64
-    requires { ⌜ checkedOf (now store) ≡ Fit z ⌝ }
-    ensures { λ r. ⌜ r ≡ count (isReverse (now (store .entry)) (now (id .entry))) (used (cut (now (store .entry)) .table tableV)) ⌝ }
-    ensures { λ _. ⌜ now (store .exit) ≡ joined (erasedStore (now (store .entry)) (now (id .entry))) ⌝ }
+// Gives up the rows of M with a tag of the id's rows of V; the rows left close up. [01:OP4] [02:W2.4]
+fn free_entries(store: &mut [u8], m: Part, v: Part, id: &[u8; ID])
+    requires { ⌜ Clean (now store) m (widthOf tableM) × Clean (now store) v (widthOf tableV) ⌝ }
+    ensures { λ _. ⌜ Replaced (now (store .entry)) m (widthOf tableM) (closed (widthOf tableM) (erasedBy (now (id .entry)) (tableOf (now (store .entry)) v (widthOf tableV))) (tableOf (now (store .entry)) m (widthOf tableM))) (now (store .exit)) ⌝ }
 {
-    let m = z.m;
-    let v = z.v;
     let from = m.start;
     let to = m.end;
     let a = v.start;
@@ -74,8 +74,7 @@ fn erase_rows(store: &mut [u8], z: Shape, id: &[u8; ID]) -> u64
     let k = v.rows;
     let in_m = n - m.free;
     let in_v = k - v.free;
-    let mut entries = blank();
-    let mut reverses = blank();
+    let mut flags = blank();
     flag_entries(
         &store[from..to],
         n,
@@ -84,15 +83,45 @@ fn erase_rows(store: &mut [u8], z: Shape, id: &[u8; ID]) -> u64
         k,
         in_v,
         id,
-        &mut entries,
+        &mut flags,
     );
-    let freed = closing::flag(&store[a..e], V_WIDTH, k, in_v, id, &mut reverses);
-    closing::close(&mut store[from..to], M_WIDTH, n, in_m, &entries);
-    closing::close(&mut store[a..e], V_WIDTH, k, in_v, &reverses);
+    closing::close(&mut store[from..to], M_WIDTH, n, in_m, &flags);
+}
+
+// Gives up the rows of a table that begin with the id, and tells how many these are; the rows left close
+// up. [01:OP4] [02:W2.4 W4.14]
+fn free_rows(store: &mut [u8], part: Part, w: usize, id: &[u8; ID]) -> u64
+    requires { ⌜ Clean (now store) part w × (16 < w) ⌝ }
+    ensures { λ r. ⌜ r ≡ count (hasId (now (id .entry))) (used (tableOf (now (store .entry)) part w)) ⌝ }
+    ensures { λ _. ⌜ Replaced (now (store .entry)) part w (closed w (hasId (now (id .entry))) (tableOf (now (store .entry)) part w)) (now (store .exit)) ⌝ }
+{
+    let a = part.start;
+    let e = part.end;
+    let n = part.rows;
+    let u = n - part.free;
+    let mut flags = blank();
+    let freed = closing::flag(&store[a..e], w, n, u, id, &mut flags);
+    closing::close(&mut store[a..e], w, n, u, &flags);
     freed as u64
 }
 
-// Erases an id. [01:OP4 OP5 RI6]
+// The erasure in a store that passed the checks: the rows of M with a tag of the id's rows of V, then
+// these, then the id's rows of R. Tells how many V rows were freed. [01:OP4 OP5] [02:W4.14]
+fn erase_rows(store: &mut [u8], z: Shape, id: &[u8; ID]) -> u64
+    requires { ⌜ checkedOf (now store) ≡ Fit z ⌝ }
+    ensures { λ r. ⌜ r ≡ count (isReverse (now (store .entry)) (now (id .entry))) (used (cut (now (store .entry)) .table tableV)) ⌝ }
+    ensures { λ _. ⌜ now (store .exit) ≡ joined (erasedStore (now (store .entry)) (now (id .entry))) ⌝ }
+{
+    let m = z.m;
+    let v = z.v;
+    let r = z.r;
+    free_entries(store, m, v, id);
+    let freed = free_rows(store, v, V_WIDTH, id);
+    free_rows(store, r, R_WIDTH, id);
+    freed
+}
+
+// Erases an id. [01:OP4 OP5 RI6] [02:W4.14]
 pub fn erase(store: &mut [u8], id: &[u8]) -> Counted
     ensures { λ r. ⌜ counted r ≡ eraseOf (now (store .entry)) (now (id .entry)) .answer ⌝ }
     ensures { λ _. ⌜ now (store .exit) ≡ eraseOf (now (store .entry)) (now (id .entry)) .store ⌝ }
