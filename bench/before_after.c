@@ -1,7 +1,8 @@
 /* How the time of each operation has changed: two archives, linked as shared objects and loaded apart from one another,
- * are measured in turn, many rounds, and the best round of each counts. Both work on the same store, in form, which both
- * fill by the same calls. Each round checks that the answers agree, and the whole stores after it; after each
- * measurement of a count, that the count which tells its rows answers the same.
+ * are measured in turn, many rounds, and the best round of each counts. Each works on a store of its own version, in form;
+ * both fill theirs by the same calls. Each round checks that the answers agree, and a find's ids; the whole stores too,
+ * where both archives have the same version; after each measurement of a count, that the count which tells its rows answers
+ * the same. What one of the archives does not have is left out.
  *   before_after BEFORE.so AFTER.so [ROUNDS]
  * The script bench/before_after builds both.
  */
@@ -14,8 +15,16 @@
 
 #include "measure.h"
 
+enum { LARGEST = 10 + 277 * 4096, TOKEN = 173 };
+
 typedef struct {
-  int64_t (*make)(uint64_t, uint64_t, uint64_t, uint64_t, uint8_t *, size_t);
+  int version; /* 1 has no table R: its token, its nonces and its stores are shorter */
+  size_t size, token;
+  uint8_t base[LARGEST]; /* the store that it filled */
+  union {
+    int64_t (*make1)(uint64_t, uint64_t, uint64_t, uint64_t, uint8_t *, size_t);
+    int64_t (*make)(uint64_t, uint64_t, uint64_t, uint64_t, uint64_t, uint8_t *, size_t);
+  };
   int64_t (*insert_token)(const uint8_t *, size_t, const uint8_t *, size_t, const uint8_t *, size_t, uint64_t, uint64_t,
                           const uint8_t *, size_t, uint8_t *);
   int64_t (*find_token)(const uint8_t *, size_t, const uint8_t *, size_t, const uint8_t *, size_t, uint8_t *);
@@ -27,13 +36,14 @@ typedef struct {
   int64_t (*count)(const uint8_t *, size_t, const uint8_t *, size_t);
   int64_t (*count_tallied)(const uint8_t *, size_t, const uint8_t *, size_t, uint64_t *); /* NULL where there is none */
   int64_t (*compact)(uint8_t *, size_t, const uint8_t *, size_t, const uint8_t *, size_t);
+  int64_t (*test)(const uint8_t *, size_t, const uint8_t *, size_t, const uint8_t *, size_t); /* and these three */
+  int64_t (*joint_find)(const uint8_t *, size_t, const uint8_t *, size_t, uint8_t *, size_t);
+  int64_t (*part_token)(const uint8_t *, size_t, const uint8_t *, size_t, const uint8_t *, size_t, uint8_t *);
 } Library;
 
 static Library before, after;
-/* What the archive before filled, what the archive after filled; both work in one place, since where a store lies changes
- * the time of a small call; and what each left. */
-static uint8_t own[884744], base[884744], work[884744], out[65536], left[2][884744 + 65536], nonces[12 * 4096];
-static size_t size;
+/* Both work in one place, since where a store lies changes the time of a small call; and what each left. */
+static uint8_t work[LARGEST], out[65536], left[2][LARGEST + 65536], nonces[12 * 4096];
 static int rounds = 40;
 static const uint8_t key[32] = {1, 2, 3, 4, 5, 6, 7, 8, 9}, empty[1];
 
@@ -63,7 +73,15 @@ static void load(Library *l, const char *path) {
   *(void **)&l->count = named(from, "mazhkuri_count", 1);
   *(void **)&l->count_tallied = named(from, "mazhkuri_count_tallied", 0);
   *(void **)&l->compact = named(from, "mazhkuri_compact", 1);
+  *(void **)&l->test = named(from, "mazhkuri_test", 0);
+  *(void **)&l->joint_find = named(from, "mazhkuri_joint_find", 0);
+  *(void **)&l->part_token = named(from, "mazhkuri_part_token", 0);
+  l->version = l->joint_find ? 2 : 1;
+  l->size = l->version == 1 ? 8 + 216 * 4096 : LARGEST;
+  l->token = l->version == 1 ? 141 : TOKEN;
 }
+
+static size_t nonce_bytes(const Library *l, size_t j) { return l->version == 1 ? 12 * (j + 1) : 12 * (2 * j + 1); }
 
 static void check(int ok, const char *what) {
   if (!ok) {
@@ -74,28 +92,39 @@ static void check(int ok, const char *what) {
 
 static void field(uint8_t name[3], unsigned f) { name[0] = 'f', name[1] = (uint8_t)(f >> 8), name[2] = (uint8_t)f; }
 
-static void insert_token(unsigned f, unsigned p, uint8_t token[141]) {
+/* The token of version 1 is the start of that of version 2. */
+static void insert_token(unsigned f, unsigned p, uint8_t token[TOKEN]) {
   uint8_t name[3], nonce[12];
   field(name, f);
   fill(nonce, 12);
-  check(after.insert_token(key, 32, name, 3, empty, 0, p, 0, nonce, 12, token) == 141, "insert token");
+  check(after.insert_token(key, 32, name, 3, empty, 0, p, 0, nonce, 12, token) == (int64_t)after.token, "insert token");
+}
+
+/* Ids under a field, into both stores. */
+static void add_ids(unsigned f, size_t j, const uint8_t *ids) {
+  uint8_t token[TOKEN];
+  insert_token(f, 0, token);
+  fill(nonces, 12 * (2 * j + 1));
+  for (Library *l = &before; l; l = l == &before ? &after : NULL)
+    check(l->insert(l->base, l->size, ids, 16 * j, nonces, nonce_bytes(l, j), token, l->token) > 0, "set up");
 }
 
 /* New ids under a field, or all of them one id. */
 static void add(unsigned f, size_t j, const uint8_t *id) {
-  uint8_t token[141], ids[1024];
-  insert_token(f, 0, token);
+  uint8_t ids[1024];
   fill(ids, 16 * j);
   for (size_t i = 0; id && i < j; i++) memcpy(ids + 16 * i, id, 16);
-  fill(nonces, 12 * (j + 1));
-  check(after.insert(base, size, ids, 16 * j, nonces, 12 * (j + 1), token, 141) > 0, "set up");
-  check(before.insert(own, size, ids, 16 * j, nonces, 12 * (j + 1), token, 141) > 0, "set up");
+  add_ids(f, j, ids);
 }
 
-static void fresh(void) {
-  size = 8 + 216ul * 4096;
-  check(after.make(0, 4096, 4096, 4096, base, size) == 0 && before.make(0, 4096, 4096, 4096, own, size) == 0, "make");
+static void make(Library *l) {
+  if (l->version == 1)
+    check(l->make1(0, 4096, 4096, 4096, l->base, l->size) == 0, "make");
+  else
+    check(l->make(0, 4096, 4096, 4096, 4096, l->base, l->size) == 0, "make");
 }
+
+static void fresh(void) { make(&before), make(&after); }
 
 static void entries(unsigned f, size_t n, const uint8_t *id) {
   uint8_t token[32];
@@ -103,27 +132,35 @@ static void entries(unsigned f, size_t n, const uint8_t *id) {
   if (n) add(f, n, id);
   after.compaction_token(key, 32, token);
   fill(nonces, sizeof nonces);
-  check(after.compact(base, size, nonces, sizeof nonces, token, 32) >= 0, "set up");
-  check(before.compact(own, size, nonces, sizeof nonces, token, 32) >= 0, "set up");
+  check(after.compact(after.base, after.size, nonces, sizeof nonces, token, 32) >= 0, "set up");
+  check(before.compact(before.base, before.size, nonces, sizeof nonces, token, 32) >= 0, "set up");
 }
+
+/* The id in row 2,000 of V. */
+static void some_id(uint8_t id[16]) { memcpy(id, after.base + (after.version == 1 ? 8 : 10) + 61 * 4096 + 49 * 2000 + 1, 16); }
 
 /* A call with all that it takes. */
 typedef struct {
-  enum { INSERT, ERASE, FIND, COUNT, COMPACT } kind;
-  uint8_t token[141], ids[1024];
-  size_t j;
+  enum { INSERT, ERASE, FIND, COUNT, COMPACT, TEST, JOINT_FIND } kind;
+  uint8_t token[8 * 128], ids[1024];
+  size_t j; /* ids of an insert, parts of a joint find */
 } Call;
 
 static int64_t perform(const Library *l, const Call *c, uint8_t *store, uint8_t *output) {
+  size_t size = l->size;
   switch (c->kind) {
     case INSERT:
-      return l->insert(store, size, c->ids, 16 * c->j, nonces, 12 * (c->j + 1), c->token, 141);
+      return l->insert(store, size, c->ids, 16 * c->j, nonces, nonce_bytes(l, c->j), c->token, l->token);
     case ERASE:
       return l->erase(store, size, c->ids, 16);
     case FIND:
       return l->find(store, size, c->token, 96, output, sizeof out);
     case COUNT:
       return l->count(store, size, c->token, 32);
+    case TEST:
+      return l->test(store, size, c->ids, 16, c->token, 32);
+    case JOINT_FIND:
+      return l->joint_find(store, size, c->token, 128 * c->j, output, sizeof out);
     default:
       return l->compact(store, size, nonces, sizeof nonces, c->token, 32);
   }
@@ -132,27 +169,28 @@ static int64_t perform(const Library *l, const Call *c, uint8_t *store, uint8_t 
 /* Where the archive has it. */
 static void check_tallied(const Library *l, const Call *c, int64_t wanted) {
   uint64_t rows = 0;
-  if (l->count_tallied) check(l->count_tallied(base, size, c->token, 32, &rows) == wanted && rows > 0, "count with rows");
+  if (l->count_tallied) check(l->count_tallied(l->base, l->size, c->token, 32, &rows) == wanted && rows > 0, "count with rows");
 }
 
 static void measure(const char *name, const Call *c, int times, int64_t wanted) {
   const Library *by[2] = {&before, &after};
   double best[2] = {1e18, 1e18};
-  check(memcmp(own, base, size) == 0, "set up");
+  int alike = before.version == after.version;
+  if (alike) check(memcmp(before.base, after.base, after.size) == 0, "set up");
   for (int r = 0; r < times; r++) {
     for (int i = 0; i < 2; i++) {
       int k = (i + r) % 2; /* each is first in turn */
-      memcpy(work, base, size);
+      memcpy(work, by[k]->base, by[k]->size);
       memset(out, 0, sizeof out);
       double began = now();
       int64_t told = perform(by[k], c, work, out);
       double took = now() - began;
       if (took < best[k]) best[k] = took;
       check(told == wanted, name);
-      memcpy(left[k], work, size);
-      memcpy(left[k] + size, out, sizeof out);
+      memcpy(left[k], out, sizeof out);
+      memcpy(left[k] + sizeof out, work, by[k]->size);
     }
-    check(memcmp(left[0], left[1], size + sizeof out) == 0, name);
+    check(memcmp(left[0], left[1], sizeof out + (alike ? after.size : 0)) == 0, name);
   }
   if (c->kind == COUNT) check_tallied(&before, c, wanted), check_tallied(&after, c, wanted);
   printf("%-44s %9.1f us %9.1f us   %6.2f times faster\n", name, best[0], best[1], best[0] / best[1]);
@@ -163,7 +201,7 @@ static void inserts(const char *name, size_t j, int64_t wanted, unsigned p) {
   Call c = {.kind = INSERT, .j = j};
   insert_token(7, p, c.token);
   fill(c.ids, 16 * j);
-  fill(nonces, 12 * (j + 1));
+  fill(nonces, 12 * (2 * j + 1));
   measure(name, &c, rounds, wanted);
 }
 
@@ -189,6 +227,30 @@ static void compacts(const char *name, int64_t labels, int64_t rows) {
   measure(name, &c, rounds / 10 + 2, labels * 4294967296 + rows);
 }
 
+/* Where both archives have them: a joint find of parts with 10 ids in the first and 1,000 in each other, and a test. */
+static void joint_finds(void) {
+  static const unsigned fields[8] = {1, 2, 3, 4, 5, 2, 3, 4};
+  Call c = {.kind = JOINT_FIND};
+  uint8_t ten[160], text[3];
+  char name[64];
+  if (!before.joint_find || !after.joint_find) return;
+  fresh();
+  fill(ten, sizeof ten);
+  for (unsigned f = 1; f < 6; f++) {
+    add_ids(f, 10, ten);
+    if (f > 1) entries(f, 990, NULL);
+  }
+  for (c.j = 1; c.j <= 8; c.j *= 2) {
+    for (size_t i = 0; i < c.j; i++) field(text, fields[i]), after.part_token(key, 32, text, 3, empty, 0, c.token + 128 * i);
+    snprintf(name, sizeof name, "joint find of %zu, 10 ids", c.j);
+    measure(name, &c, rounds, 10);
+  }
+  Call test = {.kind = TEST};
+  memcpy(test.ids, ten, 16);
+  memcpy(test.token, c.token + 96, 32);
+  measure("test", &test, rounds, 1);
+}
+
 int main(int count, char **arguments) {
   uint8_t id[16];
   char name[64];
@@ -199,7 +261,7 @@ int main(int count, char **arguments) {
   load(&before, arguments[1]);
   load(&after, arguments[2]);
   if (count > 3) rounds = atoi(arguments[3]);
-  printf("m = c = s = 4,096, p = 0: before, after\n");
+  printf("m = c = s = r = 4,096, p = 0: before (version %d), after (version %d)\n", before.version, after.version);
   static const size_t full[3] = {0, 2048, 3891};
   static const char *how[3] = {"empty", "half full", "95 % full"};
   for (int i = 0; i < 3; i++) {
@@ -234,7 +296,7 @@ int main(int count, char **arguments) {
   entries(1, 3990, NULL);
   entries(2, 10, NULL);
   reads("find of 10 ids in a store of 4,000", FIND, 2, 10);
-  memcpy(id, base + 8 + 61 * 4096 + 49 * 2000 + 1, 16);
+  some_id(id);
   erases("erase of one entry of 4,000", id, 1);
   fresh();
   fill(id, 16);
@@ -248,5 +310,6 @@ int main(int count, char **arguments) {
     snprintf(name, sizeof name, "compaction of %u rows, %u labels", rows[i], labels[i]);
     compacts(name, labels[i], rows[i]);
   }
+  joint_finds();
   return 0;
 }

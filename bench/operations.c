@@ -14,7 +14,8 @@
 #include "measure.h"
 #include "reference.h"
 
-static uint8_t base[884744], work[884744], other[884744], out1[65536], out2[65536];
+enum { LARGEST = MAZHKURI_STORE(4096, 4096, 4096, 4096), TOKEN = MAZHKURI_INSERT_TOKEN };
+static uint8_t base[LARGEST], work[LARGEST], other[LARGEST], out1[65536], out2[65536];
 static size_t size;
 static int rounds = 40;
 static double compression;
@@ -34,29 +35,39 @@ static size_t field(uint8_t name[4], unsigned f) {
   return 3;
 }
 
-static void insert_token(unsigned f, unsigned p, unsigned u, uint8_t token[141]) {
+static void insert_token(unsigned f, unsigned p, unsigned u, uint8_t token[TOKEN]) {
   uint8_t name[4], nonce[12];
   size_t n = field(name, f);
   fill(nonce, 12);
-  check(mazhkuri_insert_token(key, 32, name, n, empty, 0, p, u, nonce, 12, token) == 141, "insert token");
+  check(mazhkuri_insert_token(key, 32, name, n, empty, 0, p, u, nonce, 12, token) == TOKEN, "insert token");
 }
 
-/* Puts j ids under a field into the base store: new ones, or some of those given. */
-static void add_of(unsigned f, unsigned p, unsigned u, size_t j, const uint8_t *given, size_t n) {
-  uint8_t token[141], ids[1024], nonces[780];
+/* Puts j ids under a field into the base store. */
+static void add_ids(unsigned f, unsigned p, unsigned u, const uint8_t *ids, size_t j) {
+  uint8_t token[TOKEN], nonces[MAZHKURI_INSERT_NONCES(64)];
+  size_t n = MAZHKURI_INSERT_NONCES(j);
   insert_token(f, p, u, token);
+  fill(nonces, n);
+  check(mazhkuri_insert(base, size, ids, 16 * j, nonces, n, token, TOKEN) > 0, "set up");
+}
+
+/* New ids, or some of those given. */
+static void add_of(unsigned f, unsigned p, unsigned u, size_t j, const uint8_t *given, size_t n) {
+  uint8_t ids[1024];
   fill(ids, 16 * j);
   for (size_t i = 0; n > 0 && i < j; i++) memcpy(ids + 16 * i, given + 16 * (ids[16 * i] % n), 16);
-  fill(nonces, 12 * (j + 1));
-  check(mazhkuri_insert(base, size, ids, 16 * j, nonces, 12 * (j + 1), token, 141) > 0, "set up");
+  add_ids(f, p, u, ids, j);
 }
 
 static void add(unsigned f, unsigned p, unsigned u, size_t j) { add_of(f, p, u, j, NULL, 0); }
 
 static void fresh(unsigned p, unsigned m) {
-  size = 8 + 216ul * m;
-  check(mazhkuri_make(p, m, m, m, base, size) == 0, "make");
+  size = MAZHKURI_STORE(m, m, m, m);
+  check(mazhkuri_make(p, m, m, m, m, base, size) == 0, "make");
 }
+
+/* The id in a row of V of the base store, which has m rows in each table. */
+static void id_at(unsigned m, size_t row, uint8_t id[16]) { memcpy(id, base + 10 + 61ul * m + 49 * row + 1, 16); }
 
 static void compact_base(void) {
   uint8_t token[32];
@@ -95,21 +106,25 @@ static void line(const char *name, double ours, double theirs, double floor) {
   } while (0)
 
 static void bench_insert(const char *name, size_t j, double floor) {
-  uint8_t token[141], ids[1024], nonces[780];
+  uint8_t token[TOKEN], ids[1024], nonces[MAZHKURI_INSERT_NONCES(64)];
+  size_t n = MAZHKURI_INSERT_NONCES(j);
   double ours = 1e18, theirs = 1e18;
   int64_t a = 0, b = 0;
   insert_token(7, base[1], 0, token);
   fill(ids, 16 * j);
-  fill(nonces, 12 * (j + 1));
+  fill(nonces, n);
   for (int r = 0; r < rounds; r++) {
     memcpy(work, base, size);
-    MEASURE(ours, a = mazhkuri_insert(work, size, ids, 16 * j, nonces, 12 * (j + 1), token, 141));
+    MEASURE(ours, a = mazhkuri_insert(work, size, ids, 16 * j, nonces, n, token, TOKEN));
     memcpy(other, base, size);
-    MEASURE(theirs, b = reference_insert(other, size, ids, 16 * j, nonces, 12 * (j + 1), token));
+    MEASURE(theirs, b = reference_insert(other, size, ids, 16 * j, nonces, n, token));
     check(a == b && a > 0 && memcmp(work, other, size) == 0, name);
   }
   line(name, ours, theirs, floor);
 }
+
+/* The keys of CL; two lookups; MT prepared and a tag for each id; RL prepared and an R mark for each id. */
+#define INSERT_FLOOR(j) (8 + 4 + 2 + 2 * (j) + 2 + 2 * (j))
 
 static void bench_count(const char *name, unsigned f, double floor) {
   uint8_t token[32], text[4];
@@ -155,13 +170,13 @@ static void bench_erase(const char *name, const uint8_t id[16], int64_t wanted) 
 
 /* The check of header, marks and form alone: an insert with a token of another p is refused by 12, right after it. */
 static void bench_form(const char *name) {
-  uint8_t token[141], id[16] = {1}, nonces[24] = {1};
+  uint8_t token[TOKEN], id[16] = {1}, nonces[36] = {1};
   double ours = 1e18, theirs = 1e18;
   int64_t a = 0, b = 0;
   insert_token(7, base[1] + 1u, 0, token);
   for (int r = 0; r < 10 * rounds; r++) {
-    MEASURE(ours, a = mazhkuri_insert(base, size, id, 16, nonces, 24, token, 141));
-    MEASURE(theirs, b = reference_insert(base, size, id, 16, nonces, 24, token));
+    MEASURE(ours, a = mazhkuri_insert(base, size, id, 16, nonces, 36, token, TOKEN));
+    MEASURE(theirs, b = reference_insert(base, size, id, 16, nonces, 36, token));
     check(a == -12 && b == -1, name);
   }
   line(name, ours, theirs, 0);
@@ -175,9 +190,9 @@ static void fill_all(unsigned fields) {
 
 /* The rows of each table in any order. */
 static void shuffle(uint8_t *store) {
-  static const size_t width[4] = {61, 49, 61, 45};
-  uint8_t *at = store + 8, row[61];
-  for (int t = 0; t < 4; t++) {
+  static const size_t width[5] = {61, 49, 61, 45, 61};
+  uint8_t *at = store + 10, row[61];
+  for (int t = 0; t < 5; t++) {
     size_t w = width[t];
     for (size_t i = 4095; i > 0; i--) {
       seed = seed * 6364136223846793005ull + 1442695040888963407ull;
@@ -201,17 +216,17 @@ static void bench_order(const char *name, int64_t wanted) {
   line(name, ours, theirs, 0);
 }
 
-/* The check of form, and the new call. */
+/* The check of form, and an order. */
 static void bench_forms(void) {
   fresh(0, 4096);
   bench_form("check of form, all rows free");
   fill_entries(0, 0, 2048);
-  bench_form("check of form, M and V half full");
+  bench_form("check of form, M, V and R half full");
   fill_all(64);
   bench_form("check of form, all rows used");
-  bench_order("order of a full store in form", 4 * 4096);
+  bench_order("order of a full store in form", 5 * 4096);
   shuffle(base);
-  bench_order("order of a full store in random order", 4 * 4096);
+  bench_order("order of a full store in random order", 5 * 4096);
 }
 
 static void bench_compact(const char *name, double floor) {
@@ -231,16 +246,112 @@ static void bench_compact(const char *name, double floor) {
   line(name, ours, theirs, floor);
 }
 
+/* A test of an id: yes or no. */
+static void bench_test(const char *name, unsigned f, const uint8_t id[16], int64_t wanted, double floor) {
+  uint8_t token[32], text[4];
+  double ours = 1e18, theirs = 1e18;
+  int64_t a = 0, b = 0;
+  size_t n = field(text, f);
+  mazhkuri_mark_token(key, 32, text, n, empty, 0, token);
+  for (int r = 0; r < 10 * rounds; r++) {
+    MEASURE(ours, a = mazhkuri_test(base, size, id, 16, token, 32));
+    MEASURE(theirs, b = reference_test(base, size, id, token));
+    check(a == b && a == wanted, name);
+  }
+  line(name, ours, theirs, floor);
+}
+
+static int by_id(const void *a, const void *b) { return memcmp(a, b, 16); }
+
+/* What a client did without joint finds: a find for each part, and the ids that all of them gave, in the order of the first. */
+static int64_t finds_intersected(const uint8_t *parts, size_t n, uint8_t *output) {
+  static uint8_t found[65536];
+  int64_t kept = mazhkuri_find(base, size, parts, 96, output, 65536);
+  for (size_t i = 1; i < n && kept >= 0; i++) {
+    int64_t more = mazhkuri_find(base, size, parts + 128 * i, 96, found, sizeof found), left = 0;
+    if (more < 0) return more;
+    qsort(found, (size_t)more, 16, by_id);
+    for (int64_t k = 0; k < kept; k++)
+      if (bsearch(output + 16 * k, found, (size_t)more, 16, by_id)) memmove(output + 16 * left++, output + 16 * k, 16);
+    kept = left;
+  }
+  return kept;
+}
+
+/* A joint find of these fields, the first of them with the least ids, all of which the others have. */
+static void bench_joint(const char *name, const unsigned *fields, size_t n, int64_t ids) {
+  uint8_t parts[8 * 128], text[4];
+  static uint8_t out3[65536];
+  double ours = 1e18, theirs = 1e18, apart = 1e18;
+  int64_t a = 0, b = 0, c = 0;
+  for (size_t i = 0; i < n; i++) {
+    size_t length = field(text, fields[i]);
+    check(mazhkuri_part_token(key, 32, text, length, empty, 0, parts + 128 * i) == 128, "part token");
+  }
+  for (int r = 0; r < rounds; r++) {
+    MEASURE(ours, a = mazhkuri_joint_find(base, size, parts, 128 * n, out1, sizeof out1));
+    MEASURE(theirs, b = reference_joint_find(base, size, parts, 128 * n, out2, sizeof out2));
+    if (r < rounds / 8 + 2) MEASURE(apart, c = finds_intersected(parts, n, out3));
+    check(a == b && a == c && a == ids && memcmp(out1, out2, 16 * (size_t)a) == 0 && memcmp(out1, out3, 16 * (size_t)a) == 0, name);
+  }
+  /* each part's count; the find of one; the RL of the others, and an R mark for each id and other part */
+  line(name, ours, theirs, 18.0 * n + 10 + 2.0 * ids + 2.0 * (n - 1) * (1 + ids));
+  printf("%-48s %10.1f us; %.1f times as long\n", "  the same by finds, intersected", apart, apart / ours);
+  fflush(stdout);
+}
+
+/* Fields 2 onward, so many of them, each with its own ids and among them those of field 1, of which there are ten. */
+static void fill_joint(unsigned fields, unsigned each) {
+  uint8_t ten[160], ids[1024];
+  fresh(0, 4096);
+  fill(ten, sizeof ten);
+  add_ids(1, 0, 0, ten, 10);
+  for (unsigned f = 2; f < 2 + fields; f++) {
+    add_ids(f, 0, 0, ten, 10);
+    for (unsigned left = each - 10; left > 0;) {
+      size_t j = left < 64 ? left : 64;
+      fill(ids, 16 * j);
+      add_ids(f, 0, 0, ids, j);
+      left -= (unsigned)j;
+    }
+  }
+  compact_base();
+}
+
+static void bench_joints(void) {
+  /* M has 4,096 rows at most: with 1,000 in each of seven others, some fields come twice */
+  static const unsigned twice[8] = {1, 2, 3, 4, 5, 2, 3, 4}, own[8] = {1, 2, 3, 4, 5, 6, 7, 8};
+  uint8_t id[16];
+  fill_joint(4, 1000);
+  for (size_t n = 1; n <= 8; n *= 2) {
+    char name[64];
+    snprintf(name, sizeof name, "joint find of %zu, 10 ids, 1,000 in the others", n);
+    bench_joint(name, twice, n, 10);
+  }
+  fill_joint(7, 580);
+  bench_joint("joint find of 8 fields, 10 ids, 580 in the others", own, 8, 10);
+  id_at(4096, 2000, id);
+  bench_test("test of an id with one row in 4,070, no", 9, id, 0, 2 + 2);
+  fresh(0, 4096);
+  fill(id, 16);
+  add_ids(1, 0, 0, id, 1);
+  fill_entries(0, 0, 3000);
+  bench_test("test of an id with one row in 3,001, yes", 1, id, 1, 2 + 2);
+  for (unsigned f = 2; f < 66; f++) add_ids(f, 0, 0, id, 1);
+  bench_test("test of an id with 65 rows, no", 70, id, 0, 2 + 2 * 65);
+}
+
 static void bench_token(void) {
-  uint8_t one[141], two[141], nonce[12] = {7};
+  uint8_t one[TOKEN], two[TOKEN], nonce[12] = {7};
   const uint8_t name[] = {'h', 'u', 'e'}, value[] = {'r', 'e', 'd'};
   double ours = 1e18, theirs = 1e18;
   for (int r = 0; r < 50 * rounds; r++) {
     MEASURE(ours, mazhkuri_insert_token(key, 32, name, 3, value, 3, 1, 0, nonce, 12, one));
     MEASURE(theirs, reference_insert_token(key, name, 3, value, 3, 1, 0, nonce, two));
-    check(memcmp(one, two, 141) == 0, "insert token");
+    check(memcmp(one, two, TOKEN) == 0, "insert token");
   }
-  line("insert token", ours, theirs, 38);
+  /* K prepared and its four: 10; two under KM: 6; MT, ME and CL: 24; RL: 4 */
+  line("insert token", ours, theirs, 44);
 }
 
 /* F with a prepared key: a find over 1,000 addresses in a table M of one row, less the count, which
@@ -250,11 +361,11 @@ static void bench_prepared(void) {
   double found = 1e18, counted = 1e18, reference_found = 1e18, reference_counted = 1e18;
   uint64_t rows;
   size_t n = field(text, 1);
-  size = 8 + 110 + 106ul * 4096;
-  check(mazhkuri_make(0, 1, 4096, 4096, base, size) == 0, "make");
+  size = MAZHKURI_STORE(1, 4096, 4096, 1);
+  check(mazhkuri_make(0, 1, 4096, 4096, 1, base, size) == 0, "make");
   for (int i = 0; i < 1000; i++) {
     add(1, 0, 0, 1);
-    memcpy(id, base + 8 + 61 + 1, 16);
+    id_at(1, 0, id);
     check(mazhkuri_erase(base, size, id, 16) == 1, "set up");
   }
   compact_base();
@@ -291,12 +402,12 @@ static void growth(unsigned m) {
   fresh(0, m);
   fill_entries(0, 0, m / 2);
   snprintf(name, sizeof name, "m = %u, half full: insert of 1", m);
-  bench_insert(name, 1, 8 + 4 + 2 + 2);
+  bench_insert(name, 1, INSERT_FLOOR(1));
   snprintf(name, sizeof name, "m = %u, half full: count", m);
   bench_count(name, 1, 2 + 2 + 8 + 6);
   snprintf(name, sizeof name, "m = %u, half full: find of %u", m, m / 2);
   bench_find(name, 1, m / 2, 2 + 2 + 8 + 6 + 4 + 6 + 2.0 * (m / 2));
-  memcpy(id, base + 8 + 61 * m + 1, 16);
+  id_at(m, 0, id);
   snprintf(name, sizeof name, "m = %u, half full: erase", m);
   bench_erase(name, id, 1);
   for (unsigned i = 0; i < m / 4; i++) add(2 + i % 4, 0, 0, 1);
@@ -326,8 +437,8 @@ int main(int count, char **arguments) {
     static const size_t entries[3] = {0, 2048, 3891};
     fresh(0, 4096);
     fill_entries(0, 0, entries[full]);
-    bench_insert(title[full][0], 1, 8 + 4 + 2 + 2);
-    bench_insert(title[full][1], 64, 8 + 4 + 2 + 128);
+    bench_insert(title[full][0], 1, INSERT_FLOOR(1));
+    bench_insert(title[full][1], 64, INSERT_FLOOR(64));
   }
   for (int i = 0; i < 3; i++) {
     static const unsigned inserts[3] = {1, 100, 1000};
@@ -351,9 +462,10 @@ int main(int count, char **arguments) {
       bench_find(name, 1, ids[i], 6 + (p + 1) * (2 + 8 + 6 + 6) + 2.0 * ids[i]);
     }
   bench_repeats();
+  bench_joints();
   fresh(0, 4096);
   fill_entries(0, 0, 4000);
-  memcpy(id, base + 8 + 61 * 4096 + 49 * 2000 + 1, 16);
+  id_at(4096, 2000, id);
   bench_erase("erase of one entry of 4,000", id, 1);
   fresh(0, 4096);
   fill(id, 16);

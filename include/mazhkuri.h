@@ -1,8 +1,8 @@
 /* Mazhkuri: a stateless encrypted multi-map, proved. The C interface of the static library.
  *
  * A client holds one key of 32 bytes, remembers nothing, and makes tokens. A server holds a store
- * and no key: it inserts, erases, finds, counts, compacts and orders. docs/API.md tells each call at
- * length, docs/FORMAT.md the bytes of stores and tokens.
+ * and no key: it inserts, erases, finds, finds by several fields, tests, counts, compacts and orders.
+ * docs/API.md tells each call at length, docs/FORMAT.md the bytes of stores and tokens.
  *
  * What a call returns
  *   0 or more   the call was done, and this is its answer; 0 where a call has none.
@@ -30,7 +30,7 @@
  *   not be lent to another call at that time.
  *
  * The refusals, each call's in the order in which it tests them: 1 to 9 by number, then 10, 11, 20,
- * 12, 19, 13, 14, 15, 16, 17, 18.
+ * 12, 19, 13, 14, 15, 16, 17, 21, 18.
  */
 #ifndef MAZHKURI_H
 #define MAZHKURI_H
@@ -49,10 +49,10 @@ enum {
   MAZHKURI_NONCE_LENGTH = 4,   /* the nonce bytes are not as many as the call asks for */
   MAZHKURI_ID_LENGTH = 5,      /* the id bytes are not as many as the call asks for */
   MAZHKURI_TOKEN_LENGTH = 6,   /* the token has another length */
-  MAZHKURI_SIZE_RANGE = 7,     /* p is above 15, or m, c or s is not 1 to 4,096 */
-  MAZHKURI_SLICE_LENGTH = 8,   /* the store's length is not 8 + 110 m + 61 c + 45 s */
+  MAZHKURI_SIZE_RANGE = 7,     /* p is above 15, or m, c, s or r is not 1 to 4,096 */
+  MAZHKURI_SLICE_LENGTH = 8,   /* the store's length is not 10 + 110 m + 61 c + 45 s + 61 r */
   MAZHKURI_TEXT_LENGTH = 9,    /* a message, a text or an HMAC key is above 65,536 bytes */
-  MAZHKURI_HEADER = 10,        /* the bytes are no store: header or length */
+  MAZHKURI_HEADER = 10,        /* the bytes are no store of this version: header or length */
   MAZHKURI_MARK = 11,          /* a row's mark is neither 0 nor 1 */
   MAZHKURI_TOKEN_SHARES = 12,  /* the insert token's p is not the store's */
   MAZHKURI_DAMAGE = 13,        /* a counter that was read is damaged */
@@ -62,7 +62,8 @@ enum {
   MAZHKURI_LOG_ROWS = 17,      /* no free log row: compact */
   MAZHKURI_OUTPUT_LENGTH = 18, /* the output is too short for the different ids; carries how many */
   MAZHKURI_NONCE_COUNT = 19,   /* a compaction has fewer nonces than used log rows */
-  MAZHKURI_ROW_ORDER = 20      /* rows are not in byte order: mazhkuri_order puts the store in form */
+  MAZHKURI_ROW_ORDER = 20,     /* rows are not in byte order: mazhkuri_order puts the store in form */
+  MAZHKURI_LABEL_ROWS = 21     /* fewer free label rows than ids */
 };
 
 enum {
@@ -70,14 +71,20 @@ enum {
   MAZHKURI_ID = 16,
   MAZHKURI_NONCE = 12,
   MAZHKURI_DIGEST = 32,
-  MAZHKURI_INSERT_TOKEN = 141,
+  MAZHKURI_INSERT_TOKEN = 173,
   MAZHKURI_FIND_TOKEN = 96,
   MAZHKURI_COUNT_TOKEN = 32,
-  MAZHKURI_COMPACTION_TOKEN = 32
+  MAZHKURI_COMPACTION_TOKEN = 32,
+  MAZHKURI_MARK_TOKEN = 32,
+  MAZHKURI_PART_TOKEN = 128
 };
 
-/* The bytes of a store with m entry rows, c counter rows and s log rows, each 1 to 4,096. */
-#define MAZHKURI_STORE(m, c, s) (8 + 110 * (size_t)(m) + 61 * (size_t)(c) + 45 * (size_t)(s))
+/* The bytes of a store with m entry rows, c counter rows, s log rows and r label rows, each 1 to 4,096. */
+#define MAZHKURI_STORE(m, c, s, r) \
+  (10 + 110 * (size_t)(m) + 61 * (size_t)(c) + 45 * (size_t)(s) + 61 * (size_t)(r))
+
+/* The nonce bytes of an insert of so many ids: 12 for each id, 12, and 12 for each id again. */
+#define MAZHKURI_INSERT_NONCES(ids) (12 * (2 * (size_t)(ids) + 1))
 
 /* The refusal's number of what a call returned, 0 where it was done; and what it carries. */
 static inline int mazhkuri_refusal(int64_t told) { return told < 0 ? (int)(-told % 256) : 0; }
@@ -104,15 +111,15 @@ int64_t mazhkuri_hmac(const uint8_t *key, size_t key_length, const uint8_t *mess
 int64_t mazhkuri_chacha20(const uint8_t *key, size_t key_length, const uint8_t *nonce,
                           size_t nonce_length, uint8_t *text, size_t text_length);
 
-/* The four token makings: what the client does with its key. Each returns the token's length and
+/* The six token makings: what the client does with its key. Each returns the token's length and
  * writes all of the token, or is refused and leaves the token's bytes as they were.
  *
  * Insert: for a field (name, value) in share u of a store with shares 0 to p, under a nonce of 12
- * bytes. Returns 141; or -1, -2, -3, -4. */
+ * bytes. Returns 173; or -1, -2, -3, -4. */
 int64_t mazhkuri_insert_token(const uint8_t *key, size_t key_length, const uint8_t *name,
                               size_t name_length, const uint8_t *value, size_t value_length,
                               uint64_t p, uint64_t u, const uint8_t *nonce, size_t nonce_length,
-                              uint8_t token[141]);
+                              uint8_t token[173]);
 
 /* Find. Returns 96; or -1, -2. */
 int64_t mazhkuri_find_token(const uint8_t *key, size_t key_length, const uint8_t *name,
@@ -127,15 +134,25 @@ int64_t mazhkuri_count_token(const uint8_t *key, size_t key_length, const uint8_
 /* Compaction. Returns 32; or -1. */
 int64_t mazhkuri_compaction_token(const uint8_t *key, size_t key_length, uint8_t token[32]);
 
-/* Makes an empty store with shares 0 to p and m entry, c counter and s log rows; store_length is
- * exactly MAZHKURI_STORE(m, c, s). Returns 0; or -7, -8. */
-int64_t mazhkuri_make(uint64_t p, uint64_t m, uint64_t c, uint64_t s, uint8_t *store,
+/* Test. Returns 32; or -1, -2. */
+int64_t mazhkuri_mark_token(const uint8_t *key, size_t key_length, const uint8_t *name,
+                            size_t name_length, const uint8_t *value, size_t value_length,
+                            uint8_t token[32]);
+
+/* A part of a joint find: the find token, then the mark token. Returns 128; or -1, -2. */
+int64_t mazhkuri_part_token(const uint8_t *key, size_t key_length, const uint8_t *name,
+                            size_t name_length, const uint8_t *value, size_t value_length,
+                            uint8_t token[128]);
+
+/* Makes an empty store with shares 0 to p and m entry, c counter, s log and r label rows;
+ * store_length is exactly MAZHKURI_STORE(m, c, s, r). Returns 0; or -7, -8. */
+int64_t mazhkuri_make(uint64_t p, uint64_t m, uint64_t c, uint64_t s, uint64_t r, uint8_t *store,
                       size_t store_length);
 
-/* Inserts 1 to 64 ids of 16 bytes each, one after the other, with a nonce of 12 bytes for each id
- * and one more. An id may be inserted again: it gets another entry, and a find gives it once.
+/* Inserts 1 to 64 ids of 16 bytes each, one after the other, with MAZHKURI_INSERT_NONCES(ids) nonce
+ * bytes. An id may be inserted again: it gets another entry, and a find gives it once.
  * Returns how many ids were ever inserted under the token's field and share, the new ones and repeats
- * included, 1 to 4,294,967,295; or -4, -5, -6, -10, -11, -20, -12, -13, -14, -15, -16, -17. */
+ * included, 1 to 4,294,967,295; or -4, -5, -6, -10, -11, -20, -12, -13, -14, -15, -16, -17, -21. */
 int64_t mazhkuri_insert(uint8_t *store, size_t store_length, const uint8_t *ids, size_t ids_length,
                         const uint8_t *nonces, size_t nonces_length, const uint8_t *token,
                         size_t token_length);
@@ -151,6 +168,21 @@ int64_t mazhkuri_erase(uint8_t *store, size_t store_length, const uint8_t *id, s
  * It needs some 350 KiB of stack. */
 int64_t mazhkuri_find(const uint8_t *store, size_t store_length, const uint8_t *token,
                       size_t token_length, uint8_t *output, size_t output_length);
+
+/* Tests whether the document of the id has the mark token's field: whether the id was inserted under it,
+ * in whatever share, and not erased since. Returns 1 for yes, 0 for no; or -5, -6, -10, -11, -20. */
+int64_t mazhkuri_test(const uint8_t *store, size_t store_length, const uint8_t *id, size_t id_length,
+                      const uint8_t *mark_token, size_t mark_token_length);
+
+/* Finds the ids that are under the fields of all parts: 1 to 8 part tokens, one after the other. They are
+ * those of the part under which the fewest ids were ever inserted, erased ones and repeats included, the
+ * earlier part on a tie, in the order of its find, for which every other part tests yes. They go to the
+ * start of the output, and bytes after them stay. Returns how many; or -6 (not 1 to 8 parts), -10, -11,
+ * -20, -13 (a counter of any part is damaged), or -(18 + 256 * how many) where the output is shorter
+ * than 16 times that. The time grows with how many ids were ever inserted under that part's field. It
+ * needs some 350 KiB of stack. */
+int64_t mazhkuri_joint_find(const uint8_t *store, size_t store_length, const uint8_t *parts,
+                            size_t parts_length, uint8_t *output, size_t output_length);
 
 /* Counts the ids ever inserted under the token's field, erased ones and repeats included, in all
  * shares. Returns 0 to 68,719,476,720; or -6, -10, -11, -20, -13. */
@@ -172,7 +204,7 @@ int64_t mazhkuri_compact(uint8_t *store, size_t store_length, const uint8_t *non
                          size_t nonces_length, const uint8_t *token, size_t token_length);
 
 /* Puts a store in form: in each table the used rows first, ascending by their bytes, then free rows
- * that are all zero. Every used row is kept. For stores of a version before this one, which every
+ * that are all zero. Every used row is kept. For stores whose rows stand in another order, which every
  * other call refuses by 20. Returns how many used rows there are in all tables; or -10, -11. */
 int64_t mazhkuri_order(uint8_t *store, size_t store_length);
 

@@ -1,7 +1,7 @@
 """The static library against the model, through the C interface: hash, F and E, on published vectors too;
 random lists of calls against the model store and the model ledger; ids with thousands of entries against the
-ledger; calls on hostile stores against the model store; stores that the version before filled; counts with the rows looked
-at. Expected values come from
+ledger; calls on hostile stores against the model store; rows in any place; counts with the rows looked at; tests and joint
+finds of 1 to 8 parts; stores of version 1. Expected values come from
 tests/model, Python's hashlib and hmac, OpenSSL's libcrypto and published files, never from our own code. Exit status 1 at the
 first difference.
 
@@ -28,15 +28,18 @@ sys.path.insert(0, str(HERE / "model"))
 
 import calls  # noqa: E402
 import compare  # noqa: E402
+import examples  # noqa: E402
 import form  # noqa: E402
 import hostile  # noqa: E402
 import looked  # noqa: E402
-import older  # noqa: E402
+import placing  # noqa: E402
 import scheme  # noqa: E402
 import vectors  # noqa: E402
-from calls import Done, Refused  # noqa: E402
+import version1  # noqa: E402
+from calls import Done, Refused, nonce_bytes  # noqa: E402
 from gate import left_out  # noqa: E402
 from hostile import FIELDS, KEY, Hostile  # noqa: E402
+from joint import PARTS, Joint  # noqa: E402
 from ledger import Ledger  # noqa: E402
 from primitives import Real  # noqa: E402
 from repeats import Repeats  # noqa: E402
@@ -90,7 +93,7 @@ class Arena:
     """Where an argument lies: it ends at a page that can be neither read nor written, so that a call
     that reaches past it stops the test; before it stand bytes that a call must leave."""
 
-    SIZE = 1 << 20
+    SIZE = 1 << 21
 
     def __init__(self):
         self.map = mmap.mmap(-1, self.SIZE + mmap.PAGESIZE)
@@ -116,9 +119,9 @@ class Library:
 
     CALLS = {  # r: bytes that are read; w: bytes that are written; a: an array; n: a number
         "sha256": "ra", "hmac": "rra", "chacha20": "rrw", "insert_token": "rrrnnra",
-        "find_token": "rrra", "count_token": "rrra", "compaction_token": "ra", "make": "nnnnw",
-        "insert": "wrrr", "erase": "wr", "find": "rrw", "count": "rr", "count_tallied": "rra", "compact": "wrr",
-        "order": "w"}
+        "find_token": "rrra", "count_token": "rrra", "compaction_token": "ra", "mark_token": "rrra", "part_token": "rrra",
+        "make": "nnnnnw", "insert": "wrrr", "erase": "wr", "find": "rrw", "count": "rr", "count_tallied": "rra",
+        "compact": "wrr", "order": "w", "test": "rrr", "joint_find": "rrw"}
 
     def __init__(self, path):
         self.library = ctypes.CDLL(str(path))
@@ -249,30 +252,49 @@ def published(library):
 # Tokens and calls
 
 
+MAKINGS = {"Insert": ("insert_token", 173), "Find": ("find_token", 96), "Count": ("count_token", 32),
+           "Compact": ("compaction_token", 32), "Test": ("mark_token", 32), "JointFind": ("part_token", 128)}
+
+
 def token_of(library, model, call, generator):
-    """The token that the call takes, by the library, held to the model's; or its refusal."""
-    wanted = model.token(call)
-    makings = {calls.Insert: (library.insert_token, 141), calls.Find: (library.find_token, 96),
-               calls.Count: (library.count_token, 32), calls.Compact: (library.compaction_token, 32)}
-    making, length = makings[type(call)]
-    arguments = {calls.Insert: "key name value p u nonce", calls.Compact: "key"}
-    names = arguments.get(type(call), "key name value").split()
+    """The token that the call takes, by the library, held to the model's; None where its making is refused."""
+    kind = type(call).__name__
+    if kind != "JointFind":
+        arguments = {"Insert": "key name value p u nonce", "Compact": "key"}.get(kind, "key name value").split()
+        made = token_made(library, kind, [getattr(call, name) for name in arguments], model.token(call), generator)
+    else:
+        # The parts are made in order, and the first refused ends it [02:W4.24 W4.25].
+        made = b""
+        for part in call.parts:
+            one = token_made(library, kind, part, model.part_token(*part), generator)
+            if one is None:
+                made = None
+                break
+            made += one
+    same("%s token, refused" % kind, made is None, isinstance(model.token(call), Refused))
+    return made
+
+
+def token_made(library, kind, arguments, wanted, generator):
+    making, length = MAKINGS[kind]
     lent = generator.randbytes(length)
-    told = making(*(getattr(call, n) for n in names), lent)
+    told = getattr(library, making)(*arguments, lent)
     if isinstance(wanted, Refused):
-        same("%s token" % type(call).__name__, told, (encoded(wanted), lent))
+        same("%s token" % kind, told, (encoded(wanted), lent))
         return None
-    same("%s token" % type(call).__name__, told, (length, wanted))
+    same("%s token" % kind, told, (length, wanted))
     return wanted
 
 
 def by_library(library, store, kind, token, call):
     """What the library returns, a count's rows with it, the output after it, and the store after it."""
-    if kind == "Find":
-        told, output = library.find(store, token, call.output)
+    if kind in ("Find", "JointFind"):
+        told, output = (library.find if kind == "Find" else library.joint_find)(store, token, call.output)
         return told, output, store
     if kind == "Count":
         return counted(library, store, token), None, store
+    if kind == "Test":
+        return library.test(store, call.id, token)[0], None, store
     if kind == "Insert":
         told, after = library.insert(store, call.ids, call.nonces, token)
     elif kind == "Erase":
@@ -287,12 +309,14 @@ def by_library(library, store, kind, token, call):
 def by_model(model, store, kind, token, call):
     """The model's answer, the output after it, and the store after it."""
     store, output = bytearray(store), None
-    if kind == "Find":
+    if kind in ("Find", "JointFind"):
         output = bytearray(call.output)
-        answer = model.find(store, token, output)
+        answer = (model.find if kind == "Find" else model.joint_find)(store, token, output)
         output = bytes(output)
     elif kind == "Count":
         answer = model.count(store, token)
+    elif kind == "Test":
+        answer = model.test(store, call.id, token)
     elif kind == "Insert":
         answer = model.insert(store, token, call.nonces, call.ids)
     elif kind == "Erase":
@@ -335,8 +359,8 @@ def made(library, model, p, sizes, generator):
     """A made store; before it, makings that are refused."""
     n = scheme.length_of(*sizes)
     for q, z, length in ((p, sizes, n), (generator.choice((16, 257)), sizes, n),
-                         (p, (0,) + sizes[1:], n), (p, sizes[:2] + (4097,), n),
-                         (p, sizes, n - 1), (p, sizes, n + 1)):
+                         (p, (0,) + sizes[1:], n), (p, sizes[:2] + (4097,) + sizes[3:], n), (p, sizes[:3] + (0,), n),
+                         (p, sizes[:3] + (0,), n - 61 * sizes[3]), (p, sizes[:3] + (4097,), n), (p, sizes, n - 1), (p, sizes, n + 1)):
         lent = generator.randbytes(length)
         store = bytearray(lent)
         answer = model.make(store, q, *z)
@@ -346,10 +370,11 @@ def made(library, model, p, sizes, generator):
     return bytes(store)
 
 
-def one_list(library, model, drawn, listed, tally, repeats):
+def one_list(library, model, drawn, listed, tally, *tallies):
     """A list of calls on a made store, against model store and ledger both."""
     ledger = Ledger(drawn.p, *drawn.sizes)
-    repeats.begin()
+    for met in tallies:
+        met.begin()
     store = made(library, model, drawn.p, drawn.sizes, drawn.r)
     try:
         for at, call in enumerate(listed):
@@ -358,53 +383,59 @@ def one_list(library, model, drawn, listed, tally, repeats):
             takes_token = kind not in ("Erase", "Order")
             token = token_of(library, model, call, drawn.r) if takes_token else None
             if takes_token and token is None:
-                answer, output = model.token(call), call.output if kind == "Find" else None
+                answer, output = model.token(call), call.output if calls.has_output(call) else None
             else:
                 answer, output, store = operate(library, model, store, kind, token, call)
             if (calls.compared(call, answer), output) != (wanted, wanted_output):
                 raise Difference("%s: the library gives %r, the ledger %r" % (kind, answer, wanted))
             note(tally, kind, answer)
-            repeats.call(ledger, call, answer)
+            for met in tallies:
+                met.call(ledger, call, answer)
     except Difference as difference:
         compare.show(drawn, listed, difference, "call %d of a list" % at)
         raise
 
 
 def lists(library, number, seed):
-    drawn, tally, repeats = compare.Lists(seed, 40), {}, Repeats()
+    drawn, tally, repeats, joint = compare.Lists(seed, 40), {}, Repeats(), Joint()
     model = scheme.Scheme(Other)
     began = shown = time.time()
     for i in range(number):
-        one_list(library, model, drawn, drawn.draw(), tally, repeats)
+        one_list(library, model, drawn, drawn.draw(), tally, repeats, joint)
         shown = progress(began, shown, "lists", i + 1, number)
     if number >= 1000:
-        often = {n: sum(v for (_, k), v in tally.items() if k == n) for n in (15, 16, 17, 18, 19)}
-        if not compare.all_told(tally, repeats, number // 40) or min(often.values()) < number / 40:
+        often = {n: sum(v for (_, k), v in tally.items() if k == n) for n in (15, 16, 17, 18, 19, 21)}
+        if not compare.all_told(tally, repeats, joint, number // 40) or min(often.values()) < number / 40:
             raise Difference("not tried often enough: %r" % often)
-    return "%d lists, %d calls, told %s, %s" % (number, sum(tally.values()), numbers_told(tally), repeats)
+    return "%d lists, %d calls, told %s, %s, %s" % (number, sum(tally.values()), numbers_told(tally), repeats, joint)
 
 
 def large(library, seed):
     """A list on the largest store: 64 ids at a time, in three of 16 shares."""
     drawn, tally = compare.Lists(seed, 1), {}
     drawn.draw()
-    r, drawn.p, drawn.sizes = drawn.r, 15, (4096, 4096, 4096)
+    r, drawn.p, drawn.sizes = drawn.r, 15, (4096, 4096, 4096, 4096)
     ids = [r.randbytes(16) for _ in range(200)]
-    field, nonces = compare.FIELDS[0], r.randbytes
+    field, other, nonces = compare.FIELDS[0], compare.FIELDS[1], r.randbytes
 
-    def insert(u, j):
-        return calls.Insert(drawn.key, *field, 15, u, nonces(12), nonces(12 * (j + 1)),
+    def insert(u, j, field=field):
+        return calls.Insert(drawn.key, *field, 15, u, nonces(12), nonces(nonce_bytes(j)),
                             b"".join(r.choice(ids) for _ in range(j)))
+
+    def joint(fields, room):
+        return calls.JointFind([calls.Part(drawn.key, *name) for name in fields], bytes(16 * room))
 
     listed = []
     for part in range(3):
-        listed += [insert(u, j) for u, j in ((0, 64), (7, 63), (15, 1), (0, 2))]
+        listed += [insert(u, j) for u, j in ((0, 64), (7, 63), (15, 1), (0, 2))] + [insert(9, 50, other)]
         listed += [calls.Erase(id) for id in ids[part::50]]
         listed += [calls.Find(drawn.key, *field, bytes(16 * n)) for n in (10, 4096)]
+        listed += [calls.Test(drawn.key, *name, id) for name in (field, other) for id in ids[:4]]
+        listed += [joint(fields, n) for fields in ((field, other), (other, field), (other,) * 8) for n in (1, 4096)]
         listed += [calls.Count(drawn.key, *field)]
-        listed += [calls.Compact(drawn.key, nonces(12 * n)) for n in (3, 4)]
+        listed += [calls.Compact(drawn.key, nonces(12 * n)) for n in (4, 5)]
         listed += [calls.Order()]
-    one_list(library, scheme.Scheme(Other), drawn, listed, tally, Repeats())
+    one_list(library, scheme.Scheme(Other), drawn, listed, tally)
     return "%d calls, told %s" % (sum(tally.values()), numbers_told(tally))
 
 
@@ -415,7 +446,7 @@ class Filled:
     """The largest store, on which the model store is slow: each answer and output of the library is held to the
     ledger's."""
 
-    SIZES = (4096, 4096, 4096)
+    SIZES = (4096, 4096, 4096, 4096)
 
     def __init__(self, library, p, generator, repeats):
         self.library, self.p, self.r, self.repeats = library, p, generator, repeats
@@ -428,7 +459,7 @@ class Filled:
 
     def call(self, call):
         wanted, wanted_output = self.ledger.call(call)
-        kind, token = type(call).__name__, self.model.token(call)
+        kind, token, before = type(call).__name__, self.model.token(call), self.store
         told, output, self.store = by_library(self.library, self.store, kind, token, call)
         if kind == "Count":
             # The ledger has no rows; the model store is not slow here.
@@ -438,7 +469,7 @@ class Filled:
         else:
             same(kind, told, encoded(wanted))
         same(kind + ", output", output, wanted_output)
-        same(kind + ", in form", form.in_form(self.store), True)
+        same(kind + ", in form", self.store == before or form.in_form(self.store), True)
         self.repeats.call(self.ledger, call, wanted)
         self.calls += 1
         return wanted
@@ -448,7 +479,7 @@ class Filled:
         for at in range(0, len(ids), 64):
             part = ids[at:at + 64]
             answer = self.call(calls.Insert(self.key, *self.field, self.p, u, self.r.randbytes(12),
-                                            self.r.randbytes(12 * (len(part) + 1)), b"".join(part)))
+                                            self.r.randbytes(nonce_bytes(len(part))), b"".join(part)))
             same("an insert is done", type(answer), Done)
 
     def entries(self):
@@ -461,6 +492,18 @@ class Filled:
             if room >= 0:
                 self.call(calls.Find(self.key, *self.field, self.r.randbytes(room)))
         self.call(calls.Count(self.key, *self.field))
+        self.tests(ids)
+
+    def tests(self, room):
+        """Tests of ids that have many rows of R, or one, or none; joint finds of this field with itself, where every id is tested,
+        and with one that no insert named [02:W4.17 W4.21]."""
+        often = [id for id, _ in collections.Counter(self.entries()).most_common()]
+        for id in often[:2] + often[-2:] + [self.r.randbytes(16)]:
+            for field in (self.field, compare.NEVER):
+                self.call(calls.Test(self.key, *field, id))
+        part, never = calls.Part(self.key, *self.field), calls.Part(self.key, *compare.NEVER)
+        for parts, length in (([part], room), ([part] * 2, room), ([part] * 2, max(0, room - 1)), ([part, never], 0)):
+            self.call(calls.JointFind(parts, self.r.randbytes(length)))
 
     def changes(self):
         """Ids erased, one of them inserted again, a compaction: finds after each."""
@@ -474,11 +517,11 @@ class Filled:
         self.finds()
         self.call(calls.Compact(self.key, self.r.randbytes(12 * 4096)))
         self.finds()
-        self.older()
+        self.mixed()
 
-    def older(self):
-        """The same rows as the version before might have left them: 20, and after an order the same bytes as before it, and
-        the ledger's answers [02:W2.5 W2.6 W2.10]."""
+    def mixed(self):
+        """The same rows in any place: 20, and after an order the same bytes as before it, and the ledger's answers
+        [02:W2.5 W2.6 W2.10]."""
         store = bytearray(self.store)
         for t in scheme.tables(store).values():
             rows = [scheme.row(store, t, i) for i in range(t.rows)]
@@ -548,11 +591,11 @@ class Stores(Hostile):
             model.make(store, self.p, *self.sizes)
             for _ in range(self.r.randint(0, 2 * self.sizes[2])):
                 model.call(store, self.call())
-            self.bases.append((self.p, self.sizes, bytes(store)))
+            self.bases.append((self.p, self.sizes, self.known, bytes(store)))
 
     def broken(self):
         r, model = self.r, scheme.Scheme(self.suite)
-        self.p, self.sizes, base = r.choice(self.bases)
+        self.p, self.sizes, self.known, base = r.choice(self.bases)
         store = bytearray(base)
         self.counts = [0, 1, 2, 5, scheme.GREATEST + 1, 2 ** 64 - 1]
         if r.random() < 0.3:
@@ -571,19 +614,21 @@ class Stores(Hostile):
             return right[:at] + bytes([right[at] ^ self.r.randint(1, 255)]) + right[at + 1:]
         return self.bytes(len(right)) if kind < 0.97 else right[:-1] if kind < 0.985 else right + b"\0"
 
-    def six(self, store):
+    def eight(self, store):
         """A call of each kind, with its token."""
         r, model = self.r, scheme.Scheme(self.suite)
         field, u = r.choice(FIELDS), r.randint(0, self.p)
         id, j = self.id(), r.choice((1, 1, 2, 3))
         p = self.p if r.random() < 0.95 else self.p + 1
-        insert = calls.Insert(KEY, *field, p, u, self.bytes(12), self.bytes(12 * (j + 1)), id * j)
+        insert = calls.Insert(KEY, *field, p, u, self.bytes(12), self.bytes(nonce_bytes(j)), id * j)
         nonces = r.choice((self.sizes[2], self.sizes[2], r.randint(0, self.sizes[2])))
         # Wrong lengths are told before the store is looked at.
         wrong = r.random() < 0.03
         for call in (insert._replace(ids=id * j + b"\0" * wrong), calls.Erase(id[:15] if wrong else id), calls.Count(KEY, *field),
                      calls.Find(KEY, *field, self.bytes(self.room(model, store, field))),
-                     calls.Compact(KEY, self.bytes(12 * nonces + wrong)), calls.Order()):
+                     calls.Compact(KEY, self.bytes(12 * nonces + wrong)), calls.Order(),
+                     calls.Test(KEY, *field, id[:15] if wrong else id),
+                     calls.JointFind(self.joint_parts(), self.bytes(r.choice((0, 15, 16, 32, 96, 200))))):
             token = model.token(call)
             yield type(call).__name__, token and self.other(token), call
 
@@ -605,24 +650,25 @@ def found(model, store, token, most=1000):
 
 
 def walks_far(model, store, token, most=1000):
-    """Whether a find would walk a forged count, for which there is no time."""
-    if len(token) != 96 or calls.first(model.state_conditions(store)):
+    """Whether a find, or a joint find by any of its parts, would walk a forged count, for which there is no time."""
+    width = calls.FIND_TOKEN if len(token) == calls.FIND_TOKEN else calls.PART
+    if len(token) % width or calls.first(model.state_conditions(store)):
         return False
-    counts = model.counts(store, token[64:])
-    return counts is not None and sum(counts) > most
+    counts = [model.counts(store, part[64:96]) for part in scheme.parts(token, width)]
+    return any(found is not None and sum(found) > most for found in counts)
 
 
 def hostile_stores(library, number, seed):
     drawn, tally, left_out, repeats = Stores(seed, Other, 400), {}, 0, Repeats()
-    forms, orders = form.Forms(), hostile.Orders()
+    forms, orders, marks = form.Forms(), hostile.Orders(), hostile.Marks()
     model = scheme.Scheme(Other)
     began = shown = time.time()
     for i in range(number):
         store = drawn.broken()
-        if not calls.first(scheme.store_conditions(store)):
+        if not calls.first(model.store_conditions(store)):
             forms.store(store)
-        for kind, token, call in drawn.six(store):
-            if kind == "Find" and walks_far(model, store, token):
+        for kind, token, call in drawn.eight(store):
+            if calls.has_output(call) and walks_far(model, store, token):
                 left_out += 1
                 continue
             try:
@@ -634,30 +680,32 @@ def hostile_stores(library, number, seed):
                 print("store %d, seed %d: %s\n%r %s" % (i, seed, store.hex(), call, token and token.hex()))
                 raise
             note(tally, kind, answer)
-            orders.call(model, store, kind, token, call, answer)
+            for met in (orders, marks):
+                met.call(model, store, kind, token, call, answer)
             if kind == "Find":
                 repeats.find(found(model, store, token) or [], answer, len(call.output))
         shown = progress(began, shown, "hostile stores", i + 1, number)
-    missing = {4, 5, 6, 10, 11, 12, 13, 14, 15, 16, 17, 18, 19, 20} - set(numbers_told(tally))
+    missing = {4, 5, 6, *range(10, 22)} - set(numbers_told(tally))
     if number >= 5000 and missing:
         raise Difference("not tried: %s" % sorted(missing))
     # A broken store tells nothing of what was erased before.
     seldom = repeats.too_seldom(number // 200, but=["after an erase"])
     seldom.update(forms.too_seldom(number // 2000))
     seldom.update(orders.too_seldom(number // 500))
+    seldom.update(marks.too_seldom(number // 400))
     if number >= 5000 and seldom:
         raise Difference("not tried often enough: %s" % seldom)
-    return "%d stores, %d calls, %d finds of forged counts left out, told %s, %s, %s, %s" % (
-        number, sum(tally.values()), left_out, numbers_told(tally), forms, orders, repeats)
+    return "%d stores, %d calls, %d finds of forged counts left out, told %s, %s, %s, %s, %s" % (
+        number, sum(tally.values()), left_out, numbers_told(tally), forms, orders, marks, repeats)
 
 
 def long_walks(library, number, seed):
-    """Finds by forged counts that sum to either side of the rows that a table can have, as counts do after many
+    """Finds and joint finds by forged counts that sum to either side of the rows that a table can have, as counts do after many
     erases; entries of few ids at near and far addresses."""
     drawn, repeats, sums = Stores(seed, Other, 0), Repeats(), []
     r, model = drawn.r, scheme.Scheme(Other)
     for i in range(number):
-        drawn.p, drawn.sizes = r.choice((0, 1, 2)), [r.randint(6, 16), 6, 6]
+        drawn.p, drawn.sizes = r.choice((0, 1, 2)), [r.randint(6, 16), 6, 6, 12]
         store = bytearray(scheme.length_of(*drawn.sizes))
         model.make(store, drawn.p, *drawn.sizes)
         sums.append((4095, 4096, 4097, r.randint(4098, 10000))[i % 4])
@@ -668,6 +716,8 @@ def long_walks(library, number, seed):
             model.put_c(store, cl, model.counter_tag(cl, 1), drawn.bytes(12), 0, count)
         for _ in range(2 * drawn.sizes[0]):
             drawn.entry(model, store, FIELDS[:1], [1, 2] + [n + more for n in counts for more in (-1, 0, 1)])
+        for _ in range(6):
+            drawn.label(model, store)
         model.order(store)
         token = model.find_token(KEY, *FIELDS[0])
         shares = found(model, bytes(store), token, most=10000)
@@ -676,39 +726,41 @@ def long_walks(library, number, seed):
             call = calls.Find(KEY, *FIELDS[0], drawn.bytes(room))
             answer, _, _ = operate(library, model, bytes(store), "Find", token, call)
             repeats.find(shares, answer, room)
+            for n in (1, 2):
+                parts = [calls.Part(KEY, *FIELDS[0])] * n
+                call = calls.JointFind(parts, drawn.bytes(room))
+                operate(library, model, bytes(store), "JointFind", model.joined_parts(parts), call)
     seldom = repeats.too_seldom(number // 10, but=["after an erase"])
     if seldom:
         raise Difference("not tried often enough: %s" % seldom)
     return "%d stores, counts from %d to %d, %s" % (number, min(sums), max(sums), repeats)
 
 
-def stores_before(library, number, seed):
-    """Stores that the version before filled, under its own placing and others: each call but the new one is refused by 20,
-    and after an order every find and count tells what it told [02:W2.6 W2.7 W2.8 W2.9 W2.10 W2.11]. Then a list goes on, and
-    leaves the model's bytes."""
-    r, model, out = random.Random(seed), scheme.Scheme(Other), 0
+def any_place(library, number, seed):
+    """Stores with rows in any place: each call but an order is refused by 20, and after an order every find, count and joint find
+    tells what it told [02:W2.6 W2.7 W2.8 W2.9 W2.10 W2.11]. Then a list goes on, and leaves the model's bytes."""
+    r, model, out, key, field = random.Random(seed), scheme.Scheme(Other), 0, placing.KEY, placing.FIELDS[0]
     for i in range(number):
-        p, sizes = r.choice((0, 1, 2)), tuple(r.randint(2, 20) for _ in range(3))
-        place = older.lowest if i % 2 else older.random_place(r)
-        store, _, before = older.filled(Other, place, p, sizes, r.randint(1, 25), r, junk=i % 5 == 0)
-        told = older.readings(before, store, p)
-        others = [calls.Insert(older.KEY, *older.FIELDS[0], p, 0, bytes(12), bytes(24), bytes(16)), calls.Erase(bytes(16)),
-                  calls.Count(older.KEY, *older.FIELDS[0]), calls.Find(older.KEY, *older.FIELDS[0], bytes(48)),
-                  calls.Compact(older.KEY, b"")]
-        if older.out_of_form(store):
+        p, sizes = r.choice((0, 1, 2)), tuple(r.randint(2, 20) for _ in range(4))
+        place = placing.lowest if i % 2 else placing.random_place(r)
+        store, _, before = placing.filled(Other, place, p, sizes, r.randint(1, 25), r, junk=i % 5 == 0)
+        told = placing.readings(before, store)
+        others = [calls.Insert(key, *field, p, 0, bytes(12), bytes(36), bytes(16)), calls.Erase(bytes(16)), calls.Count(key, *field),
+                  calls.Find(key, *field, bytes(48)), calls.Compact(key, b""), calls.Test(key, *field, bytes(16)),
+                  calls.JointFind([calls.Part(key, *field)] * 2, bytes(48))]
+        if placing.out_of_form(store):
             out += 1
             for call in others:
                 kind = type(call).__name__
                 answer, _, _ = operate(library, model, store, kind, model.token(call), call)
-                same("%s on a store of the version before" % kind, answer, Refused(20, ()))
+                same("%s on rows in any place" % kind, answer, Refused(20, ()))
         rows = {name: sorted(scheme.used_rows(store, t)) for name, t in scheme.tables(store).items()}
         answer, _, after = operate(library, model, store, "Order", None, calls.Order())
         same("how many rows", answer, Done((sum(map(len, rows.values())),)))
         same("the rows", {name: scheme.used_rows(after, t) for name, t in scheme.tables(after).items()}, rows)
-        for field in older.FIELDS:
-            for call in (calls.Find(older.KEY, *field, bytes(16 * 4096)), calls.Count(older.KEY, *field)):
-                answer, output, _ = operate(library, model, after, type(call).__name__, model.token(call), call)
-                same("%s after an order" % type(call).__name__, (calls.compared(call, answer), output), told.pop(0))
+        for call, wanted in zip(placing.reading_calls(), told):
+            answer, output, _ = operate(library, model, after, type(call).__name__, model.token(call), call)
+            same("%s after an order" % type(call).__name__, (calls.compared(call, answer), output), wanted)
         for call in others:
             _, _, after = operate(library, model, after, type(call).__name__, model.token(call), call)
     if out < number // 2:
@@ -748,7 +800,7 @@ def library_calls(library):
 def last_and_first(library, seed):
     """The largest tables, full and nearly: one row out of its place, at the first pair, the last pair and between, in each
     table; a byte left over in the first and the last free row; rows that a search meets first and last."""
-    r, model, sizes, tried = random.Random(seed), scheme.Scheme(Other), (4096, 4096, 4096), 0
+    r, model, sizes, tried = random.Random(seed), scheme.Scheme(Other), (4096, 4096, 4096, 4096), 0
     full = bytearray(scheme.length_of(*sizes))
     model.make(full, 0, *sizes)
     for name, t in scheme.tables(full).items():
@@ -801,17 +853,34 @@ def around(r, t, wanted, n, place):
     return sorted(wanted + others)
 
 
+def marked_rows(model, r, rl, ids, n):
+    """n rows of R in order: those of some of the ids, each several with or without RL's R mark, among others whose ids differ
+    from theirs by one, or are the least and the greatest."""
+    rows = []
+    for id in ids:
+        for nonce in [r.randbytes(12) for _ in range(r.choice((0, 1, 1, 2, 5)))]:
+            rows.append(b"\1" + id + nonce + (model.r_mark(rl, nonce, id) if r.random() < 0.5 else r.randbytes(32)))
+    rows = r.sample(rows, min(n, len(rows)))
+    while len(rows) < n:
+        beside = min(max(int.from_bytes(r.choice(ids), "big") + r.choice((-1, 1)), 0), 2 ** 128 - 1).to_bytes(16, "big")
+        other = r.choice((beside, bytes(16), b"\xff" * 16, r.randbytes(16)))
+        nonce = r.randbytes(12)
+        mark = r.choice((r.randbytes(32), model.r_mark(rl, nonce, other), model.r_mark(rl, nonce, r.choice(ids))))
+        rows.append(b"\1" + other + nonce + mark)
+    return sorted(rows)
+
+
 def searches(library, number, seed):
     """Entries, counters and anchors whose rows are first, last or between in their tables, of any number of rows up to the
     largest, with neighbours that differ from them by one, and several rows of one tag: the first of them is the one
-    [01:ST13]. Each call against the model, byte for byte."""
+    [01:ST13]; in R, of ids with several rows. Each call against the model, byte for byte."""
     r, model, field, tally = random.Random(seed), scheme.Scheme(Other), FIELDS[0], {}
     ids = [r.randbytes(16) for _ in range(3)]
     for i in range(number):
         big = i % 16 == 0
         rows = r.choice((4095, 4096)) if big else r.choice((4, 5, 7, 8, 9, 15, 16, 17, 31, 33, 60))
         free = r.choice((0, 1, rows // 2))
-        p, sizes = 0, (rows, rows, rows)
+        p, sizes = 0, (rows, rows, rows, rows)
         store = bytearray(scheme.length_of(*sizes))
         model.make(store, p, *sizes)
         t = scheme.tables(store)
@@ -832,18 +901,21 @@ def searches(library, number, seed):
         ways = [b"\1" + r.choice(ids) + x[1:33] for x in r.sample(named, r.randint(1, min(4, used)))]
         ways = ways[:used] + [b"\1" + r.choice((bytes(16), r.randbytes(16), b"\xff" * 16)) + r.randbytes(32) for _ in range(used - len(ways))]
         form.written(store, t["V"], sorted(ways[:used]) + [bytes(49)] * (rows - used))
-        model.put(store, "S", *[b"\1" + token[97:]] * r.choice((1, 2)))
+        model.put(store, "S", *[b"\1" + token[97:141]] * r.choice((1, 2)))
+        form.written(store, t["R"], marked_rows(model, r, token[141:], ids, used) + [bytes(61)] * (rows - used))
         store = bytes(store)
         same("in form", form.in_form(store), True)
         for call, given in ((calls.Count(KEY, *field), model.count_token(KEY, *field)),
                             (calls.Find(KEY, *field, bytes(64)), model.find_token(KEY, *field)),
                             *((calls.Erase(id), None) for id in ids),
-                            (calls.Insert(KEY, *field, p, 0, bytes(12), r.randbytes(24), ids[0]), token),
+                            *((calls.Test(KEY, *field, id), token[141:]) for id in ids),
+                            (calls.JointFind([calls.Part(KEY, *field)] * 3, bytes(64)), model.part_token(KEY, *field) * 3),
+                            (calls.Insert(KEY, *field, p, 0, bytes(12), r.randbytes(36), ids[0]), token),
                             (calls.Compact(KEY, r.randbytes(12 * 4)), model.compact_token(KEY))):
             answer, _, _ = operate(library, model, store, type(call).__name__, given, call)
             note(tally, type(call).__name__, answer)
     often = {kind: n for (kind, told), n in tally.items() if told == "done"}
-    if len(often) < 5 or min(often.values()) < number // 10:
+    if len(often) < 7 or min(often.values()) < number // 10:
         raise Difference("not tried often enough: %r" % tally)
     return "%d stores, done %s, told %s" % (number, often, numbers_told(tally))
 
@@ -853,9 +925,9 @@ def refused_counts(generator, store, token):
     r, t = generator, scheme.tables(store)["C"]
     for length in (0, 31, 33, 64):
         yield store, (token * 2)[:length], 6
-    for at, byte in ((0, 2), (1, 16), (4, 17), (5, 0)):
+    for at, byte in ((0, 1), (0, 3), (1, 16), (4, 17), (5, 0), (8, 17), (9, 0)):
         yield store[:at] + bytes([byte]) + store[at + 1:], token, 10
-    for n in (0, 7, 8, len(store) - 1):
+    for n in (0, 9, 10, len(store) - 1):
         yield store[:n], token, 10
     yield store + b"\0", token, 10
     i = r.randrange(t.rows)
@@ -897,8 +969,8 @@ def whole_tables(library, drawn):
     for c in (4096, 4095, 100):
         for missing in (0, 1):
             for name in ("anchor", "counter"):
-                store, token = bytearray(scheme.length_of(1, c, 1)), drawn.r.randbytes(32)
-                model.make(store, 0, 1, c, 1)
+                store, token = bytearray(scheme.length_of(1, c, 1, 1)), drawn.r.randbytes(32)
+                model.make(store, 0, 1, c, 1, 1)
                 cl, n = model.F(token, scheme.number(0)), c - missing
                 tag, other = (model.anchor_tag, model.counter_tag) if name == "anchor" else (model.counter_tag, model.anchor_tag)
                 # Anchor n reads Start 7 and the count 9; counter n reads 0 and the count 9.
@@ -924,6 +996,120 @@ def counts_made(library):
     return ", ".join("%s %d" % (told, n) for told, n in sorted(made.items(), key=str))
 
 
+def parts_refused(store, parts):
+    """Parts and store of joint finds that are refused in each way but by damage and 18, with the number [02:W4.18]."""
+    for n in (0, 1, 96, 127, 129, 255, 257, 1023, 1025, 1152, 1280):
+        yield (parts * 10)[:n], store, 6
+    for at, byte in ((0, 1), (0, 3), (1, 16), (8, 17), (9, 0)):
+        yield parts, store[:at] + bytes([byte]) + store[at + 1:], 10
+    for n in (0, 9, 10, len(store) - 1):
+        yield parts, store[:n], 10
+    for name, t in scheme.tables(store).items():
+        for i in (0, t.rows - 1):
+            marked, left = bytearray(store), bytearray(store)
+            marked[t.start + t.width * i] = 2
+            yield parts, bytes(marked), 11
+            if store[t.start + t.width * i] == 0:
+                left[t.start + t.width * i + t.width - 1] = 1
+                yield parts, bytes(left), 20
+
+
+def with_other_marks(r, store, gone):
+    """The store, still in form, without some rows of R or of V, all rows of one id among them; some R marks are others."""
+    store = bytearray(store)
+    for name in r.choice(("R", "R", "V")):
+        t = scheme.tables(store)[name]
+        rows = [row for row in scheme.used_rows(store, t) if row[1:17] != gone and r.random() < 0.8]
+        if name == "R":
+            rows = [row[:29] + r.choice((row[29:], row[29:], r.randbytes(32))) for row in rows]
+        form.written(store, t, sorted(rows) + [bytes(t.width)] * (t.rows - len(rows)))
+    return bytes(store)
+
+
+def joint_finds(library, number, seed):
+    """Joint finds of 1 to 8 parts and tests on stores of eight fields, of which each has some of twelve ids in an order of its own,
+    against the ledger; rows of R then taken away or changed, against the model; every refusal on both sides of its limit; parts of
+    another key, equal parts, one that no insert named [02:W4.17 W4.18 W4.19 W4.20 W4.21 W4.22 W4.23]."""
+    r, model, joint, tally, marks = random.Random(seed), scheme.Scheme(Other), Joint(), {}, hostile.Marks()
+    refused = collections.Counter()
+    for i in range(number):
+        p, sizes, key = r.choice((0, 1, 3)), (100, 20, 20, 100), r.randbytes(32)
+        ids, fields = [r.randbytes(16) for _ in range(12)], compare.FIELDS
+        store, ledger = bytearray(scheme.length_of(*sizes)), Ledger(p, *sizes)
+        model.make(store, p, *sizes)
+        store = bytes(store)
+        joint.begin()
+
+        def call(made):
+            nonlocal store
+            kind, wanted = type(made).__name__, ledger.call(made)
+            token = model.token(made)
+            answer, output, store = operate(library, model, store, kind, token, made)
+            same(kind + " by the ledger", (answer, output), wanted)
+            note(tally, kind, answer)
+            joint.call(ledger, made, answer)
+            return answer
+
+        for field in fields:
+            own = r.sample(ids, r.choice((8, 10, 11, 12)))
+            call(calls.Insert(key, *field, p, r.randint(0, p), r.randbytes(12), r.randbytes(nonce_bytes(len(own))), b"".join(own)))
+        for id in r.sample(ids, 2):
+            call(calls.Erase(id))
+            call(calls.Test(key, *r.choice(fields), id))
+        for id in ids:
+            call(calls.Test(key, *r.choice(fields), id))
+        for n in range(1, 9):
+            named = r.sample(fields, n) if r.random() < 0.7 else [r.choice(fields[:2] + [compare.NEVER]) for _ in range(n)]
+            parts = [calls.Part(key, *field) for field in named]
+            kept, = call(calls.JointFind(parts, bytes(16 * 12))).values
+            for room in sorted({16 * kept, max(0, 16 * kept - 1), max(0, 16 * kept - 16)}):
+                call(calls.JointFind(parts, r.randbytes(room)))
+            tokens = model.joined_parts(parts)
+            # A part of another key has no entry and tests no.
+            other = model.part_token(r.randbytes(32), *r.choice(fields))
+            for token in (tokens[:-128] + other, other + tokens[128:], tokens[:-32] + other[-32:]):
+                operate(library, model, store, "JointFind", token, calls.JointFind([], bytes(16 * 12)))
+            gone = r.choice(ids)
+            broken = with_other_marks(r, store, gone)
+            for token, made in ((tokens, calls.JointFind(parts, bytes(16 * 12))), (None, calls.Erase(gone)),
+                                (model.mark_token(key, *named[0]), calls.Test(key, *named[0], r.choice(ids)))):
+                kind = type(made).__name__
+                answer, _, _ = operate(library, model, broken, kind, token, made)
+                marks.call(model, broken, kind, token, made, answer)
+        if i % 10 == 0:
+            lent = r.randbytes(40)
+            for given, on, wanted in parts_refused(store, tokens):
+                same("a joint find refused", library.joint_find(on, given, lent), (-wanted, lent))
+                same("and by the model", model.joint_find(bytearray(on), given, bytearray(lent)), Refused(wanted, ()))
+                refused[wanted] += 1
+            for id, token, wanted in ((b"", b"", 5), (ids[0][:15], bytes(32), 5), (ids[0] + b"1", bytes(32), 5), (ids[0], bytes(31), 6),
+                                      (ids[0], bytes(33), 6)):
+                same("a test refused", library.test(store, id, token)[0], -wanted)
+                same("and by the model", model.test(store, id, token), Refused(wanted, ()))
+                refused[wanted] += 1
+    seldom = {kind: n for kind, n in joint.tally.items() if kind in PARTS and n < number}
+    seldom.update({kind: n for kind, n in marks.too_seldom(number // 10).items() if "damage" not in kind})
+    if seldom or set(refused) != {5, 6, 10, 11, 20}:
+        raise Difference("not tried often enough: %s %s" % (seldom, dict(refused)))
+    return "%d stores, %d calls, told %s, refused besides %s, %s, %s" % (
+        number, sum(tally.values()), numbers_told(tally), dict(refused), marks, joint)
+
+
+def version_one(library):
+    """Stores of version 1, kept as files: every call is refused by 10, and leaves what it was lent [02:W4.5 W4.6]."""
+    model, tried = scheme.Scheme(Other), 0
+    field = (examples.KEY, *examples.HUE)
+    for name, store in version1.stores().items():
+        made = [calls.Insert(*field, store[1], 0, bytes(12), bytes(36), bytes(16)), calls.Erase(bytes(16)), calls.Find(*field, bytes(64)),
+                calls.Count(*field), calls.Compact(examples.KEY, bytes(12 * 16)), calls.Order(), calls.Test(*field, bytes(16)),
+                calls.JointFind([calls.Part(*field)] * 2, bytes(64))]
+        for call in made:
+            answer, _, _ = operate(library, model, store, type(call).__name__, model.token(call), call)
+            same("%s on %s" % (type(call).__name__, name), answer, Refused(10, ()))
+            tried += 1
+    return "%d calls on %d stores" % (tried, len(version1.stores()))
+
+
 def main():
     options = argparse.ArgumentParser(description=__doc__.split("\n")[0])
     options.add_argument("library")
@@ -947,7 +1133,9 @@ def main():
              ("first and last rows of the largest tables", lambda: last_and_first(library, given.seed)),
              ("searches", lambda: searches(library, many * 400, given.seed)),
              ("rows that a count looks at", lambda: rows_looked_at(library, many * 2000, given.seed)),
-             ("stores of the version before", lambda: stores_before(library, many * given.lists // 4, given.seed)),
+             ("joint finds", lambda: joint_finds(library, many * given.lists // 20, given.seed)),
+             ("stores of version 1", lambda: version_one(library)),
+             ("rows in any place", lambda: any_place(library, many * given.lists // 4, given.seed)),
              ("two histories", lambda: two_histories(library, many * given.lists // 4, given.seed)),
              ("lists", lambda: lists(library, many * given.lists, given.seed)),
              ("hostile stores", lambda: hostile_stores(library, many * given.hostile, given.seed)),

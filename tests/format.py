@@ -17,11 +17,11 @@ KEY = bytes(range(32))
 NAME, VALUE, P, U = b"hue", b"red", 1, 0
 TOKEN_NONCE = bytes(range(0x40, 0x4C))
 ID = bytes(range(0x50, 0x60))
-NONCES = bytes(range(0x60, 0x78))
-ANCHOR_NONCE = bytes(range(0x80, 0x8C))
-PARTS = {"insert token": (1, 32, 32, 32, 12, 32), "find token": (32, 32, 32),
+NONCES = bytes(range(0x60, 0x84))
+ANCHOR_NONCE = bytes(range(0x90, 0x9C))
+PARTS = {"insert token": (1, 32, 32, 32, 12, 32, 32), "find token": (32, 32, 32), "nonces": (12, 12, 12),
          "M row": (1, 32, 12, 16), "V row": (1, 16, 32), "C row": (1, 32, 12, 16),
-         "S row": (1, 12, 32), "C row, compacted": (1, 32, 12, 16)}
+         "S row": (1, 12, 32), "R row": (1, 16, 12, 32), "C row, compacted": (1, 32, 12, 16)}
 
 
 def by_model():
@@ -29,12 +29,13 @@ def by_model():
     model = scheme.Scheme(archive.Other)
     token = model.insert_token(KEY, NAME, VALUE, P, U, TOKEN_NONCE)
     compaction = model.compact_token(KEY)
-    store = bytearray(scheme.length_of(1, 1, 1))
-    assert model.make(store, P, 1, 1, 1) == Done(())
+    store = bytearray(scheme.length_of(1, 1, 1, 1))
+    assert model.make(store, P, 1, 1, 1, 1) == Done(())
     lines = {"key": KEY, "label": model.label(NAME, VALUE), "insert token": token,
              "find token": model.find_token(KEY, NAME, VALUE),
              "count token": model.count_token(KEY, NAME, VALUE), "compaction token": compaction,
-             "header": bytes(store[:8]), "id": ID, "nonces": NONCES}
+             "mark token": model.mark_token(KEY, NAME, VALUE), "header": bytes(store[:scheme.HEADER]), "id": ID,
+             "nonces": NONCES}
     assert model.insert(store, token, NONCES, ID) == Done((1,))
     for name, table in scheme.tables(store).items():
         lines[name + " row"] = scheme.row(store, table, 0)
@@ -49,30 +50,37 @@ def by_library(library, lines, inserted, compacted):
     """The library's bytes are the model's."""
     field = (KEY, NAME, VALUE)
     same = archive.same
-    same("insert token", library.insert_token(*field, P, U, TOKEN_NONCE, bytes(141)),
-         (141, lines["insert token"]))
+    same("insert token", library.insert_token(*field, P, U, TOKEN_NONCE, bytes(173)),
+         (173, lines["insert token"]))
     same("find token", library.find_token(*field, bytes(96)), (96, lines["find token"]))
     same("count token", library.count_token(*field, bytes(32)), (32, lines["count token"]))
     same("compaction token", library.compaction_token(KEY, bytes(32)), (32, lines["compaction token"]))
-    store = library.make(P, 1, 1, 1, b"\1" * 224)
-    same("make", store, (0, lines["header"] + bytes(216)))
+    same("mark token", library.mark_token(*field, bytes(32)), (32, lines["mark token"]))
+    # A part of a joint find is the find token, then the mark token [02:W4.18].
+    part = lines["find token"] + lines["mark token"]
+    same("part token", library.part_token(*field, bytes(128)), (128, part))
+    store = library.make(P, 1, 1, 1, 1, b"\1" * 287)
+    same("make", store, (0, lines["header"] + bytes(277)))
     store = library.insert(store[1], ID, NONCES, lines["insert token"])
     same("insert", store, (1, inserted))
     same("find", library.find(store[1], lines["find token"], bytes(16)), (1, ID))
+    same("joint find", library.joint_find(store[1], part * 2, bytes(16)), (1, ID))
+    for id, says in ((ID, 1), (bytes(16), 0)):
+        same("test", library.test(store[1], id, lines["mark token"])[0], says)
     # One used row of C, which each lookup looks at: anchor 1 and counter 1 in both shares, c = 1 ends each kind [02:W3.7].
     same("count", archive.counted(library, store[1], lines["count token"]), (1, 4))
     same("compaction", library.compact(store[1], ANCHOR_NONCE, lines["compaction token"]),
          (2**32 + 1, compacted))
-    # Of one row a table's order is that of the version before, whose stores an order takes [02:W2.6 W2.8].
-    same("order", library.order(inserted), (4, inserted))
-    same("order after the compaction", library.order(compacted), (3, compacted))
+    # A table of one row is in form whatever the row, and an order keeps it [02:W2.6 W2.8].
+    same("order", library.order(inserted), (5, inserted))
+    same("order after the compaction", library.order(compacted), (4, compacted))
     for name, table in scheme.tables(inserted).items():
         left = bytearray(compacted if name == "S" else store_without(inserted, table))
         left[table.start + table.width - 1] = 7
         same("bytes left in a free row of " + name, archive.counted(library, bytes(left), lines["count token"]), (-20, None))
         cured = bytearray(left)
         cured[table.start + table.width - 1] = 0
-        same("order of it", library.order(bytes(left)), (3, bytes(cured)))
+        same("order of it", library.order(bytes(left)), (4, bytes(cured)))
 
 
 def store_without(store, table):

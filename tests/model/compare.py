@@ -389,7 +389,7 @@ def hostile_stores(given):
         sum(tally.values()), told_numbers, forms, orders, marks, counts.rows), flush=True)
     missing = set(range(10, 22)) - set(told_numbers)
     seldom = {**forms.too_seldom(given.hostile // 3000), **orders.too_seldom(given.hostile // 1500),
-              **marks.too_seldom(given.hostile // 600)}
+              **marks.too_seldom(given.hostile // 900)}
     if given.hostile >= 6000 and (missing or seldom):
         print("NOT TRIED %s %s" % (sorted(missing), seldom))
         return 1

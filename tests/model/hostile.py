@@ -24,6 +24,7 @@ class Hostile:
     def __init__(self, seed, suite):
         self.r = random.Random(seed)
         self.suite = suite
+        self.known = []
 
     def bytes(self, n):
         return bytes(self.r.getrandbits(8) for _ in range(n))
@@ -49,7 +50,7 @@ class Hostile:
         """Whatever stands in the store, in form or not."""
         ways = {self.forge: 16, self.repeat: 8, self.damage: 8, self.swap: 6, self.free_bytes: 2, self.mark: 1,
                 self.header: 1, self.length: 1, self.other_header: 1, self.noise: 1, self.entry: 12, self.entries: 6, self.rows: 1,
-                self.label: 12, self.unlabelled: 6, self.together: 16}
+                self.label: 12, self.unlabelled: 10, self.together: 20}
         for _ in range(times):
             self.r.choices(list(ways), ways.values())[0](model, store)
             if scheme.header(store) is None:
@@ -88,7 +89,7 @@ class Hostile:
         if kind < 0.2:
             return (4093 * r.randint(0, 3) << r.choice((0, 64))).to_bytes(16, "big")
         id = bytearray(bytes([r.randint(0, 3)]) * 16)
-        if kind < 0.4:
+        if kind < 0.6:
             id[r.choice((0, 7, 8, 15))] ^= 1
         return bytes(id)
 
@@ -151,7 +152,7 @@ class Hostile:
         """An M row at an address of a field and share that no insert wrote, with one of the few ids."""
         t, i = self.any_row(store, "M")
         field, u = self.r.choice(fields), self.r.randint(0, self.p)
-        set_row(store, t, i, self.entry_row(model, field, u, self.r.choice(addresses), self.id()))
+        set_row(store, t, i, self.entry_row(model, field, u, max(0, self.r.choice(addresses)), self.id()))
 
     def entry_row(self, model, field, u, address, id):
         mt, me = (model.F(key(KEY, *field), number(u)) for key in (model.address_key, model.entry_key))
