@@ -5,8 +5,8 @@
   tool.py --kills N       with as many interrupted runs (default 1000; 300 where they take more than a minute)
   tool.py --only NAME     one test, by the name that its last line has
 
-Tests: the worked list of document 01 ('A day in the ledger'), ids with several entries, the rows a count looks at, rows in byte order, bad words, office and server apart, files that are no store,
-refusals from the state, the largest store on a small stack, a disk that is full, a folder that cannot
+Tests: the worked list of document 01 ('A day in the ledger'), ids with several entries, the rows a count looks at, finds by several fields, rows in byte order, bad words, office and server
+apart, files that are no store, stores of version 1, refusals from the state, the largest store on a small stack, a disk that is full, a folder that cannot
 be written, no randomness, links, owner and mode, what a lock says, several tools at once, each call of the
 system failing or never reached, every state that a power cut may leave, and runs interrupted by kill -9. What
 the tool leaves in a store is read back by the model (tests/model) too, which shares no code with it. A test
@@ -31,9 +31,11 @@ import time
 HERE = pathlib.Path(__file__).resolve().parent
 sys.path.insert(0, str(HERE / "model"))
 import disk  # noqa: E402
+import examples  # noqa: E402
 import form  # noqa: E402
-import older  # noqa: E402
+import placing  # noqa: E402
 import scheme  # noqa: E402
+import version1  # noqa: E402
 from gate import left_out  # noqa: E402
 from primitives import Real  # noqa: E402
 
@@ -92,11 +94,11 @@ class Bench:
 
     def files(self):
         """What is in the folder beside the program."""
-        found = {str(p.relative_to(self.folder)): p for p in self.folder.rglob("*") if p != self.program and p.is_file()}
+        found = {str(p.relative_to(self.folder)): p for p in self.fplacing.rglob("*") if p != self.program and p.is_file()}
         return {name: path.read_bytes() for name, path in found.items()}
 
     def lay(self, files):
-        """Makes these the files of the folder."""
+        """Makes these the files of the fplacing."""
         for name in self.files():
             (self.folder / name).unlink()
         for name, content in files.items():
@@ -115,11 +117,21 @@ class Bench:
         expect(out == first + "\n" and part in err, f"{words}: {out!r} {err!r}")
         after = self.store.read_bytes() if self.store.exists() else None
         expect(before == after, f"{words}: the store changed")
-        left = [p.name for p in self.folder.iterdir() if p.suffix in (".new", ".lock") or len(p.suffix) == 7]
+        left = [p.name for p in self.fplacing.iterdir() if p.suffix in (".new", ".lock") or len(p.suffix) == 7]
         expect(not left or "lock" in part, f"{words}: left {left}")
 
     def found(self, field="hue", value="red"):
         return self.answer("find", "store", "key", field, value).split()
+
+    def found_by(self, *fields):
+        """What a find by several fields prints, which is what the model finds in the bytes that the tool left."""
+        ids = self.answer("find", "store", "key", *(word for field in fields for word in field)).split()
+        model, key = scheme.Scheme(Real), self.key.read_bytes()
+        parts = b"".join(model.part_token(key, *(word.encode() for word in field)) for field in fields)
+        output = bytearray(16 * 4096)
+        n, = model.joint_find(self.store.read_bytes(), parts, output).values
+        expect(ids == [output[16 * i:16 * i + 16].hex() for i in range(n)], f"{fields}: the model finds something else than {ids}")
+        return ids
 
     def entries(self):
         """The ids that the store's file has entries of, as often as it has them: the rows of V."""
@@ -172,6 +184,7 @@ def worked_list(b):
     expect(b.model_finds() == b.found() == [D, E, F], "the model finds the same")
     shown = b.answer("show", "store").splitlines()
     expect(shown[0] == "a store for shares 0 to 1" and shown[3] == "counters (C) [####################] 4 of 4 rows used, 0 free", f"show: {shown}")
+    expect(shown[5:] == ["labels   (R) [####################] 4 of 4 rows used, 0 free"], f"show: {shown}")
     expect(b.answer("erase", "store", B) == "0\n", "an id that is not there")
 
 
@@ -217,6 +230,106 @@ def each_once(b):
     counts(141)
     expect(b.answer("erase", "store", ident(9)) == "128\n" and b.answer("erase", "store", ident(9)) == "0\n", "an erase of 128 entries")
     holds(9, B, A, C, D)
+
+
+def several_fields(b):
+    """A find by 1 to 8 fields prints the ids that are under each of them [02:W4.18 W4.21], in the order of the field with the fewest ever inserted [02:W4.19], of several such the earlier
+    [02:W4.20]; erased ids count there and are not found [02:W4.14]. 21 where R has no room [02:W4.28]; `show` tells of R [02:W4.1]."""
+    north, south, may, june = ("branch", "north"), ("branch", "south"), ("month", "may"), ("month", "june")
+    A, B, C, D, E, F = (ident(n) for n in range(6))
+
+    def insert(field, u, *ids):
+        return b.answer("insert", "store", "key", *field, u, *ids)
+
+    def holds(fields, *ids):
+        expect(b.found_by(*fields) == list(ids), f"a find by {fields} gives {b.found_by(*fields)}, expected {ids}")
+
+    def labels(used):
+        line = b.answer("show", "store").splitlines()[5]
+        expect(line.startswith("labels   (R) [") and line.endswith(f"] {used} of 12 rows used, {12 - used} free"), f"show: {line}")
+
+    labels(0)
+    expect(insert(north, 0, A, B, C) == "3\n" and insert(may, 1, C, A) == "2\n", "inserts under two fields")
+    for fields in ([north, may], [may, north], [may, north, may], [north] * 3 + [may] * 5):
+        holds(fields, C, A)
+    holds([north], A, B, C)
+    holds([north, june])
+    holds([june, north])
+    expect(insert(may, 0, D) == "1\n", "as many under the other")
+    holds([north, may], A, C)
+    holds([may, north], C, A)
+    labels(6)
+    expect(insert(north, 1, A, A) == "2\n", "an id again")
+    holds([north, may], C, A)
+    holds([north], A, B, C)
+    expect(b.answer("erase", "store", C) == "2\n", "an erase")
+    holds([north, may], A)
+    labels(6)
+    expect(b.answer("compact", "store", "key") == "4 4\n", "a compaction")
+    holds([north, may], A)
+    # R has 12 rows, and M 20
+    expect(insert(june, 0, B, A, E, F) == "4\n", "a third field")
+    b.refused(["insert", "store", "key", *south, 0, C, D, E], "refused 21", "21: the store has room for 2 more labels, 3 were given: compact does not help, erase ids or make a larger store\n")
+    expect(insert(south, 0, D) == "1\n", "the last but one")
+    b.refused(["insert", "store", "key", *south, 0, C, D], "refused 21", "21: the store has room for 1 more label, 2 were given")
+    labels(11)
+    holds([june, north], B, A)
+    holds([june, north, may], A)
+    holds([south, may], D)
+    holds([north, may, june, south])
+    expect(b.in_form(), "the rows are not in byte order")
+
+    # how many words, and which refusals: 1 and 2 of any field, and a value may be empty
+    find = ["find", "store", "key"]
+    usage = "expected: mazhkuri find STORE KEYFILE FIELD VALUE [FIELD VALUE]..., or find STORE --token TOKEN: "
+    for words in ([], north[:1], [*north, "month"], [*north] * 2 + ["month"], [*north] * 9, [*north] * 8 + ["month"], [*north, "--rows"]):
+        b.refused(find + list(words), "misused", usage)
+    expect(len(b.found_by(*[north] * 8)) == 2, "8 fields")
+    for at in range(3):
+        for wrong in (("", "may"), ("m" * 256, "may"), ("month", "v" * 1025)):
+            fields = [north, may, june]
+            fields[at] = wrong
+            b.refused(find + [word for field in fields for word in field], "refused 2", "2: FIELD must be 1 to 255 bytes")
+    expect(b.found_by(("f" * 255, "v" * 1024), north) == [] and b.found_by(("hue", ""), north) == [], "the longest field, and an empty value")
+    (b.folder / "short").write_bytes(b"x" * 31)
+    b.refused(["find", "store", "short", *north, *may], "refused 1", "1: the key file must hold 32 bytes")
+    b.refused(["find", "store", "short", "", "", *may], "refused 1", "1: ")
+    b.refused(["find", "store", "none", *north, *may], "failed", "cannot open none: No such file")
+    b.refused(["find", "none", "key", *north, *may], "failed", "cannot open none: No such file")
+    token = b.answer("token", "find", "key", *north)[:-1]
+    for word in (token, token + token, token + "0" * 64):
+        b.refused(["find", "store", "--token", word, *may], "misused", usage)
+    b.refused(["find", "store", "--token", token + token], "refused 6", "6: this is no token")
+    # of two fields either is damaged
+    good, model, key = b.store.read_bytes(), scheme.Scheme(Real), b.key.read_bytes()
+    damaged = bytearray(good)
+    rows = scheme.tables(damaged)["C"]
+    cl = model.F(model.counter_key(key, b"branch", b"south"), scheme.number(0))
+    damaged[rows.start + rows.width * scheme.lookup(damaged, rows, model.counter_tag(cl, 1)) + 45] ^= 1
+    b.store.write_bytes(damaged)
+    for fields in ((north, south), (south, north), (north, may, june, south)):
+        b.refused(find + [word for field in fields for word in field], "refused 13", "13: a counter in the file")
+    holds([north, may], A)
+    for name in scheme.WIDTH:
+        b.store.write_bytes(out_of_form(good, name))
+        b.refused(find + [*north, *may], "refused 20", "20: ")
+    # without its rows of R an id is under no other field than the chosen one
+    bare = bytearray(good)
+    form.written(bare, scheme.tables(bare)["R"], [bytes(61)] * 12)
+    b.store.write_bytes(bare)
+    holds([north, may])
+    holds([may], D, A)
+    expect(b.answer("erase", "store", A) == "5\n", "an erase of an id that has no row of R")
+
+
+def old_stores(b):
+    """Stores of version 1: every command is refused by 10, with what the file is and what to do [02:W4.5 W4.6]; they are left as they were."""
+    b.key.write_bytes(examples.KEY)
+    for name, store in version1.stores().items():
+        b.store.write_bytes(store)
+        for words in (["insert", "store", "key", "hue", "red", 0, ident(1)], ["find", "store", "key", "hue", "red"], ["find", "store", "key", "hue", "red", "size", "L"],
+                      ["count", "store", "key", "hue", "red"], ["erase", "store", ident(1)], ["compact", "store", "key"], ["order", "store"], ["show", "store"]):
+            b.refused(words, "refused 10", "10: this is a store of version 1, which an earlier mazhkuri made: make a new one with mazhkuri new, and insert the ids again\n")
 
 
 def with_rows(b):
@@ -306,11 +419,11 @@ def out_of_form(store, name="M"):
 
 
 def in_order(b):
-    """Rows in byte order after every command [02:W2.1 W2.2 W2.3]; a store of the version before is refused by 20, with what to
+    """Rows in byte order after every command [02:W2.1 W2.2 W2.3]; a store with rows in any place is refused by 20, with what to
     do [02:W2.11], and `order` puts it in form, keeps every row and prints how many there are [02:W2.6 W2.7 W2.8]: then every
     find and count prints what it told before [02:W2.10]."""
     r, model = random.Random(5), scheme.Scheme(Real)
-    b.key.write_bytes(older.KEY)
+    b.key.write_bytes(placing.KEY)
 
     def others(share=0):
         return [["insert", "store", "key", "hue", "red", share, ident(1)], ["find", "store", "key", "hue", "red"],
@@ -330,11 +443,11 @@ def in_order(b):
             expect(b.store.read_bytes() == wanted and mode() == 0o640, "an order leaves other bytes or another mode")
 
     for turn in range(12):
-        p, sizes = r.choice((0, 1, 2)), tuple(r.randint(3, 9) for _ in range(3))
-        place = older.lowest if turn % 2 else older.random_place(r)
-        store, _, before = older.filled(Real, place, p, sizes, r.randint(6, 14), r, junk=turn % 3 == 0)
-        told = older.readings(before, store, p)
-        expect(older.out_of_form(store), "a store of the version before is in form")
+        p, sizes = r.choice((0, 1, 2)), tuple(r.randint(3, 9) for _ in range(4))
+        place = placing.lowest if turn % 2 else placing.random_place(r)
+        store, _, before = placing.filled(Real, place, p, sizes, r.randint(6, 14), r, junk=turn % 3 == 0)
+        told = placing.readings(before, store)
+        expect(placing.out_of_form(store), "a store with rows in any place is in form")
         b.store.write_bytes(store)
         for words in others():
             b.refused(words, "refused 20", "20: ")
@@ -342,15 +455,18 @@ def in_order(b):
         token = b.answer("token", "insert", "key", "hue", "red", (p + 1) % 3, 0)[:-1]
         b.refused(["insert", "store", "--token", token, ident(1)], "refused 20", "20: ")
         orders(store, sum(len(scheme.used(store, t)) for t in scheme.tables(store).values()))
-        for field in older.FIELDS:
+        for field in placing.FIELDS:
             name, value = (text.decode() for text in field)
             answer, output = told.pop(0)
             ids = [part.hex() for part in scheme.parts(output[:16 * answer.values[0]], 16)]
             expect(b.found(name, value) == ids, f"a find of {name}={value} after an order")
             expect(b.answer("count", "store", "key", name, value) == f"{told.pop(0)[0].values[0]}\n", f"a count of {name}={value} after an order")
+        answer, output = told.pop(0)
+        ids = [part.hex() for part in scheme.parts(output[:16 * answer.values[0]], 16)]
+        expect(b.found_by(*(tuple(text.decode() for text in field) for field in placing.FIELDS)) == ids, "a find by all fields after an order")
     # each command leaves a store in form; in each table two rows exchanged, a gap, a byte left over
     b.store.unlink()
-    b.answer("new", "store", 1, 8, 8, 8)
+    b.answer("new", "store", 1, 8, 8, 8, 8)
     expect(b.answer("order", "store") == "0\n", "an order of an empty store")
     for words in (["insert", "store", "key", "hue", "red", 0, ident(1), ident(2), ident(1)], ["insert", "store", "key", "size", "L", 1, ident(3)], ["erase", "store", ident(2)],
                   ["compact", "store", "key"], ["insert", "store", "key", "hue", "red", 1, ident(4), ident(5)], ["insert", "store", "key", "hue", "red", 1, ident(1)]):
@@ -383,6 +499,8 @@ def bad_words(b):
     b.refused([], "misused", "expected: a command of: new")
     b.refused(["look"], "misused", "expected: a command of: new")
     b.refused(["find", "store", "key", "hue"], "misused", "expected: mazhkuri find STORE KEYFILE FIELD VALUE")
+    for sizes in ([], [1, 4, 4, 4], [1, 4, 4, 4, 4, 4]):
+        b.refused(["new", "other", *sizes], "misused", "expected: mazhkuri new STORE P M C S R: ")
     b.refused(["insert", "store", "key", "hue", "red"], "misused", "expected: mazhkuri insert")
     for words in (["order"], ["order", "store", "key"], ["order", "store", a], ["order", "store", "--token", a]):
         b.refused(words, "misused", "expected: mazhkuri order STORE")
@@ -404,11 +522,11 @@ def bad_words(b):
     expect(b.answer("count", "store", "key", "f" * 255, "v" * 1024) == "0\n", "the longest field")
     for path in ("s" * n for n in (4090, 4096, 4097)):
         for words in (["show", path], ["find", "store", path, "hue", "red"], ["erase", path, a], ["order", path], ["insert", path, "key", "hue", "red", 0, a],
-                      ["compact", path, "key"], ["new", path, 1, 4, 4, 4], ["key", path]):
+                      ["compact", path, "key"], ["new", path, 1, 4, 4, 4, 4], ["key", path]):
             b.refused(words, "failed", "File name too long")
-    b.refused(["new", "store", 1, 4, 4, 4], "failed", "there already")
-    for sizes in ([16, 4, 4, 4], [1, 0, 4, 4], [1, 4, 4097, 4], [1, 4, 4, 99999]):
-        b.refused(["new", "other", *sizes], "refused 7", "7: P must be 0 to 15")
+    b.refused(["new", "store", 1, 4, 4, 4, 4], "failed", "there already")
+    for sizes in ([16, 4, 4, 4, 4], [1, 0, 4, 4, 4], [1, 4, 4097, 4, 4], [1, 4, 4, 99999, 4], [1, 4, 4, 4, 0], [1, 4, 4, 4, 4097], [1, 4, 4, 4, 65540]):
+        b.refused(["new", "other", *sizes], "refused 7", "7: P must be 0 to 15, and M, C, S and R 1 to 4096 each")
     b.refused(["key", "key"], "failed", "File exists")
     (b.folder / "short").write_bytes(b"x" * 31)
     (b.folder / "long").write_bytes(b"x" * 33)
@@ -427,7 +545,7 @@ def halves(b):
     token is the model's, each call with it does what the call with the key does."""
     office, server = b.folder / "office", b.folder / "server"
     for folder, moved in ((office, b.key), (server, b.store)):
-        folder.mkdir()
+        fplacing.mkdir()
         moved.rename(folder / moved.name)
     key, store, model = (office / "key").read_bytes(), server / "store", scheme.Scheme(Real)
 
@@ -473,7 +591,7 @@ def halves(b):
     # the server's refusals: 6 for what is no token of the call, 12 for another P, 5 for the ids; a file that is not there
     takes = {"insert": (insert, [A]), "find": (find, []), "count": (count, []), "compact": (compact, [])}
     for command, (good, ids) in takes.items():
-        wrong = [t for t in (insert, find, count) if len(t) != len(good)] + ["", "00", good[:-1], good[:-2], good + "0", good + "00", good[:-1] + "g", " " + good[1:], "@two"]
+        wrong = [t for t in (insert, find, count) if len(t) != len(good)] + ["", "00", good[:-1], good[:-2], good[:-64], good + "0", good + "00", good + "0" * 64, good[:-1] + "g", " " + good[1:], "@two"]
         for word in wrong:
             refused([command, "store", "--token", word, *ids], server, "refused 6", "6: this is no token for this command")
         refused([command, "store", "--token", "@", *ids], server, "failed", "cannot open")
@@ -511,9 +629,11 @@ def no_stores(b):
     """Files that are no store: refused by 10 or 11, and left as they are [01:RS2 RS3]."""
     good = b.store.read_bytes()
     commands = [["insert", "store", "key", "hue", "red", 0, ident(1)], ["find", "store", "key", "hue", "red"],
-                ["count", "store", "key", "hue", "red"], ["erase", "store", ident(1)], ["compact", "store", "key"], ["order", "store"], ["show", "store"]]
+                ["count", "store", "key", "hue", "red"], ["erase", "store", ident(1)], ["compact", "store", "key"], ["order", "store"], ["show", "store"],
+                ["find", "store", "key", "hue", "red", "size", "L"]]
     foreign = random.Random(1).randbytes(len(good))
-    for content in (b"", good[:1], good[:7], good[:8], good[:-1], good + b"\0", b"\2" + good[1:], b"\1\20" + good[2:], foreign, BUILT.read_bytes()):
+    for content in (b"", good[:1], good[:8], good[:9], good[:10], good[:-1], good + b"\0", b"\0" + good[1:], b"\3" + good[1:], b"\2\20" + good[2:], good[:8] + b"\0\0" + good[10:],
+                    foreign, BUILT.read_bytes()):
         b.store.write_bytes(content)
         for words in commands:
             b.refused(words, "refused 10", "10: the file is no store")
@@ -523,9 +643,10 @@ def no_stores(b):
         out, err = b.run(*words)
         expect(out == "refused 10\n" and "10: " in err, f"a huge file: {out!r}")
     expect(b.store.stat().st_size == 1 << 40, "the huge file changed")
-    b.store.write_bytes(good[:8] + b"\7" + good[9:])
-    for words in commands:
-        b.refused(words, "refused 11", "11: a row of the file is marked neither free nor used")
+    for t in scheme.tables(good).values():
+        b.store.write_bytes(good[:t.start] + b"\7" + good[t.start + 1:])
+        for words in commands:
+            b.refused(words, "refused 11", "11: a row of the file is marked neither free nor used")
     b.store.unlink()
     for words in commands:
         b.refused(words, "failed", "cannot open store: No such file")
@@ -605,7 +726,7 @@ def small_stack(b):
     limit = {"preexec_fn": lambda: resource.setrlimit(resource.RLIMIT_STACK, (2 << 20, 2 << 20))}
     for words, answer in ([["insert", "store", "key", "hue", "red", 15, *ids], "64\n"], [["find", "store", "key", "hue", "red"], "\n".join(ids) + "\n"],
                           [["count", "store", "key", "hue", "red"], "64\n"], [["erase", "store", ids[0]], "1\n"], [["compact", "store", "key"], "1 1\n"],
-                          [["order", "store"], "127\n"]):
+                          [["find", "store", "key"] + ["hue", "red"] * 8, "\n".join(ids[1:]) + "\n"], [["order", "store"], "190\n"]):
         expect(b.run(*words, **limit) == (answer, ""), f"{words[0]} with a small stack")
     expect(b.run("show", "store", **limit)[0].startswith("a store for shares 0 to 15\n"), "show with a small stack")
     # every row used, in any order
@@ -617,7 +738,7 @@ def small_stack(b):
         form.written(wanted, t, sorted(used))
     b.store.write_bytes(full)
     expect(b.run("count", "store", "key", "hue", "red", **limit)[0] == "refused 20\n", "20 on a full store")
-    expect(b.run("order", "store", **limit) == ("16384\n", "") and b.store.read_bytes() == wanted, "an order of a full store with a small stack")
+    expect(b.run("order", "store", **limit) == ("20480\n", "") and b.store.read_bytes() == wanted, "an order of a full store with a small stack")
     b.store.write_bytes(fresh)
     # counts that sum to either side of the rows of the largest table: a find then keeps another number of ids
     fresh, model, key = b.store.read_bytes(), scheme.Scheme(Real), b.key.read_bytes()
@@ -703,11 +824,11 @@ def links(b):
     target = b.store.rename(b.folder / "target")
     b.store.symlink_to("target")
     insert = ["insert", "store", "key", "hue", "red", 0, ident(1)]
-    for words in (insert, ["erase", "store", ident(1)], ["compact", "store", "key"], ["order", "store"], ["new", "store", 1, 4, 4, 4]):
+    for words in (insert, ["erase", "store", ident(1)], ["compact", "store", "key"], ["order", "store"], ["new", "store", 1, 4, 4, 4, 4]):
         b.refused(words, "failed", "store is a link: give the name of the file itself")
     expect(b.answer("insert", "target", *insert[2:]) == "1\n" and b.found() == [ident(1)], "a store is read through a link")
     target.unlink()
-    b.refused(["new", "store", 1, 4, 4, 4], "failed", "store is a link")
+    b.refused(["new", "store", 1, 4, 4, 4, 4], "failed", "store is a link")
     expect(b.store.is_symlink() and not target.exists(), "a link that leads nowhere is left")
     b.refused(["key", "store"], "failed", "cannot make store: File exists")
 
@@ -729,7 +850,7 @@ def modes(b):
     me, mine = os.geteuid(), os.getegid()
     for mask in (0o022, 0o077):
         b.store.unlink()
-        expect(b.run("new", "store", 1, 64, 64, 64, umask=mask) == ("", "") and has() == (me, mine, 0o666 & ~mask), f"a new store has the umask's mode: {has()}")
+        expect(b.run("new", "store", 1, 64, 64, 64, 64, umask=mask) == ("", "") and has() == (me, mine, 0o666 & ~mask), f"a new store has the umask's mode: {has()}")
         for mode in (0o600, 0o640, 0o644, 0o664):
             kept(mode, me, mine, (me, mine, mode), umask=mask)
     if me == 0:
@@ -754,7 +875,7 @@ def modes(b):
             expect(before and not any(mode & 0o077 for mode in before), f"modes: {words}: open to others before its mode is set: {before}")
     else:
         left_out("a file is never open to others", "there is no cc")
-    expect(not [p.name for p in b.folder.iterdir() if p.suffix in (".new", ".lock") or len(p.suffix) == 7], "modes: something is left behind")
+    expect(not [p.name for p in b.fplacing.iterdir() if p.suffix in (".new", ".lock") or len(p.suffix) == 7], "modes: something is left behind")
 
 
 # Stops the tool at its first sync, with the lock made. A host's name of 64 bytes has no 0 after it.
@@ -813,7 +934,7 @@ def lock(b):
     """What a lock says: its line, what a tool says that finds it, whatever it holds, and that a lock that cannot be written is not left."""
     here, at = os.uname().nodename, b.folder / "store.lock"
     erase = ["erase", "store", ident(1)]
-    changing = [["insert", "store", "key", "hue", "red", 0, ident(1)], erase, ["compact", "store", "key"], ["order", "store"], ["new", "store", 1, 4, 4, 4]]
+    changing = [["insert", "store", "key", "hue", "red", 0, ident(1)], erase, ["compact", "store", "key"], ["order", "store"], ["new", "store", 1, 4, 4, 4, 4]]
     unknown = "another mazhkuri is changing this store: try again; if none is running, one was stopped: remove {}\n"
     running = "process {} is changing this store: wait until it has ended, then try again (if that is no mazhkuri, remove {})\n"
     stopped = "process {} was stopped while it was changing this store, which is whole: remove {}, then try again\n"
@@ -1016,7 +1137,7 @@ def every_point(b):
         return b.run("find", "store", "key", "hue", "red"), b.run("show", "store"), b.in_form()
 
     def clean():
-        for path in list(b.folder.iterdir()):
+        for path in list(b.fplacing.iterdir()):
             if path.suffix in (".new", ".lock") or len(path.suffix) == 7 or path.name in ("store2", "key2"):
                 path.unlink()
         b.store.write_bytes(begin)
@@ -1036,7 +1157,7 @@ def every_point(b):
             expect(err or not fail or now == new, f"{where}: nothing is said")
 
         calls += points(b, words, clean, check)
-    for words, size in ((["new", "store2", 1, 4, 4, 4], scheme.length_of(4, 4, 4)), (["key", "key2"], 32)):
+    for words, size in ((["new", "store2", 1, 4, 4, 4, 4], scheme.length_of(4, 4, 4, 4)), (["key", "key2"], 32)):
         made = b.folder / words[1]
 
         def check(where, out, err, fail):
@@ -1097,7 +1218,7 @@ def power_cut(b):
         mixed = {**begin, "store": out_of_form(begin["store"])}
         for words, name, order, begin in ((insert + [ident(3)], "store", answering, begin), (["erase", "store", ident(1)], "store", answering, begin),
                                           (["compact", "store", "key"], "store", answering, begin), (["order", "store"], "store", answering, mixed),
-                                          (["new", "store2", 1, 4, 4, 4], "store2", silent, begin), (["key", "key2"], "key2", silent, begin)):
+                                          (["new", "store2", 1, 4, 4, 4, 4], "store2", silent, begin), (["key", "key2"], "key2", silent, begin)):
             b.lay(begin)
             out, calls, states = ordered(words, name, order)
             end = b.files()
@@ -1112,7 +1233,7 @@ def power_cut(b):
             views = {True: [view(end)], False: [view(end), view(begin)] + [view({**begin, name: b""})] * (name == "key2")}
             for state, answered in states.items():
                 expect(view(dict(state)) in views[answered], f"{words}: after a power cut the tool finds another store: {sorted(dict(state))}")
-                for lock in cut.folder.glob("*.lock"):
+                for lock in cut.fplacing.glob("*.lock"):
                     lock.unlink()
                 if dict(state).get(name) == b"":
                     (cut.folder / name).unlink()
@@ -1188,12 +1309,13 @@ def main():
     global shim
     if not BUILT.exists():
         sys.exit("tests/tool.py: there is no target/bin/mazhkuri: run `rt check mazhkuri` first")
-    tests = [("the worked list", worked_list, [1, 4, 4, 4]), ("ids with several entries", each_once, [1, 150, 20, 20]), ("counts with rows", with_rows, [1, 64, 24, 64]), ("rows in byte order", in_order, [1, 8, 8, 8]), ("bad words", bad_words, [1, 4, 4, 4]), ("office and server", halves, [1, 8, 8, 8]), ("files that are no store", no_stores, [1, 4, 4, 4]),
-             ("refusals from the state", states, [0, 8, 4, 2]), ("the largest store", small_stack, [15, 4096, 4096, 4096]),
-             ("writes that fail", lambda b: (b.answer("insert", "store", "key", "hue", "red", 0, ident(1)), no_room(b)), [1, 8, 8, 8]),
-             ("links", links, [1, 4, 4, 4]), ("modes", modes, [1, 64, 64, 64]), ("lock", lock, [1, 4, 4, 4]), ("tools at once", at_once, [1, 200, 200, 200]),
-             ("every point", every_point, [1, 16, 16, 16]), ("power cut", power_cut, [1, 16, 16, 16]),
-             ("kill -9", lambda b: interrupted(b, kills), [1, 4096, 512, 512])]
+    tests = [("the worked list", worked_list, [1, 4, 4, 4, 4]), ("ids with several entries", each_once, [1, 150, 20, 20, 150]), ("finds by several fields", several_fields, [1, 20, 12, 12, 12]), ("counts with rows", with_rows, [1, 64, 24, 64, 64]), ("rows in byte order", in_order, [1, 8, 8, 8, 8]), ("bad words", bad_words, [1, 4, 4, 4, 4]), ("office and server", halves, [1, 8, 8, 8, 8]), ("files that are no store", no_stores, [1, 4, 4, 4, 4]),
+             ("stores of version 1", old_stores, [1, 4, 4, 4, 4]),
+             ("refusals from the state", states, [0, 8, 4, 2, 8]), ("the largest store", small_stack, [15, 4096, 4096, 4096, 4096]),
+             ("writes that fail", lambda b: (b.answer("insert", "store", "key", "hue", "red", 0, ident(1)), no_room(b)), [1, 8, 8, 8, 8]),
+             ("links", links, [1, 4, 4, 4, 4]), ("modes", modes, [1, 64, 64, 64, 64]), ("lock", lock, [1, 4, 4, 4, 4]), ("tools at once", at_once, [1, 200, 200, 200, 200]),
+             ("every point", every_point, [1, 16, 16, 16, 16]), ("power cut", power_cut, [1, 16, 16, 16, 16]),
+             ("kill -9", lambda b: interrupted(b, kills), [1, 4096, 512, 512, 4096])]
     with tempfile.TemporaryDirectory() as beside:
         shim = compiled(beside) if shutil.which("cc") and shutil.which("nm") else None
         chosen = [t for t in tests if given.only in (None, t[0])]
