@@ -14,14 +14,14 @@ use Rattle.table.proofs.Order.{rows-counted}
 use Rattle.table.proofs.Cuts.{rows-front, rows-behind, rows-append}
 use Rattle.answer.specs.Answer.{done, refusal}
 use Rattle.answer.specs.declared.Refusal.{Refusal}
-use Rattle.scheme.specs.Store.{Which, tableM, tableV, tableC, tableS, widthOf, cut, joined, putIn}
+use Rattle.scheme.specs.Store.{Which, tableM, tableV, tableC, tableS, tableR, widthOf, cut, joined, putIn}
 use Rattle.scheme.specs.Layout.{Laid}
 use Rattle.scheme.specs.Order
 use Rattle.scheme.specs.Order.{usedInAll, orderVerdict, orderedStore}
 use Rattle.store.specs.declared.Shape.{Shape}
 use Rattle.store.specs.declared.Checked.the-variants.{Fit, Refused}
-use Rattle.store.specs.Check.{markedOf, partIn, spanIn}
-use Rattle.store.proofs.Laws.{unmarked, marked-verdict, marked-fits}
+use Rattle.store.specs.Check.{markedOf, spanIn}
+use Rattle.store.proofs.Laws.{unmarked, marked-verdict}
 
 -- the used rows sorted, and the free ones behind them
 pub sorted-front : (w : ℕ) (t : Table) → sorted (usedRows t) ++ replicate (freeRows t) (zeroRow w) ≡ reordered w t
@@ -57,31 +57,33 @@ module _ (w n u : ℕ) (t k : List ℕ) (l : length k ≡ w * n) (e : u ≡ leng
       ∙ ap₂ (λ (x y : Table). x ++ y) (s ∙ ap sorted f) b
       ∙ sorted-front w (rows w n t)
 
--- all four in form
-pub all-ordered : (b after : List ℕ) (z : Shape) (tM tV tC tS : Table)
-    → tM ≡ reordered (widthOf tableM) (cut b .table tableM) → tV ≡ reordered (widthOf tableV) (cut b .table tableV)
-    → tC ≡ reordered (widthOf tableC) (cut b .table tableC) → tS ≡ reordered (widthOf tableS) (cut b .table tableS)
-    → Laid (spanIn z) after (putIn tableS tS (putIn tableC tC (putIn tableV tV (putIn tableM tM (cut b))))) → after ≡ joined (orderedStore b)
+-- all of them in form
+pub all-ordered : (b after : List ℕ) (z : Shape) (tM tV tC tS tR : Table)
+    → tM ≡ cut b .table tableM → tV ≡ cut b .table tableV → tC ≡ cut b .table tableC → tS ≡ cut b .table tableS → tR ≡ cut b .table tableR
+    → Laid (spanIn z) after (putIn tableR (reordered (widthOf tableR) tR) (putIn tableS (reordered (widthOf tableS) tS) (putIn tableC (reordered (widthOf tableC) tC) (putIn tableV (reordered (widthOf tableV) tV) (putIn tableM (reordered (widthOf tableM) tM) (cut b))))))
+    → after ≡ joined (orderedStore b)
 unfolding orderedStore
-all-ordered b after z tM tV tC tS eM eV eC eS l =
+all-ordered b after z tM tV tC tS tR eM eV eC eS eR l =
     l .bytes ∙ ap (λ (f : Which → Table). joined (record { header = cut b .header; table = f })) (fun-ext each)
   where
-    each : (k : Which) → putIn tableS tS (putIn tableC tC (putIn tableV tV (putIn tableM tM (cut b)))) .table k ≡ reordered (widthOf k) (cut b .table k)
-    each tableM = eM
-    each tableV = eV
-    each tableC = eC
-    each tableS = eS
+    each : (k : Which)
+        → putIn tableR (reordered (widthOf tableR) tR) (putIn tableS (reordered (widthOf tableS) tS) (putIn tableC (reordered (widthOf tableC) tC) (putIn tableV (reordered (widthOf tableV) tV) (putIn tableM (reordered (widthOf tableM) tM) (cut b))))) .table k
+        ≡ reordered (widthOf k) (cut b .table k)
+    each tableM = ap (reordered (widthOf tableM)) eM
+    each tableV = ap (reordered (widthOf tableV)) eV
+    each tableC = ap (reordered (widthOf tableC)) eC
+    each tableS = ap (reordered (widthOf tableS)) eS
+    each tableR = ap (reordered (widthOf tableR)) eR
 
-pub all-used : (b : List ℕ) (nM nV nC nS : ℕ) → nM ≡ length (used (cut b .table tableM)) → nV ≡ length (used (cut b .table tableV))
-    → nC ≡ length (used (cut b .table tableC)) → nS ≡ length (used (cut b .table tableS)) → nM + nV + nC + nS ≡ usedInAll (cut b)
+pub all-used : (b : List ℕ) (nM nV nC nS nR : ℕ) → nM ≡ length (used (cut b .table tableM)) → nV ≡ length (used (cut b .table tableV))
+    → nC ≡ length (used (cut b .table tableC)) → nS ≡ length (used (cut b .table tableS)) → nR ≡ length (used (cut b .table tableR))
+    → nM + nV + nC + nS + nR ≡ usedInAll (cut b)
 unfolding usedInAll
-all-used b nM nV nC nS eM eV eC eS = omega arith
+all-used b nM nV nC nS nR eM eV eC eS eR = omega arith
 
 -- no more rows of a table are used than it has
-pub few-used : (b : List ℕ) (z : Shape) → markedOf b ≡ Fit z → (k : Which) → length (used (cut b .table k)) ≤ 4096
-few-used b z e k =
-    let f = marked-fits b z e k in
-    omega (arith, free-used (cut b .table k), f .most, ap length (f .same), rows-length (widthOf k) (partIn z k .rows) (take (partIn z k .end - partIn z k .start) (drop (partIn z k .start) b)))
+pub few-used : (w n : ℕ) (t : List ℕ) → n ≤ 4096 → length (used (rows w n t)) ≤ 4096
+few-used w n t h = omega (arith, free-used (rows w n t), rows-length w n t)
 
 module _ (b : List ℕ) where
   pub order-refused : (r : Refusal) → markedOf b ≡ Refused r → (refusal r ≡ Order.order b .answer) × (b ≡ Order.order b .store)

@@ -8,11 +8,14 @@ ghost use Rattle.table.specs.Order.{reordered};
 ghost use Rattle.scheme.specs.Store.{tableM, widthOf, cut, joined};
 ghost use Rattle.scheme.specs.Order.{usedInAll, orderedStore, order as orderOf};
 ghost use Rattle.store.specs.Check.{markedOf};
+ghost use Rattle.store.specs.Tables.{tableOf, Within, Replaced};
 use answer::Counted;
 use store::C_WIDTH;
 use store::Checked;
 use store::M_WIDTH;
 use store::MOST_ROWS;
+use store::Part;
+use store::R_WIDTH;
 use store::S_WIDTH;
 use store::Shape;
 use store::V_WIDTH;
@@ -37,30 +40,35 @@ fn order_table(t: &mut [u8], w: usize, n: usize) -> u64
     u as u64
 }
 
+// The same for the table of a part. [02:W2.6 W2.7 W2.8]
+fn order_part(store: &mut [u8], part: Part, w: usize) -> u64
+    requires { ⌜ Within (now store) part w × (((1 ≤ w) × (w ≤ widthOf tableM)) × (part .rows ≤ 4096)) ⌝ }
+    ensures { λ r. ⌜ (r ≡ length (used (tableOf (now (store .entry)) part w))) × (r ≤ 4096) ⌝ }
+    ensures { λ _. ⌜ Replaced (now (store .entry)) part w (reordered w (tableOf (now (store .entry)) part w)) (now (store .exit)) ⌝ }
+{
+    let a = part.start;
+    let e = part.end;
+    order_table(&mut store[a..e], w, part.rows)
+}
+
 // Puts the tables of a store in form, one after the other, and tells how many rows are used in all of
-// them. [02:W2.6 W2.7 W2.8]
+// them. [02:W2.6 W2.7 W2.8 W4.1]
 fn order_all(store: &mut [u8], z: Shape) -> u64
     requires { ⌜ markedOf (now store) ≡ Checked.Fit z ⌝ }
     ensures { λ r. ⌜ r ≡ usedInAll (cut (now (store .entry))) ⌝ }
     ensures { λ _. ⌜ now (store .exit) ≡ joined (orderedStore (now (store .entry))) ⌝ }
 {
     let m = z.m;
-    let a = m.start;
-    let e = m.end;
-    let in_m = order_table(&mut store[a..e], M_WIDTH, m.rows);
     let v = z.v;
-    let a = v.start;
-    let e = v.end;
-    let in_v = order_table(&mut store[a..e], V_WIDTH, v.rows);
     let c = z.c;
-    let a = c.start;
-    let e = c.end;
-    let in_c = order_table(&mut store[a..e], C_WIDTH, c.rows);
     let s = z.s;
-    let a = s.start;
-    let e = s.end;
-    let in_s = order_table(&mut store[a..e], S_WIDTH, s.rows);
-    in_m + in_v + in_c + in_s
+    let r = z.r;
+    let in_m = order_part(store, m, M_WIDTH);
+    let in_v = order_part(store, v, V_WIDTH);
+    let in_c = order_part(store, c, C_WIDTH);
+    let in_s = order_part(store, s, S_WIDTH);
+    let in_r = order_part(store, r, R_WIDTH);
+    in_m + in_v + in_c + in_s + in_r
 }
 
 // Puts a store in form, whatever the order of its rows: every used row is kept. Refused by 10 and 11

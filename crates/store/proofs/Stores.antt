@@ -5,7 +5,7 @@ use mathlib.Core.List.{List}
 use native.Mathlib.Omega.{arith}
 use lib.ListN.{length, take, drop}
 use Rattle.octets.specs.Part.{back}
-use Rattle.octets.proofs.Parts.{length-part, length-back, part-back}
+use Rattle.octets.proofs.Parts.{length-part, part-back}
 use Rattle.table.specs.Table.{Table, rows}
 use Rattle.table.specs.Order.{usedRows, inForm}
 use Rattle.scheme.specs.Store.{Store, Which, widthOf, cut, putIn}
@@ -59,10 +59,6 @@ replaced b p w t ys i l e =
     let h = l ∙ length-part b (p .start) (p .end) (i .to) in
     let s : bytesOf (back b (p .start) (p .end) ys) p ≡ ys = part-back b (p .start) (p .end) ys (i .from) (i .to) h in
     record { bytes = ap (back b (p .start) (p .end)) (sym s); long = ap length s ∙ l; table = ap (rows w (p .rows)) s ∙ e }
-
-pub same-length : (b : List ℕ) (p : Part) (w : ℕ) (t : Table) (after : List ℕ) → Within b p w → Replaced b p w t after → length after ≡ length b
-same-length b p w t after i r =
-    ap length (r .bytes) ∙ length-back b (p .start) (p .end) (bytesOf after p) (i .from) (i .to) (r .long ∙ length-part b (p .start) (p .end) (i .to))
 
 module _ (z : Shape) (g : LaidStore z) (k : Which) where
   pub part-within : Within (g .bytes) (partIn z k) (widthOf k)

@@ -1,153 +1,107 @@
--- Each table in turn is lent, and comes back in form.
-use Prim.Native.Nat.{_≤_}
-use mathlib.Core.Path.{_≡_, ap, _∙_}
-use native.Mathlib.Omega.{arith}
+-- Each table in turn comes back in form.
+use Prim.Native.Nat.{ℕ, _≤_}
+use mathlib.Core.Path.{ap, _∙_}
 use lib.Dec.{lit≤}
 use lib.ListN.{length}
-use Rattle.table.specs.Table.{Table, rows, used}
-use Rattle.table.specs.Order.{reordered}
-use Rattle.scheme.specs.Store.{Which, widthOf, cut}
-use Rattle.store.proofs.Laws.{tableM, tableV, tableC, tableS, Fits, marked-fits, laid-marked}
-use Rattle.store.proofs.Stores.{LaidStore, put, put-end, part-long, part-rows, same-long}
-use Rattle.order.proofs.Laws.{all-ordered, all-used, few-used}
+use Rattle.table.specs.Table.{Table, used}
+use Rattle.scheme.specs.Store.{Which, cut}
+use Rattle.store.specs.Check.{partIn}
+use Rattle.store.proofs.Laws.{tableM, tableV, tableC, tableS, tableR, marked-fits, laid-marked}
+use Rattle.store.proofs.Stores.{LaidStore, part-within, part-rows, replace, same-long}
+use Rattle.order.proofs.Laws.{all-ordered, all-used}
+use borrow.Author.Needs.{needs}
 use Rattle.order.proofs.order_all.Statement.{statement}
 use Rattle.order.proofs.order_all.Tie as tie
 
-in-part : (s : tie.Start) (k : Which) → Fits (s .args .store .now) (s .args .z) k
-in-part s k = marked-fits (s .args .store .now) (s .args .z) (s .pre) k
-
--- the store before each lending, and after the last
+-- the store before each table is lent, and after the last
 abbrev store₀ : (s : tie.Start) → LaidStore (s .args .z)
 store₀ s = record { bytes = s .args .store .now; store = cut (s .args .store .now); laid = laid-marked (s .args .store .now) (s .args .z) (s .pre) }
 
-abbrev store₁ : (c : tie.After-order-table) → LaidStore (c .before .before .before .before .args .z)
-store₁ c = put (c .before .before .before .before .args .z) (store₀ (c .before .before .before .before)) tableM (c .order-table .last .0) (c .order-table .kept .0)
+abbrev start₁ : tie.After-order-part → tie.Start
+start₁ c = c .before .before .before .before .before .before .before .before
 
-abbrev store₂ : (c : tie.After-order-table2) → LaidStore (c .before .before .before .before .before .before .before .before .before .args .z)
-store₂ c = put (c .before .before .before .before .before .before .before .before .before .args .z) (store₁ (c .before .before .before .before .before)) tableV (c .order-table2 .last .0) (c .order-table2 .kept .0)
+abbrev store₁ : (c : tie.After-order-part) → LaidStore (start₁ c .args .z)
+store₁ c = replace (start₁ c .args .z) (store₀ (start₁ c)) tableM _ (c .order-part .last .0) (c .order-part .ensures .1)
 
-abbrev store₃ : (c : tie.After-order-table3) → LaidStore (c .before .before .before .before .before .before .before .before .before .before .before .before .before .before .args .z)
-store₃ c = put (c .before .before .before .before .before .before .before .before .before .before .before .before .before .before .args .z) (store₂ (c .before .before .before .before .before)) tableC (c .order-table3 .last .0) (c .order-table3 .kept .0)
+abbrev before₂ : tie.After-order-part2 → tie.After-order-part
+before₂ c = c .before .before .before .before
 
-abbrev store₄ : (c : tie.After-order-table4) → LaidStore (c .before .before .before .before .before .before .before .before .before .before .before .before .before .before .before .before .before .before .before .args .z)
-store₄ c = put (c .before .before .before .before .before .before .before .before .before .before .before .before .before .before .before .before .before .before .before .args .z) (store₃ (c .before .before .before .before .before)) tableS (c .order-table4 .last .0) (c .order-table4 .kept .0)
+abbrev start₂ : tie.After-order-part2 → tie.Start
+start₂ c = start₁ (before₂ c)
 
--- how many rows of each are used
-usedM : (c : tie.After-order-table) → c .order-table .result ≡ length (used (cut (c .before .before .before .before .args .store .now) .table tableM))
-usedM c = c .order-table .ensures .0 ∙ ap (λ (t : Table). length (used t)) (part-rows _ (store₀ (c .before .before .before .before)) tableM)
+abbrev store₂ : (c : tie.After-order-part2) → LaidStore (start₂ c .args .z)
+store₂ c = replace (start₂ c .args .z) (store₁ (before₂ c)) tableV _ (c .order-part2 .last .0) (c .order-part2 .ensures .1)
 
-usedV : (c : tie.After-order-table2) → c .order-table2 .result ≡ length (used (cut (c .before .before .before .before .before .before .before .before .before .args .store .now) .table tableV))
-usedV c = c .order-table2 .ensures .0 ∙ ap (λ (t : Table). length (used t)) (part-rows _ (store₁ (c .before .before .before .before .before)) tableV)
+abbrev before₃ : tie.After-order-part3 → tie.After-order-part2
+before₃ c = c .before .before .before .before
 
-usedC : (c : tie.After-order-table3) → c .order-table3 .result ≡ length (used (cut (c .before .before .before .before .before .before .before .before .before .before .before .before .before .before .args .store .now) .table tableC))
-usedC c = c .order-table3 .ensures .0 ∙ ap (λ (t : Table). length (used t)) (part-rows _ (store₂ (c .before .before .before .before .before)) tableC)
+abbrev start₃ : tie.After-order-part3 → tie.Start
+start₃ c = start₂ (before₃ c)
 
-usedS : (c : tie.After-order-table4) → c .order-table4 .result ≡ length (used (cut (c .before .before .before .before .before .before .before .before .before .before .before .before .before .before .before .before .before .before .before .args .store .now) .table tableS))
-usedS c = c .order-table4 .ensures .0 ∙ ap (λ (t : Table). length (used t)) (part-rows _ (store₃ (c .before .before .before .before .before)) tableS)
+abbrev store₃ : (c : tie.After-order-part3) → LaidStore (start₃ c .args .z)
+store₃ c = replace (start₃ c .args .z) (store₂ (before₃ c)) tableC _ (c .order-part3 .last .0) (c .order-part3 .ensures .1)
 
--- no more than the rows of a table
-few : (s : tie.Start) (k : Which) → length (used (cut (s .args .store .now) .table k)) ≤ 4096
-few s k = few-used (s .args .store .now) (s .args .z) (s .pre) k
+abbrev before₄ : tie.After-order-part4 → tie.After-order-part3
+before₄ c = c .before .before .before .before
 
-sub-order-table : tie.Need-sub-order-table
-sub-order-table c =
-    omega (arith, in-part (c .before .before) tableM)
+abbrev start₄ : tie.After-order-part4 → tie.Start
+start₄ c = start₃ (before₄ c)
 
-part-order-table-start : tie.Need-part-order-table-start
-part-order-table-start c =
-    omega (arith, in-part (c .before .before) tableM)
+abbrev store₄ : (c : tie.After-order-part4) → LaidStore (start₄ c .args .z)
+store₄ c = replace (start₄ c .args .z) (store₃ (before₄ c)) tableS _ (c .order-part4 .last .0) (c .order-part4 .ensures .1)
 
-part-order-table-end : tie.Need-part-order-table-end
-part-order-table-end c =
-    omega (arith, in-part (c .before .before) tableM)
+abbrev before₅ : tie.After-order-part5 → tie.After-order-part4
+before₅ c = c .before .before .before .before
 
-order-table-requires : tie.Need-order-table-requires
-order-table-requires c κs =
-    let s = c .before .before .before in ((lit≤ tt, lit≤ tt), (in-part s tableM .most, part-long _ (store₀ s) tableM))
+abbrev start₅ : tie.After-order-part5 → tie.Start
+start₅ c = start₄ (before₅ c)
 
-sub-order-table-2 : tie.Need-sub-order-table-2
-sub-order-table-2 c =
-    omega (arith, in-part (c .before .before .before .before .before .before .before) tableV)
+abbrev store₅ : (c : tie.After-order-part5) → LaidStore (start₅ c .args .z)
+store₅ c = replace (start₅ c .args .z) (store₄ (before₅ c)) tableR _ (c .order-part5 .last .0) (c .order-part5 .ensures .1)
 
-part-order-table-start-2 : tie.Need-part-order-table-start-2
-part-order-table-start-2 c =
-    omega (arith, in-part (c .before .before .before .before .before .before .before) tableV)
+few : (s : tie.Start) (k : Which) → partIn (s .args .z) k .rows ≤ 4096
+few s k = marked-fits (s .args .store .now) (s .args .z) (s .pre) k .most
 
-part-order-table-end-2 : tie.Need-part-order-table-end-2
-part-order-table-end-2 c =
-    omega (arith, put-end _ (store₁ (c .before .before .before)) tableV)
+order-part-requires : tie.Need-order-part-requires
+order-part-requires c κs = let s = c .before .before .before .before .before .before .before in (part-within _ (store₀ s) tableM, ((lit≤ tt, lit≤ tt), few s tableM))
 
-order-table-requires-2 : tie.Need-order-table-requires-2
-order-table-requires-2 c κs =
-    let s = c .before .before .before .before .before .before .before .before in ((lit≤ tt, lit≤ tt), (in-part s tableV .most, part-long _ (store₁ (c .before .before .before .before)) tableV))
+order-part-requires-2 : tie.Need-order-part-requires-2
+order-part-requires-2 c κs = let o = c .before .before .before in (part-within _ (store₁ o) tableV, ((lit≤ tt, lit≤ tt), few (start₁ o) tableV))
 
-sub-order-table-3 : tie.Need-sub-order-table-3
-sub-order-table-3 c =
-    omega (arith, in-part (c .before .before .before .before .before .before .before .before .before .before .before .before) tableC)
+order-part-requires-3 : tie.Need-order-part-requires-3
+order-part-requires-3 c κs = let o = c .before .before .before in (part-within _ (store₂ o) tableC, ((lit≤ tt, lit≤ tt), few (start₂ o) tableC))
 
-part-order-table-start-3 : tie.Need-part-order-table-start-3
-part-order-table-start-3 c =
-    omega (arith, in-part (c .before .before .before .before .before .before .before .before .before .before .before .before) tableC)
+order-part-requires-4 : tie.Need-order-part-requires-4
+order-part-requires-4 c κs = let o = c .before .before .before in (part-within _ (store₃ o) tableS, ((lit≤ tt, lit≤ tt), few (start₃ o) tableS))
 
-part-order-table-end-3 : tie.Need-part-order-table-end-3
-part-order-table-end-3 c =
-    omega (arith, put-end _ (store₂ (c .before .before .before)) tableC)
-
-order-table-requires-3 : tie.Need-order-table-requires-3
-order-table-requires-3 c κs =
-    let s = c .before .before .before .before .before .before .before .before .before .before .before .before .before in ((lit≤ tt, lit≤ tt), (in-part s tableC .most, part-long _ (store₂ (c .before .before .before .before)) tableC))
-
-sub-order-table-4 : tie.Need-sub-order-table-4
-sub-order-table-4 c =
-    omega (arith, in-part (c .before .before .before .before .before .before .before .before .before .before .before .before .before .before .before .before .before) tableS)
-
-part-order-table-start-4 : tie.Need-part-order-table-start-4
-part-order-table-start-4 c =
-    omega (arith, in-part (c .before .before .before .before .before .before .before .before .before .before .before .before .before .before .before .before .before) tableS)
-
-part-order-table-end-4 : tie.Need-part-order-table-end-4
-part-order-table-end-4 c =
-    omega (arith, put-end _ (store₃ (c .before .before .before)) tableS)
-
-order-table-requires-4 : tie.Need-order-table-requires-4
-order-table-requires-4 c κs =
-    let s = c .before .before .before .before .before .before .before .before .before .before .before .before .before .before .before .before .before .before in ((lit≤ tt, lit≤ tt), (in-part s tableS .most, part-long _ (store₃ (c .before .before .before .before)) tableS))
-
-add-result : tie.Need-add-result
-add-result c =
-    let s = c .before .before .before .before .before .before .before .before .before .before .before .before .before .before .before .before .before .before .before .before .before in
-    omega (arith, few s tableM, few s tableV, usedM (c .before .before .before .before .before .before .before .before .before .before .before .before .before .before .before .before .before), usedV (c .before .before .before .before .before .before .before .before .before .before .before .before))
-
-add-result-2 : tie.Need-add-result-2
-add-result-2 c =
-    let s = c .before .before .before .before .before .before .before .before .before .before .before .before .before .before .before .before .before .before .before .before .before in
-    omega (arith, few s tableM, few s tableV, few s tableC, usedM (c .before .before .before .before .before .before .before .before .before .before .before .before .before .before .before .before .before), usedV (c .before .before .before .before .before .before .before .before .before .before .before .before), usedC (c .before .before .before .before .before .before .before))
-
-add-result-3 : tie.Need-add-result-3
-add-result-3 c =
-    let s = c .before .before .before .before .before .before .before .before .before .before .before .before .before .before .before .before .before .before .before .before .before in
-    omega (arith, few s tableM, few s tableV, few s tableC, few s tableS, usedM (c .before .before .before .before .before .before .before .before .before .before .before .before .before .before .before .before .before), usedV (c .before .before .before .before .before .before .before .before .before .before .before .before), usedC (c .before .before .before .before .before .before .before), usedS (c .before .before))
+order-part-requires-5 : tie.Need-order-part-requires-5
+order-part-requires-5 c κs = let o = c .before .before .before in (part-within _ (store₄ o) tableR, ((lit≤ tt, lit≤ tt), few (start₄ o) tableR))
 
 same-length : tie.Need-same-length
-same-length c =
-    same-long _ (store₄ (c .before .before)) (store₀ (c .before .before .before .before .before .before .before .before .before .before .before .before .before .before .before .before .before .before .before .before .before))
+same-length c = let o = c .before .before in same-long _ (store₅ o) (store₀ (start₅ o))
 
 returns : tie.Need-returns
 returns c =
-    let o₁ = c .before .before .before .before .before .before .before .before .before .before .before .before .before .before .before .before .before in
-    let o₂ = c .before .before .before .before .before .before .before .before .before .before .before .before in
-    let o₃ = c .before .before .before .before .before .before .before in
-    let o₄ = c .before .before in
-    let s = c .before .before .before .before .before .before .before .before .before .before .before .before .before .before .before .before .before .before .before .before .before in
-    let z = s .args .z in (
-      all-used (s .args .store .now) _ _ _ _ (usedM o₁) (usedV o₂) (usedC o₃) (usedS o₄),
-      all-ordered (s .args .store .now) _ z _ _ _ _
-          (o₁ .order-table .ensures .1 ∙ ap (reordered (widthOf tableM)) (part-rows z (store₀ s) tableM))
-          (o₂ .order-table2 .ensures .1 ∙ ap (reordered (widthOf tableV)) (part-rows z (store₁ o₁) tableV))
-          (o₃ .order-table3 .ensures .1 ∙ ap (reordered (widthOf tableC)) (part-rows z (store₂ o₂) tableC))
-          (o₄ .order-table4 .ensures .1 ∙ ap (reordered (widthOf tableS)) (part-rows z (store₃ o₃) tableS))
-          (store₄ o₄ .laid),
+    let o₅ = c .before .before in
+    let o₄ = before₅ o₅ in
+    let o₃ = before₄ o₄ in
+    let o₂ = before₃ o₃ in
+    let o₁ = before₂ o₂ in
+    let s = start₁ o₁ in
+    let b = s .args .store .now in
+    let z = s .args .z in
+    let eM = part-rows z (store₀ s) tableM in
+    let eV = part-rows z (store₁ o₁) tableV in
+    let eC = part-rows z (store₂ o₂) tableC in
+    let eS = part-rows z (store₃ o₃) tableS in
+    let eR = part-rows z (store₄ o₄) tableR in
+    let many : Table → ℕ = λ t. length (used t) in (
+      all-used b _ _ _ _ _ (o₁ .order-part .ensures .0 .0 ∙ ap many eM) (o₂ .order-part2 .ensures .0 .0 ∙ ap many eV) (o₃ .order-part3 .ensures .0 .0 ∙ ap many eC) (o₄ .order-part4 .ensures .0 .0 ∙ ap many eS) (o₅ .order-part5 .ensures .0 .0 ∙ ap many eR),
+      all-ordered b (o₅ .order-part5 .last .0) z _ _ _ _ _ eM eV eC eS eR (store₅ o₅ .laid),
     )
 
 pub order-all-spec : {M : Type 1} → statement M
-order-all-spec = tie.close (tie.spec sub-order-table part-order-table-start part-order-table-end order-table-requires sub-order-table-2 part-order-table-start-2 part-order-table-end-2 order-table-requires-2 sub-order-table-3 part-order-table-start-3 part-order-table-end-3 order-table-requires-3 sub-order-table-4 part-order-table-start-4 part-order-table-end-4 order-table-requires-4 add-result add-result-2 add-result-3 same-length returns)
+order-all-spec =
+    tie.close
+    (tie.spec order-part-requires order-part-requires-2 order-part-requires-3 order-part-requires-4 order-part-requires-5
+    (λ c. search needs) (λ c. search needs) (λ c. search needs) (λ c. search needs) same-length returns)
