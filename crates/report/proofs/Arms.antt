@@ -43,7 +43,7 @@ arm {line = line} {before = before} {key = key} {random = random} {out = out} {e
 
 -- what a request does not take may be anything
 module _ {line before key out err after outAfter errAfter : List ℕ} {r : Ran} (random : List ℕ) where
-  pub found-any : Ends Find line before key [] out err r after outAfter errAfter → Ends Find line before key random out err r after outAfter errAfter
+  pub found-any : {n : ℕ} → Ends (Find n) line before key [] out err r after outAfter errAfter → Ends (Find n) line before key random out err r after outAfter errAfter
   found-any x = record { performed = x .performed; output = x .output; errors = x .errors }
 
   pub counted-any : {rows : Bool} → Ends (Count rows) line before key [] out err r after outAfter errAfter

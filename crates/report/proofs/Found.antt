@@ -10,16 +10,16 @@ use lib.Dec.{ltb}
 use lib.ListN.{length}
 use Rattle.answer.specs.Answer.{Answer, done, refused}
 use Rattle.answer.specs.Verdict.{Test, _⇒_, _⇒_carrying_, verdict, answerOr}
-use Rattle.table.specs.Lists.{anyOf, upTo}
-use Rattle.scheme.specs.Keys.{findTokenLength, findToken, findCL}
-use Rattle.scheme.specs.Labels.{Field}
-use Rattle.scheme.specs.Store.{sizesOf, stateTests}
-use Rattle.scheme.specs.Reading.{damaged}
-use Rattle.scheme.specs.Refusals.{tokenTests, fieldTokenTests}
-use Rattle.scheme.specs.Find.{shareReading, idsFound, findVerdict, find}
-use Rattle.scheme.specs.Run.{findCall, madeOr}
+use Rattle.scheme.specs.Keys.{findTokenLength}
+use Rattle.scheme.specs.Store.{stateTests}
+use Rattle.scheme.specs.Refusals.{tokenTests, partTests}
+use Rattle.scheme.specs.Find.{idsFound, findVerdict, find}
+use Rattle.scheme.specs.JointFind.{idsKept, jointVerdict, jointFind}
+use Rattle.scheme.specs.Call.{Part}
+use Rattle.scheme.specs.Run.{jointCall, madeOr}
 use Rattle.scheme.proofs.Verdicts.{after-none, passed}
 use Rattle.suite.specs.Program.{program}
+use Rattle.parts.specs.Parts.{partsTests, partsBytes}
 use Rattle.outcome.specs.Told.{told}
 use Rattle.outcome.specs.declared.Outcome.{Outcome}
 use Rattle.outcome.specs.declared.Outcome.the-variants.{Number, Counted, Compacted, Damaged, WrongKey, Refused, Done, BadWords}
@@ -39,36 +39,41 @@ never-done ((b ⇒ n carrying x) ∷ ts) l e = go b e (never-done ts l)
     go true e h = let z : _≡_ {A = ℕ} 0 1 = cc in omega arith
     go false e h = h e
 
-module _ (before token output : List ℕ) (n : ℕ) where
-  abbrev ids : ℕ
-  ids = length (idsFound program before token)
-
-  abbrev last : List Test
-  last =
-      (anyOf (λ u. damaged (shareReading program before (findCL token) u)) (upTo (sizesOf before .p)) ⇒ 13)
-      ∷ (ltb (length output) (16 * ids) ⇒ 18 carrying (ids ∷ []))
-      ∷ []
-
-  pub find-room : find program before token output .answer ≡ done (n ∷ []) → 16 * n ≤ length output
-  unfolding find findVerdict
-  find-room e = go (findVerdict program before token output) refl e
-    where
-      go : (v : Option Answer) → findVerdict program before token output ≡ v → answerOr v (done (ids ∷ [])) ≡ done (n ∷ []) → 16 * n ≤ length output
-      go none q h =
-          let k : ids ≡ n = cc in
-          let e = after-none (stateTests before) last (after-none (tokenTests findTokenLength token) (stateTests before ++ last) q) in
-          omega (arith, k, ltb-false (length output) (16 * ids) (passed (ltb (length output) (16 * ids)) (refused 18 (ids ∷ [])) none (passed (anyOf (λ u. damaged (shareReading program before (findCL token) u)) (upTo (sizesOf before .p))) (refused 13 []) (verdict ((ltb (length output) (16 * ids) ⇒ 18 carrying (ids ∷ [])) ∷ [])) e .1) .0))
-      go (some r) q h = absurd (never-done (tokenTests findTokenLength token ++ (stateTests before ++ last)) (n ∷ []) (q ∙ ap some h))
-
--- the same with the making of its token
-pub call-room : (before key output : List ℕ) (f : Field) (n : ℕ) → findCall program before key f output .answer ≡ done (n ∷ []) → 16 * n ≤ length output
-unfolding findCall
-call-room before key output f n e = go (verdict (fieldTokenTests key f)) refl e
+-- an answer that 18 is judged for last
+answer-room : (first second : List Test) (damage : Bool) (output : List ℕ) (ids n : ℕ)
+    → answerOr (verdict (first ++ (second ++ ((damage ⇒ 13) ∷ (ltb (length output) (16 * ids) ⇒ 18 carrying (ids ∷ [])) ∷ [])))) (done (ids ∷ [])) ≡ done (n ∷ [])
+    → 16 * n ≤ length output
+answer-room first second damage output ids n e = go (verdict (first ++ (second ++ last))) refl e
   where
-    go : (v : Option Answer) → verdict (fieldTokenTests key f) ≡ v
-        → madeOr v (find program before (findToken program key f) output) before output .answer ≡ done (n ∷ []) → 16 * n ≤ length output
-    go none q h = find-room before (findToken program key f) output n h
-    go (some r) q h = absurd (never-done (fieldTokenTests key f) (n ∷ []) (q ∙ ap some h))
+    last : List Test
+    last = (damage ⇒ 13) ∷ (ltb (length output) (16 * ids) ⇒ 18 carrying (ids ∷ [])) ∷ []
+
+    go : (v : Option Answer) → verdict (first ++ (second ++ last)) ≡ v → answerOr v (done (ids ∷ [])) ≡ done (n ∷ []) → 16 * n ≤ length output
+    go none q h =
+        let k : ids ≡ n = cc in
+        let e = after-none second last (after-none first (second ++ last) q) in
+        omega (arith, k, ltb-false (length output) (16 * ids) (passed (ltb (length output) (16 * ids)) (refused 18 (ids ∷ [])) none (passed damage (refused 13 []) (verdict ((ltb (length output) (16 * ids) ⇒ 18 carrying (ids ∷ [])) ∷ [])) e .1) .0))
+    go (some r) q h = absurd (never-done (first ++ (second ++ last)) (n ∷ []) (q ∙ ap some h))
+
+pub find-room : (before token output : List ℕ) (n : ℕ) → find program before token output .answer ≡ done (n ∷ []) → 16 * n ≤ length output
+unfolding find findVerdict
+find-room before token output n e =
+    answer-room (tokenTests findTokenLength token) (stateTests before) _ output (length (idsFound program before token)) n e
+
+joint-room : (before parts output : List ℕ) (n : ℕ) → jointFind program before parts output .answer ≡ done (n ∷ []) → 16 * n ≤ length output
+unfolding jointFind jointVerdict
+joint-room before parts output n e = answer-room (partTests parts) (stateTests before) _ output (length (idsKept program before parts)) n e
+
+-- the same with the makings of the parts
+pub call-room : (before : List ℕ) (parts : List Part) (output : List ℕ) (n : ℕ) → jointCall program before parts output .answer ≡ done (n ∷ [])
+    → 16 * n ≤ length output
+unfolding jointCall
+call-room before parts output n e = go (verdict (partsTests parts)) refl e
+  where
+    go : (v : Option Answer) → verdict (partsTests parts) ≡ v
+        → madeOr v (jointFind program before (partsBytes parts) output) before output .answer ≡ done (n ∷ []) → 16 * n ≤ length output
+    go none q h = joint-room before (partsBytes parts) output n h
+    go (some r) q h = absurd (never-done (partsTests parts) (n ∷ []) (q ∙ ap some h))
 
 -- what a find's outcome tells has room
 pub holds : (o : Outcome) (room : ℕ) → ((n : ℕ) → told o ≡ done (n ∷ []) → 16 * n ≤ room) → Holds o room

@@ -26,7 +26,9 @@ use Rattle.request.specs.Token.{tokenOf, tokenText}
 use Rattle.request.specs.declared.Request.{Request}
 use Rattle.request.specs.declared.Request.the-variants.{Help, Misused, NotNumber, NotId, New, Key, Insert, Find, Count, Erase, Compact, Order, Show, InsertToken, FindToken, CountToken, CompactionToken, InsertBy, FindBy, CountBy, CompactBy}
 use Rattle.advice.specs.Advise.{noRoom, roomFor, roomOf}
+use Rattle.advice.specs.declared.Room.{Room}
 use Rattle.outcome.specs.Told.{told, withRoom, Roomed}
+use Rattle.parts.specs.Parts.{partsOf}
 use Rattle.commands.specs.Insert.{insertResult}
 use Rattle.outcome.specs.declared.Outcome.{Outcome}
 use Rattle.outcome.specs.declared.Outcome.the-variants.{Number, Counted, Compacted, Damaged, WrongKey, Refused, Done, BadWords}
@@ -51,9 +53,12 @@ unfoldable pub lent : List ℕ
 lent = replicate 65536 0
 
 -- whether a file is a store
-abbrev pub showOf : Checked → Outcome
-showOf (Fit x) = Done
-showOf (Refused₀ r) = Refused r (roomOf (Refused₀ r))
+abbrev pub showBy : Checked → Room → Outcome
+showBy (Fit x) room = Done
+showBy (Refused₀ r) room = Refused r room
+
+abbrev pub showOf : List ℕ → Outcome
+showOf before = showBy (checkedOf before) (roomOf before)
 
 module _ (line before key random : List ℕ) where
   -- the outcome of a request, and the store after it: that of the call with the line's words. An insert takes the token's nonce
@@ -63,16 +68,16 @@ module _ (line before key random : List ℕ) where
   Performed (Misused c) o after = (o ≡ BadWords) × (after ≡ before)
   Performed (NotNumber i) o after = (o ≡ BadWords) × (after ≡ before)
   Performed (NotId i) o after = (o ≡ BadWords) × (after ≡ before)
-  Performed (New p m c s) o after =
-      (told o ≡ make (record { p = p; m = m; c = c; s = s }) before .answer)
-      × ((o ≡ withRoom noRoom o) × (after ≡ make (record { p = p; m = m; c = c; s = s }) before .store))
+  Performed (New p m c s r) o after =
+      (told o ≡ make (record { p = p; m = m; c = c; s = s; r = r }) before .answer)
+      × ((o ≡ withRoom noRoom o) × (after ≡ make (record { p = p; m = m; c = c; s = s; r = r }) before .store))
   Performed Key o after = (o ≡ Done) × (after ≡ before)
   Performed (Insert u n) o after =
       (told o ≡ insertResult (checkedOf before) before key (fieldIn line) u (take 12 random) (idsOf 6 n line) (drop 12 random) .answer)
       × ((after ≡ insertResult (checkedOf before) before key (fieldIn line) u (take 12 random) (idsOf 6 n line) (drop 12 random) .store)
       × Roomed before o)
-  Performed Find o after =
-      (told o ≡ perform program (Call.find key (fieldIn line) lent) before .answer) × ((after ≡ before) × Roomed before o)
+  Performed (Find n) o after =
+      (told o ≡ perform program (Call.jointFind (partsOf line key n) lent) before .answer) × ((after ≡ before) × Roomed before o)
   Performed (Count rows) o after =
       (told o ≡ perform program (Call.count key (fieldIn line)) before .answer) × ((after ≡ before) × Roomed before o)
   Performed Erase o after =
@@ -83,7 +88,7 @@ module _ (line before key random : List ℕ) where
       × ((after ≡ perform program (Call.compact key random) before .store) × Roomed before o)
   Performed Order o after =
       (told o ≡ perform program Call.order before .answer) × ((after ≡ perform program Call.order before .store) × Roomed before o)
-  Performed Show o after = (o ≡ showOf (checkedOf before)) × (after ≡ before)
+  Performed Show o after = (o ≡ showOf before) × (after ≡ before)
   Performed (InsertToken p u) o after =
       (told o ≡ makingAnswer (insertTokenTests key (fieldIn line) p u random)) × ((o ≡ withRoom (roomFor p) o) × (after ≡ before))
   Performed FindToken o after =
@@ -152,9 +157,9 @@ madeText Done token = hexLine token
 madeText BadWords token = answerLine BadWords
 
 -- how full a store is; or the refusal of what is none
-abbrev pub shownText : Checked → List ℕ
-shownText (Fit x) = shapeLines x
-shownText (Refused₀ r) = answerLine (showOf (Refused₀ r))
+abbrev pub shownText : Checked → Outcome → List ℕ
+shownText (Fit x) o = shapeLines x
+shownText (Refused₀ r) o = answerLine o
 
 -- what standard output gets
 abbrev pub outText : Request → List ℕ → List ℕ → List ℕ → List ℕ → Outcome → List ℕ
@@ -162,15 +167,15 @@ outText (Help c) line before key random o = helpText c
 outText (Misused c) line before key random o = answerLine o
 outText (NotNumber i) line before key random o = answerLine o
 outText (NotId i) line before key random o = answerLine o
-outText (New p m c s) line before key random o = answerLine o
+outText (New p m c s r) line before key random o = answerLine o
 outText Key line before key random o = answerLine o
 outText (Insert u n) line before key random o = answerLine o
-outText Find line before key random o = foundText o (perform program (Call.find key (fieldIn line) lent) before .output)
+outText (Find n) line before key random o = foundText o (perform program (Call.jointFind (partsOf line key n) lent) before .output)
 outText (Count rows) line before key random o = countText rows o
 outText Erase line before key random o = answerLine o
 outText Compact line before key random o = answerLine o
 outText Order line before key random o = answerLine o
-outText Show line before key random o = shownText (checkedOf before)
+outText Show line before key random o = shownText (checkedOf before) o
 outText (InsertToken p u) line before key random o = madeText o (insertToken program key (fieldIn line) p u random)
 outText FindToken line before key random o = madeText o (findToken program key (fieldIn line))
 outText CountToken line before key random o = madeText o (countToken program key (fieldIn line))
@@ -190,10 +195,10 @@ errText (Help c) line o = []
 errText (Misused c) line o = ascii "expected: " ++ usageLine c
 errText (NotNumber i) line o = badWord (ascii "not a number below 1000000000: ") (wordAt i line)
 errText (NotId i) line o = badWord (ascii "not an id, which is 32 hex digits: ") (wordAt i line)
-errText (New p m c s) line o = messageLine o 0
+errText (New p m c s r) line o = messageLine o 0
 errText Key line o = messageLine o 0
 errText (Insert u n) line o = messageLine o n
-errText Find line o = messageLine o 0
+errText (Find n) line o = messageLine o 0
 errText (Count rows) line o = messageLine o 0
 errText Erase line o = messageLine o 0
 errText Compact line o = messageLine o 0
