@@ -6,20 +6,17 @@ use native.Mathlib.Omega.{arith}
 use lib.ListN.{length, take, drop, length-drop, drop-of-length-le}
 use lib.Seq.{take-all}
 use Rattle.answer.specs.declared.Refusal.{Refusal}
-use Rattle.scheme.specs.Call.{Call}
 use Rattle.scheme.specs.Labels.{Field}
-use Rattle.scheme.specs.Run.{perform}
-use Rattle.suite.specs.Program.{program}
 use Rattle.client.specs.Making.{fieldOf}
 use Rattle.store.specs.declared.Checked.{Checked}
 use Rattle.store.specs.declared.Checked.the-variants.{Refused as Refused₀}
 use Rattle.words.specs.Line.{wordAt}
-use Rattle.advice.specs.Advise.{roomOf}
 use Rattle.advice.specs.declared.Room.{Room}
 use Rattle.commands.specs.Insert.{insertResult}
+use Rattle.outcome.specs.declared.Outcome.{Outcome}
 use Rattle.outcome.specs.declared.Outcome.the-variants.{Refused}
 use Rattle.lines.specs.Answer.{answerLine}
-use Rattle.report.specs.Run.{fieldIn, lent, showOf, shownText}
+use Rattle.report.specs.Run.{fieldIn, showBy, shownText}
 
 -- the random bytes of an insert, parted: fewer than 12 are all the token's
 pub clipped : (random : List ℕ) (a : ℕ) → a ≡ min 12 (length random) → take a random ≡ take 12 random
@@ -46,15 +43,9 @@ inserted x before key u line name value nonce ids nonces n k d e f g h i =
     ∙ ap (λ (z : List ℕ). insertResult x before key (fieldIn line) u z ids nonces) g
     ∙ ap₂ (λ (y z : List ℕ). insertResult x before key (fieldIn line) u n y z) h i
 
--- a find with the line's words
-pub found : (line before key name value given : List ℕ) → name ≡ wordAt 3 line → value ≡ wordAt 4 line → given ≡ lent
-    → perform program (Call.find key (fieldOf name value) given) before ≡ perform program (Call.find key (fieldIn line) lent) before
-found line before key name value given e f g =
-    ap₂ (λ (x : Field) (y : List ℕ). perform program (Call.find key x y) before) (ap₂ fieldOf e f) g
-
 -- a file that is no store, and one that is
-pub shown-refused : (x : Checked) (e : Refusal) (room : Room) → x ≡ Refused₀ e → room ≡ roomOf x → Refused e room ≡ showOf x
-shown-refused x e room h k = ap (Refused e) (k ∙ ap roomOf h) ∙ sym (ap showOf h)
+pub shown-refused : (x : Checked) (e : Refusal) (room now : Room) → x ≡ Refused₀ e → room ≡ now → Refused e room ≡ showBy x now
+shown-refused x e room now h k = ap (Refused e) k ∙ sym (ap (λ (z : Checked). showBy z now) h)
 
-pub shown-text : (x : Checked) (e : Refusal) → x ≡ Refused₀ e → answerLine (showOf x) ≡ shownText x
-shown-text x e h = ap (λ (z : Checked). answerLine (showOf z)) h ∙ sym (ap shownText h)
+pub shown-text : (x : Checked) (e : Refusal) (o : Outcome) → x ≡ Refused₀ e → answerLine o ≡ shownText x o
+shown-text x e o h = sym (ap (λ (z : Checked). shownText z o) h)

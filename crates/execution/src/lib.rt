@@ -65,18 +65,12 @@ pub fn insert(
     insert_ids(line, u, n, &mut ids[..e], store, key, random, out, err)
 }
 
-pub fn find(line: &[u8], store: &[u8], key: &[u8], out: &mut [u8], err: &mut [u8]) -> Ran
-    requires { ⌜ (135168 ≤ length (now out)) × (256 ≤ length (now err)) ⌝ }
-    ensures { λ r. ⌜ Ends Request.Find (now (line .entry)) (now (store .entry)) (now (key .entry)) [] (now (out .entry)) (now (err .entry)) r (now (store .entry)) (now (out .exit)) (now (err .exit)) ⌝ }
+pub fn find(line: &[u8], n: usize, store: &[u8], key: &[u8], out: &mut [u8], err: &mut [u8]) -> Ran
+    requires { ⌜ (n ≤ 8) × ((135168 ≤ length (now out)) × (256 ≤ length (now err))) ⌝ }
+    ensures { λ r. ⌜ Ends (Request.Find n) (now (line .entry)) (now (store .entry)) (now (key .entry)) [] (now (out .entry)) (now (err .entry)) r (now (store .entry)) (now (out .exit)) (now (err .exit)) ⌝ }
 {
     let mut ids = blank();
-    let o = commands::find(
-        store,
-        key,
-        line::word(line, 3),
-        line::word(line, 4),
-        &mut ids,
-    );
+    let o = commands::find(store, key, line, n, &mut ids);
     told_ids(o, &ids, out, err)
 }
 
