@@ -19,7 +19,7 @@ ghost use Rattle.report.specs.Run.{madeText, Ends};
 
 // The digits of a token that was made; or its refusal.
 fn told_token(o: Outcome, token: &[u8], out: &mut [u8], err: &mut [u8]) -> Ran
-    requires { ⌜ (length (now token) ≤ 141) × ((512 ≤ length (now out)) × (256 ≤ length (now err))) ⌝ }
+    requires { ⌜ (length (now token) ≤ 173) × ((512 ≤ length (now out)) × (256 ≤ length (now err))) ⌝ }
     ensures { λ r. ⌜ r .outcome ≡ o ⌝ }
     ensures { λ r. ⌜ Put (now (out .entry)) 0 (madeText o (now (token .entry))) (now (out .exit)) (r .out) ⌝ }
     ensures { λ r. ⌜ Put (now (err .entry)) 0 (messageLine o 0) (now (err .exit)) (r .err) ⌝ }

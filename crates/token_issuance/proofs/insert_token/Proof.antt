@@ -21,16 +21,16 @@ use Rattle.token_issuance.proofs.insert_token.Statement.{statement}
 use Rattle.token_issuance.proofs.insert_token.Tie as tie
 
 slice-aggregate-told-token : tie.Need-slice-aggregate-told-token
-slice-aggregate-told-token c = sym (made-length (insertTokenTests (c .before .before .before .before .before .before .before .before .before .before .args .key .now) (fieldOf (c .before .before .before .before .word .result .now) (c .before .before .before .word2 .result .now)) (c .before .before .before .before .before .before .before .before .before .before .args .p) (c .before .before .before .before .before .before .before .before .before .before .args .u) (c .before .before .before .before .before .before .before .before .before .before .args .random .now)) (insertToken program (c .before .before .before .before .before .before .before .before .before .before .args .key .now) (fieldOf (c .before .before .before .before .word .result .now) (c .before .before .before .word2 .result .now)) (c .before .before .before .before .before .before .before .before .before .before .args .p) (c .before .before .before .before .before .before .before .before .before .before .args .u) (c .before .before .before .before .before .before .before .before .before .before .args .random .now)) (replicate 141 0) (c .before .insert-token .last .1 .1 .1 .1 .1 .1 .0) (c .before .insert-token .ensures .1 .1) 141 (λ v. token-length program (c .before .before .before .before .before .before .before .before .before .before .args .key .now) (fieldOf (c .before .before .before .before .word .result .now) (c .before .before .before .word2 .result .now)) (c .before .before .before .before .before .before .before .before .before .before .args .p) (c .before .before .before .before .before .before .before .before .before .before .args .u) (c .before .before .before .before .before .before .before .before .before .before .args .random .now) (nonce-length (c .before .before .before .before .before .before .before .before .before .before .args .key .now) (fieldOf (c .before .before .before .before .word .result .now) (c .before .before .before .word2 .result .now)) (c .before .before .before .before .before .before .before .before .before .before .args .p) (c .before .before .before .before .before .before .before .before .before .before .args .u) (c .before .before .before .before .before .before .before .before .before .before .args .random .now) v)) refl)
+slice-aggregate-told-token c = sym (made-length (insertTokenTests (c .before .before .before .before .before .before .before .before .before .before .args .key .now) (fieldOf (c .before .before .before .before .word .result .now) (c .before .before .before .word2 .result .now)) (c .before .before .before .before .before .before .before .before .before .before .args .p) (c .before .before .before .before .before .before .before .before .before .before .args .u) (c .before .before .before .before .before .before .before .before .before .before .args .random .now)) (insertToken program (c .before .before .before .before .before .before .before .before .before .before .args .key .now) (fieldOf (c .before .before .before .before .word .result .now) (c .before .before .before .word2 .result .now)) (c .before .before .before .before .before .before .before .before .before .before .args .p) (c .before .before .before .before .before .before .before .before .before .before .args .u) (c .before .before .before .before .before .before .before .before .before .before .args .random .now)) (replicate 173 0) (c .before .insert-token .last .1 .1 .1 .1 .1 .1 .0) (c .before .insert-token .ensures .1 .1) 173 (λ v. token-length program (c .before .before .before .before .before .before .before .before .before .before .args .key .now) (fieldOf (c .before .before .before .before .word .result .now) (c .before .before .before .word2 .result .now)) (c .before .before .before .before .before .before .before .before .before .before .args .p) (c .before .before .before .before .before .before .before .before .before .before .args .u) (c .before .before .before .before .before .before .before .before .before .before .args .random .now) (nonce-length (c .before .before .before .before .before .before .before .before .before .before .args .key .now) (fieldOf (c .before .before .before .before .word .result .now) (c .before .before .before .word2 .result .now)) (c .before .before .before .before .before .before .before .before .before .before .args .p) (c .before .before .before .before .before .before .before .before .before .before .args .u) (c .before .before .before .before .before .before .before .before .before .before .args .random .now) v)) refl)
 
 told-token-requires : tie.Need-told-token-requires
-told-token-requires c κs = (omega (arith, made-length (insertTokenTests (c .before .before .before .before .before .before .before .before .before .before .before .before .args .key .now) (fieldOf (c .before .before .before .before .before .before .word .result .now) (c .before .before .before .before .before .word2 .result .now)) (c .before .before .before .before .before .before .before .before .before .before .before .before .args .p) (c .before .before .before .before .before .before .before .before .before .before .before .before .args .u) (c .before .before .before .before .before .before .before .before .before .before .before .before .args .random .now)) (insertToken program (c .before .before .before .before .before .before .before .before .before .before .before .before .args .key .now) (fieldOf (c .before .before .before .before .before .before .word .result .now) (c .before .before .before .before .before .word2 .result .now)) (c .before .before .before .before .before .before .before .before .before .before .before .before .args .p) (c .before .before .before .before .before .before .before .before .before .before .before .before .args .u) (c .before .before .before .before .before .before .before .before .before .before .before .before .args .random .now)) (replicate 141 0) (c .before .before .before .insert-token .last .1 .1 .1 .1 .1 .1 .0) (c .before .before .before .insert-token .ensures .1 .1) 141 (λ v. token-length program (c .before .before .before .before .before .before .before .before .before .before .before .before .args .key .now) (fieldOf (c .before .before .before .before .before .before .word .result .now) (c .before .before .before .before .before .word2 .result .now)) (c .before .before .before .before .before .before .before .before .before .before .before .before .args .p) (c .before .before .before .before .before .before .before .before .before .before .before .before .args .u) (c .before .before .before .before .before .before .before .before .before .before .before .before .args .random .now) (nonce-length (c .before .before .before .before .before .before .before .before .before .before .before .before .args .key .now) (fieldOf (c .before .before .before .before .before .before .word .result .now) (c .before .before .before .before .before .word2 .result .now)) (c .before .before .before .before .before .before .before .before .before .before .before .before .args .p) (c .before .before .before .before .before .before .before .before .before .before .before .before .args .u) (c .before .before .before .before .before .before .before .before .before .before .before .before .args .random .now) v)) refl), c .before .before .before .before .before .before .before .before .before .before .before .before .pre)
+told-token-requires c κs = (omega (arith, made-length (insertTokenTests (c .before .before .before .before .before .before .before .before .before .before .before .before .args .key .now) (fieldOf (c .before .before .before .before .before .before .word .result .now) (c .before .before .before .before .before .word2 .result .now)) (c .before .before .before .before .before .before .before .before .before .before .before .before .args .p) (c .before .before .before .before .before .before .before .before .before .before .before .before .args .u) (c .before .before .before .before .before .before .before .before .before .before .before .before .args .random .now)) (insertToken program (c .before .before .before .before .before .before .before .before .before .before .before .before .args .key .now) (fieldOf (c .before .before .before .before .before .before .word .result .now) (c .before .before .before .before .before .word2 .result .now)) (c .before .before .before .before .before .before .before .before .before .before .before .before .args .p) (c .before .before .before .before .before .before .before .before .before .before .before .before .args .u) (c .before .before .before .before .before .before .before .before .before .before .before .before .args .random .now)) (replicate 173 0) (c .before .before .before .insert-token .last .1 .1 .1 .1 .1 .1 .0) (c .before .before .before .insert-token .ensures .1 .1) 173 (λ v. token-length program (c .before .before .before .before .before .before .before .before .before .before .before .before .args .key .now) (fieldOf (c .before .before .before .before .before .before .word .result .now) (c .before .before .before .before .before .word2 .result .now)) (c .before .before .before .before .before .before .before .before .before .before .before .before .args .p) (c .before .before .before .before .before .before .before .before .before .before .before .before .args .u) (c .before .before .before .before .before .before .before .before .before .before .before .before .args .random .now) (nonce-length (c .before .before .before .before .before .before .before .before .before .before .before .before .args .key .now) (fieldOf (c .before .before .before .before .before .before .word .result .now) (c .before .before .before .before .before .word2 .result .now)) (c .before .before .before .before .before .before .before .before .before .before .before .before .args .p) (c .before .before .before .before .before .before .before .before .before .before .before .before .args .u) (c .before .before .before .before .before .before .before .before .before .before .before .before .args .random .now) v)) refl), c .before .before .before .before .before .before .before .before .before .before .before .before .pre)
 
 returns : tie.Need-returns
 returns c =
     ended (InsertToken (c .before .before .before .before .before .before .before .before .before .before .before .before .before .before .before .before .before .args .p) (c .before .before .before .before .before .before .before .before .before .before .before .before .before .before .before .before .before .args .u)) (c .before .before .before .before .before .before .before .before .before .before .before .before .before .before .before .before .before .args .line .now) [] (c .before .before .before .before .before .before .before .before .before .before .before .before .before .before .before .before .before .args .key .now) (c .before .before .before .before .before .before .before .before .before .before .before .before .before .before .before .before .before .args .random .now) [] (c .before .before .before .before .before .before .before .before .insert-token .result) (c .before .before .before .before .told-token .result) (c .before .before .before .before .told-token .ensures .0)
     (c .before .before .before .before .before .before .before .before .insert-token .ensures .0 ∙ ap (λ (f : Field). makingAnswer (insertTokenTests (c .before .before .before .before .before .before .before .before .before .before .before .before .before .before .before .before .before .args .key .now) f (c .before .before .before .before .before .before .before .before .before .before .before .before .before .before .before .before .before .args .p) (c .before .before .before .before .before .before .before .before .before .before .before .before .before .before .before .before .before .args .u) (c .before .before .before .before .before .before .before .before .before .before .before .before .before .before .before .before .before .args .random .now))) (ap₂ fieldOf (c .before .before .before .before .before .before .before .before .before .before .before .word .ensures) (c .before .before .before .before .before .before .before .before .before .before .word2 .ensures)), (c .before .before .before .before .before .before .before .before .insert-token .ensures .1 .0, refl))
-    (said (made-text (insertTokenTests (c .before .before .before .before .before .before .before .before .before .before .before .before .before .before .before .before .before .args .key .now) (fieldOf (c .before .before .before .before .before .before .before .before .before .before .before .word .result .now) (c .before .before .before .before .before .before .before .before .before .before .word2 .result .now)) (c .before .before .before .before .before .before .before .before .before .before .before .before .before .before .before .before .before .args .p) (c .before .before .before .before .before .before .before .before .before .before .before .before .before .before .before .before .before .args .u) (c .before .before .before .before .before .before .before .before .before .before .before .before .before .before .before .before .before .args .random .now)) (insertToken program (c .before .before .before .before .before .before .before .before .before .before .before .before .before .before .before .before .before .args .key .now) (fieldOf (c .before .before .before .before .before .before .before .before .before .before .before .word .result .now) (c .before .before .before .before .before .before .before .before .before .before .word2 .result .now)) (c .before .before .before .before .before .before .before .before .before .before .before .before .before .before .before .before .before .args .p) (c .before .before .before .before .before .before .before .before .before .before .before .before .before .before .before .before .before .args .u) (c .before .before .before .before .before .before .before .before .before .before .before .before .before .before .before .before .before .args .random .now)) (replicate 141 0) (c .before .before .before .before .before .before .before .before .insert-token .last .1 .1 .1 .1 .1 .1 .0) (c .before .before .before .before .before .before .before .before .insert-token .ensures .1 .1) (c .before .before .before .before .before .before .before .before .insert-token .result) (c .before .before .before .before .before .before .before .before .insert-token .ensures .0) ∙ ap (λ (f : Field). madeText (c .before .before .before .before .before .before .before .before .insert-token .result) (insertToken program (c .before .before .before .before .before .before .before .before .before .before .before .before .before .before .before .before .before .args .key .now) f (c .before .before .before .before .before .before .before .before .before .before .before .before .before .before .before .before .before .args .p) (c .before .before .before .before .before .before .before .before .before .before .before .before .before .before .before .before .before .args .u) (c .before .before .before .before .before .before .before .before .before .before .before .before .before .before .before .before .before .args .random .now))) (ap₂ fieldOf (c .before .before .before .before .before .before .before .before .before .before .before .word .ensures) (c .before .before .before .before .before .before .before .before .before .before .word2 .ensures))) (c .before .before .before .before .told-token .ensures .1 .0)) (c .before .before .before .before .told-token .ensures .1 .1)
+    (said (made-text (insertTokenTests (c .before .before .before .before .before .before .before .before .before .before .before .before .before .before .before .before .before .args .key .now) (fieldOf (c .before .before .before .before .before .before .before .before .before .before .before .word .result .now) (c .before .before .before .before .before .before .before .before .before .before .word2 .result .now)) (c .before .before .before .before .before .before .before .before .before .before .before .before .before .before .before .before .before .args .p) (c .before .before .before .before .before .before .before .before .before .before .before .before .before .before .before .before .before .args .u) (c .before .before .before .before .before .before .before .before .before .before .before .before .before .before .before .before .before .args .random .now)) (insertToken program (c .before .before .before .before .before .before .before .before .before .before .before .before .before .before .before .before .before .args .key .now) (fieldOf (c .before .before .before .before .before .before .before .before .before .before .before .word .result .now) (c .before .before .before .before .before .before .before .before .before .before .word2 .result .now)) (c .before .before .before .before .before .before .before .before .before .before .before .before .before .before .before .before .before .args .p) (c .before .before .before .before .before .before .before .before .before .before .before .before .before .before .before .before .before .args .u) (c .before .before .before .before .before .before .before .before .before .before .before .before .before .before .before .before .before .args .random .now)) (replicate 173 0) (c .before .before .before .before .before .before .before .before .insert-token .last .1 .1 .1 .1 .1 .1 .0) (c .before .before .before .before .before .before .before .before .insert-token .ensures .1 .1) (c .before .before .before .before .before .before .before .before .insert-token .result) (c .before .before .before .before .before .before .before .before .insert-token .ensures .0) ∙ ap (λ (f : Field). madeText (c .before .before .before .before .before .before .before .before .insert-token .result) (insertToken program (c .before .before .before .before .before .before .before .before .before .before .before .before .before .before .before .before .before .args .key .now) f (c .before .before .before .before .before .before .before .before .before .before .before .before .before .before .before .before .before .args .p) (c .before .before .before .before .before .before .before .before .before .before .before .before .before .before .before .before .before .args .u) (c .before .before .before .before .before .before .before .before .before .before .before .before .before .before .before .before .before .args .random .now))) (ap₂ fieldOf (c .before .before .before .before .before .before .before .before .before .before .before .word .ensures) (c .before .before .before .before .before .before .before .before .before .before .word2 .ensures))) (c .before .before .before .before .told-token .ensures .1 .0)) (c .before .before .before .before .told-token .ensures .1 .1)
 
 pub insert-token-spec : {M : Type 1} → statement M
 insert-token-spec =
