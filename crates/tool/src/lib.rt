@@ -100,12 +100,12 @@ pub fn run(
             out,
             err,
         ),
-        Request::New { p, m, c, s } => {
-            report::answered(commands::make(p, m, c, s, store), 0, out, err)
+        Request::New { p, m, c, s, r } => {
+            report::answered(commands::make(p, m, c, s, r, store), 0, out, err)
         }
         Request::Key => report::answered(Outcome::Done, 0, out, err),
         Request::Insert { u, n } => execution::insert(line, u, n, store, key, random, out, err),
-        Request::Find => execution::find(line, store, key, out, err),
+        Request::Find { pairs } => execution::find(line, pairs, store, key, out, err),
         Request::Count { rows } => execution::count(line, rows, store, key, out, err),
         Request::Erase => execution::erase(line, store, out, err),
         Request::Compact => { report::answered(commands::compact(store, key, random), 0, out, err) }
