@@ -223,7 +223,7 @@ def making(build):
     """7 before 8, the lengths by the formula [01:ST3] [02:W4.8], the header [02:W4.5 W4.7], [01:RI8] [02:W4.2], [01:RI9]."""
     expect("287", scheme.length_of(1, 1, 1, 1), 287)
     expect("1118", scheme.length_of(4, 4, 4, 4), 1118)
-    expect("582", scheme.length_of(1, 2, 3, 3), 10 + 110 + 122 + 135 + 183)
+    expect("560", scheme.length_of(1, 2, 3, 3), 560)
     model = build(Cheap)
     for length, p, m, c, s, r, wanted in (
             (287, 16, 1, 1, 1, 1, 7), (287, 0, 0, 1, 1, 1, 7), (287, 0, 1, 4097, 1, 1, 7), (287, 0, 1, 1, 1, 0, 7),

@@ -2,7 +2,7 @@
 'Refusals from the state', with requests 1 to 4 of document 02, for all inputs, hostile stores among them.
 Written from the papers.
 
-Each table's rows fix its bytes [02:W2.5]: `arranged`. What leaves the row placing open is in older.py.
+Each table's rows fix its bytes [02:W2.5]: `arranged`. What leaves the row placing open is in placing.py.
 """
 import struct
 from bisect import bisect_left
