@@ -11,9 +11,9 @@ use lib.Dec.{T, ltb, eqb, lit<, eqb→eq}
 use lib.ListN.{length, drop, length-append, length-map}
 use Rattle.answer.specs.Answer.{Answer, done, refused, withoutRows}
 use Rattle.answer.specs.Verdict.{Test, _⇒_, _⇒_carrying_, verdict, answerOr}
-use Rattle.table.specs.Lists.{anyOf, sum, upTo}
+use Rattle.table.specs.Lists.{anyOf, allOf, select, sum, upTo}
 use Rattle.table.specs.Table.{Table, used, lookup}
-use Rattle.table.proofs.Counting.{count-le}
+use Rattle.table.proofs.Counting.{count-length, count-le, count-select}
 use Rattle.table.proofs.Distinct.{distinct-few}
 use Rattle.table.proofs.Rows.{rows-length, free-used}
 use Rattle.table.proofs.Below.{flat-length-sum}
@@ -22,13 +22,15 @@ use Rattle.hmac.specs.Hmac.{macTests, macAnswer}
 use Rattle.chacha20.specs.Call.{cipherTests, cipherAnswer}
 use Rattle.client.specs.Making.{makingAnswer}
 use Rattle.scheme.specs.Labels.{Field}
-use Rattle.scheme.specs.Keys.{insertTokenLength, findTokenLength, countTokenLength, compactionTokenLength, tokenCL, findCL}
-use Rattle.scheme.specs.Store.{Sizes, Which, tableM, tableV, tableC, tableS, widthOf, rowsOf, startOf, makeTests, make, cut, sizesOf, headerBad, markTests, stateTests, entryTag, clIn}
+use Rattle.scheme.specs.Keys.{insertTokenLength, findTokenLength, countTokenLength, compactionTokenLength, markTokenLength, tokenCL, findCL, partFind}
+use Rattle.scheme.specs.Store.{Sizes, Which, tableM, tableV, tableC, tableS, tableR, widthOf, rowsOf, startOf, makeTests, make, cut, sizesOf, headerBad, markTests, stateTests, entryTag, clIn}
 use Rattle.scheme.specs.Reading.{Reading, damage, counter, limit, countOf, damaged, reading}
-use Rattle.scheme.specs.Refusals.{tokenTests, idTests, insertInputTests, compactionInputTests, insertTokenTests, fieldTokenTests, keyTests}
+use Rattle.scheme.specs.Refusals.{tokenTests, partTests, partsIn, idTests, insertInputTests, compactionInputTests, insertTokenTests, fieldTokenTests, keyTests}
 use Rattle.scheme.specs.Insert.{insertReading, newCount, insertStateTests, insertVerdict, insert}
 use Rattle.scheme.specs.Erase.{isReverse, eraseVerdict, erase}
 use Rattle.scheme.specs.Find.{idOf, idsTo, shareReading, idsOfShare, idsHeld, idsFound, findVerdict, find}
+use Rattle.scheme.specs.Test.{tests, yesOrNo, testVerdict, test}
+use Rattle.scheme.specs.JointFind.{without, partDamaged, partIds, partTest, chosenAt, chosenPart, idsKept, jointVerdict, jointFind}
 use Rattle.scheme.specs.Count.{countVerdict, sumOfCounts, fullCount, count}
 use Rattle.scheme.specs.Compaction.{Treated, byReading, treatAll, logOf, logged, compactVerdict, treated, compact}
 use Rattle.scheme.specs.Order.{usedInAll, orderVerdict, order}
@@ -99,7 +101,7 @@ unfolding insert insertVerdict insertInputTests tokenTests stateTests insertStat
 insert-fits before ids nonces token h =
     let n = count-small (sizesOf before .c) (tokenCL token) (cut before .table tableC) in
     bounded (insertInputTests ids nonces ++ (tokenTests insertTokenLength token ++ (stateTests before ++ insertStateTests program before ids nonces token))) (done (newCount program before ids token ∷ []))
-    (tt, λ _. (tt, λ _. (tt, λ _. (tt, λ _. (tt, λ _. (tt, λ _. (tt, λ _. (tt, λ _. (tt, λ _. (tt, λ _. (tt, λ _. (tt, λ _. record { small = omega (arith, n, h); gives = one }))))))))))))
+    (tt, λ _. (tt, λ _. (tt, λ _. (tt, λ _. (tt, λ _. (tt, λ _. (tt, λ _. (tt, λ _. (tt, λ _. (tt, λ _. (tt, λ _. (tt, λ _. (tt, λ _. record { small = omega (arith, n, h); gives = one })))))))))))))
 
 pub erase-fits : (before id : List ℕ) → Fits 1 (erase before id .answer)
 unfolding erase eraseVerdict idTests stateTests
@@ -167,6 +169,35 @@ find-fits before token output =
     bounded (tokenTests findTokenLength token ++ (stateTests before ++ ((anyOf (λ u. damaged (shareReading program before (findCL token) u)) (upTo (sizesOf before .p)) ⇒ 13) ∷ (ltb (length output) (16 * n) ⇒ 18 carrying (n ∷ [])) ∷ []))) _
     (tt, λ _. (tt, λ h. (tt, λ _. (tt, λ _. (tt, λ _. (record { small = omega (arith, found-few before token h); gives = (omega arith, omega arith, one) }, λ _. record { small = omega (arith, found-few before token h); gives = one }))))))
 
+-- a selection is no longer than its list
+select-few : {A : Type 0} (p : A → Bool) (l : List A) → length (select p l) ≤ length l
+select-few {A} p l =
+    omega (arith, count-length (select p l), count-select p (λ (x : A). true) l, count-le (λ (x : A). p x && true) l)
+
+kept-few : (before parts : List ℕ) → headerBad before ≡ false → length (idsKept program before parts) ≤ limit * 16
+unfolding idsKept partIds
+kept-few before parts h =
+    let t = partFind (chosenPart program before parts) in
+    let others = without (chosenAt program before parts) (partsIn parts) in
+    le-trans (select-few (λ id. allOf (partTest program before id) others) (idsFound program before t)) (found-few before t h)
+
+pub joint-find-fits : (before parts output : List ℕ) → Fits 1 (jointFind program before parts output .answer)
+unfolding jointFind jointVerdict partTests stateTests
+joint-find-fits before parts output =
+    let n = length (idsKept program before parts) in
+    bounded (partTests parts ++ (stateTests before ++ ((anyOf (partDamaged program before) (partsIn parts) ⇒ 13) ∷ (ltb (length output) (16 * n) ⇒ 18 carrying (n ∷ [])) ∷ []))) _
+    (tt, λ _. (tt, λ h. (tt, λ _. (tt, λ _. (tt, λ _. (record { small = omega (arith, kept-few before parts h); gives = (omega arith, omega arith, one) }, λ _. record { small = omega (arith, kept-few before parts h); gives = one }))))))
+
+yes-or-no-fits : (b : Bool) → Fits 1 (yesOrNo b)
+yes-or-no-fits true = record { small = omega arith; gives = one }
+yes-or-no-fits false = record { small = omega arith; gives = one }
+
+pub test-fits : (before id token : List ℕ) → Fits 1 (test program before id token .answer)
+unfolding test testVerdict idTests tokenTests stateTests
+test-fits before id token =
+    bounded (idTests id ++ (tokenTests markTokenLength token ++ stateTests before)) _
+    (tt, λ _. (tt, λ _. (tt, λ _. (tt, λ _. (tt, λ _. yes-or-no-fits (tests program (cut before .table tableR) token id))))))
+
 -- what a treatment of CL after CL answers, from a anchors and w counters
 pub record Few (n a w : ℕ) (x : Answer) : Type 0 where
   pub most : magnitude x ≤ 13 + 256 * packed ((a + n) ∷ (w + 4096 * n) ∷ [])
@@ -220,7 +251,7 @@ order-fits before =
       λ h. let z = good-header before h .range in (
         tt,
         λ _. record {
-          small = omega (arith, z .m-most, z .c-most, z .s-most, used-most before tableM, used-most before tableV, used-most before tableC, used-most before tableS);
+          small = omega (arith, z .m-most, z .c-most, z .s-most, z .r-most, used-most before tableM, used-most before tableV, used-most before tableC, used-most before tableS, used-most before tableR);
           gives = one;
         },
       ),

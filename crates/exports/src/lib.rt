@@ -7,12 +7,14 @@ ghost use Rattle.answer.specs.Answer.{carriedBy, refusal, completion as complet
 ghost use Rattle.sha256.specs.Hash.{hashAnswer, hashDigest};
 ghost use Rattle.hmac.specs.Hmac.{macAnswer, macTag};
 ghost use Rattle.chacha20.specs.Call.{cipherAnswer, cipherText};
-ghost use Rattle.scheme.specs.Keys.{insertToken, findToken, countToken, compactionToken};
+ghost use Rattle.scheme.specs.Keys.{insertToken, findToken, countToken, compactionToken, markToken, partToken};
 ghost use Rattle.scheme.specs.Refusals.{insertTokenTests, fieldTokenTests, keyTests};
 ghost use Rattle.scheme.specs.Store.{make as makeOf};
 ghost use Rattle.scheme.specs.Insert.{insert as insertOf};
 ghost use Rattle.scheme.specs.Erase.{erase as eraseOf};
 ghost use Rattle.scheme.specs.Find.{find as findOf};
+ghost use Rattle.scheme.specs.Test.{test as testOf};
+ghost use Rattle.scheme.specs.JointFind.{jointFind as jointFindOf};
 ghost use Rattle.scheme.specs.Count.{count as countOf};
 ghost use Rattle.scheme.specs.Compaction.{compact as compactOf};
 ghost use Rattle.scheme.specs.Order.{order as orderOf};
@@ -144,7 +146,7 @@ pub extern "C" fn mazhkuri_chacha20(key: &[u8], nonce: &[u8], text: &mut [u8]) -
     completed(chacha20::apply(key, nonce, text))
 }
 
-// Makes the token for an insert into share u. [01:KT7]
+// Makes the token for an insert into share u. [01:KT7] [02:W4.9]
 #[no_mangle]
 pub extern "C" fn mazhkuri_insert_token(
     key: &[u8],
@@ -153,14 +155,14 @@ pub extern "C" fn mazhkuri_insert_token(
     p: u64,
     u: u64,
     nonce: &[u8],
-    token: &mut [u8; 141],
+    token: &mut [u8; 173],
 ) -> i64
-    ensures { λ r. ⌜ r ≡ encoded (answering 141 (makingAnswer (insertTokenTests (now (key .entry)) (fieldOf (now (name .entry)) (now (value .entry))) p u (now (nonce .entry))))) ⌝ }
+    ensures { λ r. ⌜ r ≡ encoded (answering 173 (makingAnswer (insertTokenTests (now (key .entry)) (fieldOf (now (name .entry)) (now (value .entry))) p u (now (nonce .entry))))) ⌝ }
     ensures { λ _. ⌜ now (token .exit) ≡ makingToken (insertTokenTests (now (key .entry)) (fieldOf (now (name .entry)) (now (value .entry))) p u (now (nonce .entry))) (insertToken program (now (key .entry)) (fieldOf (now (name .entry)) (now (value .entry))) p u (now (nonce .entry))) (now (token .entry)) ⌝ }
 {
     made(
         client::insert_token(key, name, value, p, u, nonce, token),
-        141,
+        173,
     )
 }
 
@@ -192,6 +194,34 @@ pub extern "C" fn mazhkuri_count_token(
     made(client::count_token(key, name, value, token), 32)
 }
 
+// Makes the token for a test. [02:W4.16]
+#[no_mangle]
+pub extern "C" fn mazhkuri_mark_token(
+    key: &[u8],
+    name: &[u8],
+    value: &[u8],
+    token: &mut [u8; 32],
+) -> i64
+    ensures { λ r. ⌜ r ≡ encoded (answering 32 (makingAnswer (fieldTokenTests (now (key .entry)) (fieldOf (now (name .entry)) (now (value .entry)))))) ⌝ }
+    ensures { λ _. ⌜ now (token .exit) ≡ makingToken (fieldTokenTests (now (key .entry)) (fieldOf (now (name .entry)) (now (value .entry)))) (markToken program (now (key .entry)) (fieldOf (now (name .entry)) (now (value .entry)))) (now (token .entry)) ⌝ }
+{
+    made(client::mark_token(key, name, value, token), 32)
+}
+
+// Makes a part of a joint find. [02:W4.18]
+#[no_mangle]
+pub extern "C" fn mazhkuri_part_token(
+    key: &[u8],
+    name: &[u8],
+    value: &[u8],
+    token: &mut [u8; 128],
+) -> i64
+    ensures { λ r. ⌜ r ≡ encoded (answering 128 (makingAnswer (fieldTokenTests (now (key .entry)) (fieldOf (now (name .entry)) (now (value .entry)))))) ⌝ }
+    ensures { λ _. ⌜ now (token .exit) ≡ makingToken (fieldTokenTests (now (key .entry)) (fieldOf (now (name .entry)) (now (value .entry)))) (partToken program (now (key .entry)) (fieldOf (now (name .entry)) (now (value .entry)))) (now (token .entry)) ⌝ }
+{
+    made(client::part_token(key, name, value, token), 128)
+}
+
 // Makes the token for a compaction. [01:KT10]
 #[no_mangle]
 pub extern "C" fn mazhkuri_compaction_token(key: &[u8], token: &mut [u8; 32]) -> i64
@@ -201,13 +231,13 @@ pub extern "C" fn mazhkuri_compaction_token(key: &[u8], token: &mut [u8; 32]) ->
     made(client::compaction_token(key, token), 32)
 }
 
-// Makes a store of m rows of entries, c of counters and s of the log. [01:ST16]
+// Makes a store of m rows of entries, c of counters, s of the log and r of labels. [01:ST16] [02:W4.1]
 #[no_mangle]
-pub extern "C" fn mazhkuri_make(p: u64, m: u64, c: u64, s: u64, store: &mut [u8]) -> i64
-    ensures { λ r. ⌜ r ≡ encoded (makeOf (record { p = p; m = m; c = c; s = s }) (now (store .entry)) .answer) ⌝ }
-    ensures { λ _. ⌜ now (store .exit) ≡ makeOf (record { p = p; m = m; c = c; s = s }) (now (store .entry)) .store ⌝ }
+pub extern "C" fn mazhkuri_make(p: u64, m: u64, c: u64, s: u64, r: u64, store: &mut [u8]) -> i64
+    ensures { λ a. ⌜ a ≡ encoded (makeOf (record { p = p; m = m; c = c; s = s; r = r }) (now (store .entry)) .answer) ⌝ }
+    ensures { λ _. ⌜ now (store .exit) ≡ makeOf (record { p = p; m = m; c = c; s = s; r = r }) (now (store .entry)) .store ⌝ }
 {
-    completed(store::make(p, m, c, s, store))
+    completed(store::make(p, m, c, s, r, store))
 }
 
 // Inserts 1 to 64 ids. [01:OP1 OP3]
@@ -235,6 +265,23 @@ pub extern "C" fn mazhkuri_find(store: &[u8], token: &[u8], output: &mut [u8]) -
     ensures { λ _. ⌜ now (output .exit) ≡ findOf program (now (store .entry)) (now (token .entry)) (now (output .entry)) .output ⌝ }
 {
     counted(find::find(store, token, output))
+}
+
+// Tests whether the document of an id has a label: 1 or 0. [02:W4.15 W4.16 W4.17]
+#[no_mangle]
+pub extern "C" fn mazhkuri_test(store: &[u8], id: &[u8], token: &[u8]) -> i64
+    ensures { λ r. ⌜ r ≡ encoded (testOf program (now (store .entry)) (now (id .entry)) (now (token .entry)) .answer) ⌝ }
+{
+    counted(test::test(store, id, token))
+}
+
+// Finds the ids that 1 to 8 parts have in common, to the start of the output. [02:W4.18 W4.21 W4.23]
+#[no_mangle]
+pub extern "C" fn mazhkuri_joint_find(store: &[u8], parts: &[u8], output: &mut [u8]) -> i64
+    ensures { λ r. ⌜ r ≡ encoded (jointFindOf program (now (store .entry)) (now (parts .entry)) (now (output .entry)) .answer) ⌝ }
+    ensures { λ _. ⌜ now (output .exit) ≡ jointFindOf program (now (store .entry)) (now (parts .entry)) (now (output .entry)) .output ⌝ }
+{
+    counted(joint_find::joint_find(store, parts, output))
 }
 
 // Counts the ids ever inserted under a field. [01:OP9]

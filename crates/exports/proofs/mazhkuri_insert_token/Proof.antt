@@ -14,7 +14,7 @@ returns : tie.Need-returns
 returns c =
     let f = c .before .insert-token in
     let a = c .before .before .before .before .before .before .before .args in
-    (told-made 141 (omega arith) (c .made .result) (f .ensures .0) (insert-token-fits (a .key .now) (fieldOf (a .name .now) (a .value .now)) (a .p) (a .u) (a .nonce .now)) (c .made .ensures), f .ensures .1)
+    (told-made 173 (omega arith) (c .made .result) (f .ensures .0) (insert-token-fits (a .key .now) (fieldOf (a .name .now) (a .value .now)) (a .p) (a .u) (a .nonce .now)) (c .made .ensures), f .ensures .1)
 
 pub mazhkuri-insert-token-spec : {M : Type 1} → statement M
 mazhkuri-insert-token-spec = tie.close (tie.spec (λ c κs. search needs) made-requires returns)
