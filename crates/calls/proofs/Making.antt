@@ -12,7 +12,7 @@ use Rattle.answer.specs.declared.Refusal.{Refusal}
 use Rattle.answer.specs.Verdict.{Test, _⇒_, _⇒_carrying_, verdict, answerOr, unlessRefused}
 use Rattle.scheme.specs.Suite.{number8}
 use Rattle.scheme.specs.Labels.{Field, label, fieldLengthsBad}
-use Rattle.scheme.specs.Keys.{KM, KC, KS, MTof, MEof, CLof, findToken, countToken, compactionToken}
+use Rattle.scheme.specs.Keys.{KM, KC, KS, MTof, MEof, CLof, RL, findToken, countToken, compactionToken, markToken, partToken}
 use Rattle.scheme.specs.Refusals.{Result, lengthNot, insertTokenTests}
 use Rattle.scheme.specs.Run.{madeOr}
 use Rattle.scheme.proofs.Verdicts.{passed, length-passed}
@@ -53,6 +53,10 @@ module _ (K : List ℕ) where
   unfolding countToken CLof
   count-length f = program .F-length (KC program K) (label f)
 
+  pub mark-length : (f : Field) → length (markToken program K f) ≡ 32
+  unfolding markToken RL
+  mark-length f = program .F-length (program .F K (number8 4)) (label f)
+
   pub find-length : (f : Field) → length (findToken program K f) ≡ 96
   unfolding findToken MTof MEof CLof
   find-length f =
@@ -61,6 +65,11 @@ module _ (K : List ℕ) where
       let cl = CLof program K f in
       length-append mt (me ++ cl)
       ∙ omega (arith, length-append me cl, program .F-length (program .F (KM program K) (number8 1)) (label f), program .F-length (program .F (KM program K) (number8 2)) (label f), program .F-length (KC program K) (label f))
+
+  pub part-length : (f : Field) → length (partToken program K f) ≡ 128
+  unfolding partToken RL
+  part-length f =
+      length-append (findToken program K f) (program .F (program .F K (number8 4)) (label f)) ∙ omega (arith, find-length f, program .F-length (program .F K (number8 4)) (label f))
 
   pub compaction-length : length (compactionToken program K) ≡ 32
   unfolding compactionToken KS
