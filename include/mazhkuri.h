@@ -179,7 +179,8 @@ int64_t mazhkuri_test(const uint8_t *store, size_t store_length, const uint8_t *
  * earlier part on a tie, in the order of its find, for which every other part tests yes. They go to the
  * start of the output, and bytes after them stay. Returns how many; or -6 (not 1 to 8 parts), -10, -11,
  * -20, -13 (a counter of any part is damaged), or -(18 + 256 * how many) where the output is shorter
- * than 16 times that. The time grows with how many ids were ever inserted under that part's field. */
+ * than 16 times that. The time grows with how many ids were ever inserted under that part's field. It
+ * needs some 420 KiB of stack. */
 int64_t mazhkuri_joint_find(const uint8_t *store, size_t store_length, const uint8_t *parts,
                             size_t parts_length, uint8_t *output, size_t output_length);
 
