@@ -12,7 +12,7 @@ ghost use Rattle.suite.specs.Program.{program};
 ghost use Rattle.client.specs.Making.{fieldOf};
 ghost use Rattle.store.specs.Check.{checkedOf};
 ghost use Rattle.advice.specs.Advise.{noRoom};
-ghost use Rattle.parts.specs.Parts.{partsOf};
+ghost use Rattle.parts.specs.Parts.{partsOf, madeParts};
 ghost use Rattle.outcome.specs.Told.{told, withRoom, Roomed};
 ghost use Rattle.commands.specs.Insert.{insertResult};
 use answer::Completion;
@@ -101,6 +101,7 @@ fn find_parts(
     requires { ⌜ (length (now parts) ≡ 128 * n) × (n ≤ 8) ⌝ }
     ensures { λ r. ⌜ counted r ≡ perform program (Call.jointFind (partsOf (now (line .entry)) (now (key .entry)) n) (now (output .entry))) (now (store .entry)) .answer ⌝ }
     ensures { λ _. ⌜ now (output .exit) ≡ perform program (Call.jointFind (partsOf (now (line .entry)) (now (key .entry)) n) (now (output .entry))) (now (store .entry)) .output ⌝ }
+    ensures { λ _. ⌜ now (parts .exit) ≡ madeParts (partsOf (now (line .entry)) (now (key .entry)) n) n ⌝ }
 {
     match parts::make(line, key, n, parts) {
         Completion::Refused(r) => Counted::Refused(r),

@@ -5,7 +5,7 @@ use mathlib.Core.Option.{Option, none, some}
 use mathlib.Core.List.{List, [], _∷_, _++_, append-assoc, append-nil}
 use native.Mathlib.Nat.{sub-zero}
 use native.Mathlib.Omega.{arith}
-use lib.ListN.{length, take, length-append}
+use lib.ListN.{length, take, length-append, replicate}
 use lib.Seq.{take-add, take-all}
 use Rattle.answer.specs.Answer.{Answer, done}
 use Rattle.answer.specs.Verdict.{Test, verdict, answerOr, unlessRefused}
@@ -21,7 +21,7 @@ use Rattle.scheme.proofs.Verdicts.{orElse, verdict-append}
 use Rattle.suite.specs.Program.{program}
 use Rattle.client.specs.Making.{makingAnswer, makingToken}
 use Rattle.calls.proofs.Making.{find-length}
-use Rattle.parts.specs.Parts.{partAt, partsFrom, partsOf, partsTests, partsBytes}
+use Rattle.parts.specs.Parts.{partAt, partsFrom, partsOf, partsTests, partsBytes, madeParts}
 
 -- a part's length [02:W4.18]
 pub part-length : (K : List ℕ) (f : Field) → length (partToken program K f) ≡ 128
@@ -97,6 +97,19 @@ module _ (line key : List ℕ) where
       pub going-all : to ≡ partsBytes (partsOf line key n)
       going-all =
           sym (g .bytes ∙ ap (λ (l : List Part). take (128 * i) to ++ partsBytes l) (none-left i n h) ∙ append-nil (take (128 * i) to) ∙ take-all (128 * i) to (omega (arith, g .size)))
+
+-- what is left of parts that are made, and of parts that are not
+pub parts-made : (parts : List Part) (n : ℕ) (to : List ℕ) → verdict (partsTests parts) ≡ none → to ≡ partsBytes parts → to ≡ madeParts parts n
+unfolding madeParts
+parts-made parts n to v e = e ∙ sym (ap (λ (o : Option Answer). unlessRefused o (partsBytes parts) (replicate (128 * n) 0)) v)
+
+pub parts-refused : (parts : List Part) (n : ℕ) (to : List ℕ) (r : Answer) → verdict (partsTests parts) ≡ some r → to ≡ replicate (128 * n) 0 → to ≡ madeParts parts n
+unfolding madeParts
+parts-refused parts n to r v e = e ∙ sym (ap (λ (o : Option Answer). unlessRefused o (partsBytes parts) (replicate (128 * n) 0)) v)
+
+pub parts-were : (parts : List Part) (n : ℕ) (to : List ℕ) → verdict (partsTests parts) ≡ none → to ≡ madeParts parts n → to ≡ partsBytes parts
+unfolding madeParts
+parts-were parts n to v e = e ∙ ap (λ (o : Option Answer). unlessRefused o (partsBytes parts) (replicate (128 * n) 0)) v
 
 -- the lent bytes of a making: by a field that is another's, where it was made, and where it was refused
 pub held : (key : List ℕ) (g f : Field) (lent after : List ℕ) → g ≡ f → verdict (fieldTokenTests key f) ≡ none

@@ -1,7 +1,8 @@
 -- The parts that a find's words name.
 use Prim.Native.Nat.{ℕ, zero, suc, _+_, _*_}
 use mathlib.Core.List.{List, [], _∷_, map}
-use Rattle.answer.specs.Verdict.{Test}
+use lib.ListN.{replicate}
+use Rattle.answer.specs.Verdict.{Test, verdict, unlessRefused}
 use Rattle.table.specs.Lists.{flat}
 use Rattle.scheme.specs.Call.{Part}
 use Rattle.scheme.specs.Run.{partOf, partTokenTests}
@@ -27,3 +28,7 @@ partsTests parts = flat (map partTokenTests parts)
 
 abbrev pub partsBytes : List Part → List ℕ
 partsBytes parts = flat (map (partOf program) parts)
+
+-- n parts that are made; zeros where a making is refused
+unfoldable pub madeParts : List Part → ℕ → List ℕ
+madeParts parts n = unlessRefused (verdict (partsTests parts)) (partsBytes parts) (replicate (128 * n) 0)

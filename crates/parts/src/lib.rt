@@ -1,14 +1,13 @@
 // The parts of a find by several fields, made of a key and of a line's words, pair by pair (document 02, "Find by several
 // fields").
 ghost use mathlib.Core.Path.{_≡_};
-ghost use mathlib.Core.List.{[]};
 ghost use Prim.Native.Nat.{_*_, _<_, _≤_};
 ghost use lib.ListN.{length};
-ghost use Rattle.answer.specs.Answer.{completion, done};
+ghost use Rattle.answer.specs.Answer.{completion};
 ghost use Rattle.scheme.specs.Run.{partOf, partTokenTests};
 ghost use Rattle.suite.specs.Program.{program};
 ghost use Rattle.client.specs.Making.{makingAnswer, makingToken};
-ghost use Rattle.parts.specs.Parts.{partAt, partsOf, partsTests, partsBytes};
+ghost use Rattle.parts.specs.Parts.{partAt, partsOf, partsTests, madeParts};
 use answer::Completion;
 use format::PART_TOKEN;
 use words::line;
@@ -31,11 +30,12 @@ fn make_part(line: &[u8], key: &[u8], i: usize, to: &mut [u8]) -> Completion
     }
 }
 
-// The parts of n pairs, one after the other; the first making that is refused ends it. [02:W4.24 W4.25]
+// The parts of n pairs, one after the other; the first making that is refused ends it, and clears them.
+// [02:W4.24 W4.25]
 pub fn make(line: &[u8], key: &[u8], n: usize, to: &mut [u8]) -> Completion
     requires { ⌜ (length (now to) ≡ 128 * n) × (n ≤ 8) ⌝ }
     ensures { λ r. ⌜ completion r ≡ makingAnswer (partsTests (partsOf (now (line .entry)) (now (key .entry)) n)) ⌝ }
-    ensures { λ r. ⌜ (completion r ≡ done [] → now (to .exit) ≡ partsBytes (partsOf (now (line .entry)) (now (key .entry)) n)) ⌝ }
+    ensures { λ _. ⌜ now (to .exit) ≡ madeParts (partsOf (now (line .entry)) (now (key .entry)) n) n ⌝ }
 {
     let mut i = 0;
     while i < n {
@@ -43,6 +43,7 @@ pub fn make(line: &[u8], key: &[u8], n: usize, to: &mut [u8]) -> Completion
         let e = a + PART_TOKEN;
         let made = make_part(line, key, i, &mut to[a..e]);
         if let Completion::Refused(_) = made {
+            octets::clear(to);
             return made;
         }
         i += 1;

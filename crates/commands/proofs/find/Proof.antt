@@ -18,7 +18,7 @@ find-parts-requires c κs = let s = c .before .before .before .before .before .b
 returns : tie.Need-returns
 returns c =
     let e = c .before .before .before .before .find-parts .ensures in
-    (c .of-counted .ensures .0 ∙ e .0, (e .1, roomed _ _ _ (c .of-counted .ensures .1) (c .before .before .before .before .before .before .before .room-in .ensures .0)))
+    (c .of-counted .ensures .0 ∙ e .0, (e .1 .0, roomed _ _ _ (c .of-counted .ensures .1) (c .before .before .before .before .before .before .before .room-in .ensures .0)))
 
 pub find-spec : {M : Type 1} → statement M
 find-spec =

@@ -7,6 +7,7 @@ use Rattle.scheme.specs.JointFind.{jointFind}
 use Rattle.scheme.specs.Run.{jointCall}
 use Rattle.suite.specs.Program.{program}
 use Rattle.parts.specs.Parts.{partsOf, partsTests, partsBytes}
+use Rattle.parts.proofs.Laws.{parts-were}
 use Rattle.calls.proofs.Making.{made, unmade, call-unmade, call-made}
 use borrow.Author.Needs.{needs}
 use Rattle.commands.proofs.find_parts.Statement.{statement}
@@ -20,7 +21,7 @@ returns c =
     let r = c .before .r .given in
     let e = unmade (partsTests ps) (r .0 .0) (sym (ap completion (r .1)) ∙ c .before .before .before .before .before .make .ensures .0) in
     let g = call-unmade _ (jointFind program (s .store .now) (partsBytes ps) (s .output .now)) (s .store .now) (s .output .now) (refusal (r .0 .0)) e in
-    (sym (ap (λ z. z .answer) g), sym (ap (λ z. z .output) g))
+    (sym (ap (λ z. z .answer) g), (sym (ap (λ z. z .output) g), c .before .before .before .before .before .make .ensures .1))
 
 returns-2 : tie.Need-returns-2
 unfolding jointCall
@@ -30,8 +31,9 @@ returns-2 c =
     let m = c .before .before .before .before .before .before .before .before .before .make .ensures in
     let e = ap completion (c .before .before .before .before .before .enum-told .given .1) in
     let j = c .before .before .joint-find .ensures in
-    let g = ap (λ (p : List ℕ). jointFind program (s .store .now) p (s .output .now)) (m .1 e) ∙ sym (call-made _ (jointFind program (s .store .now) (partsBytes ps) (s .output .now)) (s .store .now) (s .output .now) (made (partsTests ps) (sym e ∙ m .0))) in
-    (j .0 ∙ ap (λ z. z .answer) g, j .1 ∙ ap (λ z. z .output) g)
+    let v = made (partsTests ps) (sym e ∙ m .0) in
+    let g = ap (λ (p : List ℕ). jointFind program (s .store .now) p (s .output .now)) (parts-were ps (s .n) _ v (m .1)) ∙ sym (call-made _ (jointFind program (s .store .now) (partsBytes ps) (s .output .now)) (s .store .now) (s .output .now) v) in
+    (j .0 ∙ ap (λ z. z .answer) g, (j .1 ∙ ap (λ z. z .output) g, m .1))
 
 pub find-parts-spec : {M : Type 1} → statement M
 find-parts-spec =
