@@ -27,11 +27,11 @@ fn title()
 }
 
 // Makes a store in a slice.
-fn make(p: u64, m: u64, c: u64, s: u64, slice: &mut [u8])
-    ensures { λ _. ⌜ now (slice .exit) ≡ makeOf (record { p = p; m = m; c = c; s = s }) (now (slice .entry)) .store ⌝ }
+fn make(p: u64, m: u64, c: u64, s: u64, r: u64, slice: &mut [u8])
+    ensures { λ _. ⌜ now (slice .exit) ≡ makeOf (record { p = p; m = m; c = c; s = s; r = r }) (now (slice .entry)) .store ⌝ }
 {
-    let r = store::make(p, m, c, s, slice);
-    write::completion(r);
+    let made = store::make(p, m, c, s, r, slice);
+    write::completion(made);
     write::end(slice);
 }
 
@@ -43,11 +43,12 @@ fn make_in(room: &mut [u8]) -> usize
     let m = records::read_number();
     let c = records::read_number();
     let s = records::read_number();
+    let r = records::read_number();
     let n = records::read_number() as usize;
     if room.len() < n {
         return 0;
     }
-    make(p, m, c, s, &mut room[..n]);
+    make(p, m, c, s, r, &mut room[..n]);
     n
 }
 
@@ -71,6 +72,23 @@ fn resize(room: usize) -> usize
     if room < n { 0 } else { n }
 }
 
+// A call that reads the store.
+fn look(kind: u64, store: &[u8])
+    ensures { λ r. ⌜ r ≡ tt ⌝ }
+{
+    match kind {
+        6 => arguments::find(store),
+        7 => arguments::count(store),
+        10 => arguments::find_by(store),
+        11 => arguments::count_by(store),
+        20 => arguments::test(store),
+        21 => arguments::joint_find(store),
+        22 => arguments::test_by(store),
+        23 => arguments::joint_find_by(store),
+        _ => (),
+    }
+}
+
 // A call on the store.
 fn call(kind: u64, store: &mut [u8])
     ensures { λ _. ⌜ Called (now (store .entry)) kind (now (store .exit)) ⌝ }
@@ -78,15 +96,11 @@ fn call(kind: u64, store: &mut [u8])
     match kind {
         4 => arguments::insert(store),
         5 => arguments::erase(store),
-        6 => arguments::find(store),
-        7 => arguments::count(store),
         8 => arguments::compact(store),
         9 => arguments::insert_by(store),
-        10 => arguments::find_by(store),
-        11 => arguments::count_by(store),
         12 => arguments::compact_by(store),
         19 => arguments::order(store),
-        _ => (),
+        _ => look(kind, store),
     }
 }
 
@@ -97,8 +111,7 @@ fn other(kind: u64)
     match kind {
         0 => title(),
         13 => making::insert_token(),
-        14 => making::find_token(),
-        15 => making::count_token(),
+        14 | 15 | 24 | 25 => making::field_token(kind),
         16 => making::compaction_token(),
         17 => premise::premise(),
         18 => making::hash(),
@@ -119,7 +132,7 @@ fn record(room: &mut [u8], n: usize) -> usize
             n
         }
         3 => resize(room.len()),
-        4..=12 | 19 => {
+        4..=12 | 19..=23 => {
             call(kind, &mut room[..n]);
             n
         }
@@ -143,10 +156,10 @@ fn run(room: &mut [u8])
 }
 
 // Room for the greatest store and some bytes more, all zeros; no proof computes on so long a list.
-fn blank() -> [u8; 884760]
-    ensures { λ r. ⌜ r ≡ replicate 884760 0 ⌝ }
+fn blank() -> [u8; 1134618]
+    ensures { λ r. ⌜ r ≡ replicate 1134618 0 ⌝ }
 {
-    [0u8; 884760]
+    [0u8; 1134618]
 }
 
 fn main() {

@@ -27,7 +27,13 @@ fn line_96(r: Completion, bytes: &[u8; 96])
     line(r, b"bytes", bytes);
 }
 
-fn line_141(r: Completion, bytes: &[u8; 141])
+fn line_128(r: Completion, bytes: &[u8; 128])
+    ensures { λ r. ⌜ r ≡ tt ⌝ }
+{
+    line(r, b"bytes", bytes);
+}
+
+fn line_173(r: Completion, bytes: &[u8; 173])
     ensures { λ r. ⌜ r ≡ tt ⌝ }
 {
     line(r, b"bytes", bytes);
@@ -46,7 +52,7 @@ pub fn insert_token()
     let u = records::read_number();
     let mut nonce = [0u8; 64];
     let j = records::read_bytes(&mut nonce);
-    let mut token = [LENT; 141];
+    let mut token = [LENT; 173];
     let r = client::insert_token(
         &key[..k],
         &name[..a],
@@ -56,24 +62,43 @@ pub fn insert_token()
         &nonce[..j],
         &mut token,
     );
-    line_141(r, &token);
+    line_173(r, &token);
 }
 
-pub fn find_token()
+fn find_token(key: &[u8], name: &[u8], value: &[u8])
     ensures { λ r. ⌜ r ≡ tt ⌝ }
 {
-    let mut key = [0u8; 64];
-    let k = records::read_bytes(&mut key);
-    let mut name = [0u8; 300];
-    let a = records::read_bytes(&mut name);
-    let mut value = [0u8; 1100];
-    let b = records::read_bytes(&mut value);
     let mut token = [LENT; 96];
-    let r = client::find_token(&key[..k], &name[..a], &value[..b], &mut token);
+    let r = client::find_token(key, name, value, &mut token);
     line_96(r, &token);
 }
 
-pub fn count_token()
+fn count_token(key: &[u8], name: &[u8], value: &[u8])
+    ensures { λ r. ⌜ r ≡ tt ⌝ }
+{
+    let mut token = [LENT; 32];
+    let r = client::count_token(key, name, value, &mut token);
+    line_32(r, &token);
+}
+
+fn mark_token(key: &[u8], name: &[u8], value: &[u8])
+    ensures { λ r. ⌜ r ≡ tt ⌝ }
+{
+    let mut token = [LENT; 32];
+    let r = client::mark_token(key, name, value, &mut token);
+    line_32(r, &token);
+}
+
+fn part_token(key: &[u8], name: &[u8], value: &[u8])
+    ensures { λ r. ⌜ r ≡ tt ⌝ }
+{
+    let mut token = [LENT; 128];
+    let r = client::part_token(key, name, value, &mut token);
+    line_128(r, &token);
+}
+
+// The token of a field, by the kind of its record.
+pub fn field_token(kind: u64)
     ensures { λ r. ⌜ r ≡ tt ⌝ }
 {
     let mut key = [0u8; 64];
@@ -82,9 +107,12 @@ pub fn count_token()
     let a = records::read_bytes(&mut name);
     let mut value = [0u8; 1100];
     let b = records::read_bytes(&mut value);
-    let mut token = [LENT; 32];
-    let r = client::count_token(&key[..k], &name[..a], &value[..b], &mut token);
-    line_32(r, &token);
+    match kind {
+        14 => find_token(&key[..k], &name[..a], &value[..b]),
+        15 => count_token(&key[..k], &name[..a], &value[..b]),
+        24 => mark_token(&key[..k], &name[..a], &value[..b]),
+        _ => part_token(&key[..k], &name[..a], &value[..b]),
+    }
 }
 
 pub fn compaction_token()

@@ -1,5 +1,4 @@
 -- Each arm is its kind's.
-use mathlib.Core.Path.{refl}
 use Rattle.scenario.specs.Given.Called.{inserted, erased, compacted, insertedBy, compactedBy, ordered, kept}
 use Rattle.scenario.proofs.Given.{of-kind, unchanged}
 use borrow.Author.Needs.{needs}
@@ -13,36 +12,24 @@ returns-2 : tie.Need-returns-2
 returns-2 c = of-kind _ 5 _ _ (c .before .before .before .before .match .keys2) (erased (c .before .before .erase .ensures))
 
 returns-3 : tie.Need-returns-3
-returns-3 c = of-kind _ 6 _ _ (c .before .before .match .keys3) (kept refl)
+returns-3 c = of-kind _ 8 _ _ (c .before .before .before .before .match .keys3) (compacted (c .before .before .compact .ensures))
 
 returns-4 : tie.Need-returns-4
-returns-4 c = of-kind _ 7 _ _ (c .before .before .match .keys4) (kept refl)
+returns-4 c = of-kind _ 9 _ _ (c .before .before .before .before .match .keys4) (insertedBy (c .before .before .insert-by .ensures))
 
 returns-5 : tie.Need-returns-5
-returns-5 c = of-kind _ 8 _ _ (c .before .before .before .before .match .keys5) (compacted (c .before .before .compact .ensures))
+returns-5 c = of-kind _ 12 _ _ (c .before .before .before .before .match .keys5) (compactedBy (c .before .before .compact-by .ensures))
 
 returns-6 : tie.Need-returns-6
-returns-6 c = of-kind _ 9 _ _ (c .before .before .before .before .match .keys6) (insertedBy (c .before .before .insert-by .ensures))
+returns-6 c = of-kind _ 19 _ _ (c .before .before .before .before .match .keys6) (ordered (c .before .before .order .ensures))
 
 returns-7 : tie.Need-returns-7
-returns-7 c = of-kind _ 10 _ _ (c .before .before .match .keys7) (kept refl)
-
-returns-8 : tie.Need-returns-8
-returns-8 c = of-kind _ 11 _ _ (c .before .before .match .keys8) (kept refl)
-
-returns-9 : tie.Need-returns-9
-returns-9 c = of-kind _ 12 _ _ (c .before .before .before .before .match .keys9) (compactedBy (c .before .before .compact-by .ensures))
-
-returns-10 : tie.Need-returns-10
-returns-10 c = of-kind _ 19 _ _ (c .before .before .before .before .match .keys10) (ordered (c .before .before .order .ensures))
-
-returns-11 : tie.Need-returns-11
-returns-11 c = let x = c .match .rest in kept (unchanged _ (x .0 .0 .0 .0 .0 .0 .0 .0 .0 .1) (x .0 .0 .0 .0 .0 .0 .0 .0 .1) (x .0 .0 .0 .0 .0 .1) (x .0 .0 .0 .0 .1) (x .0 .1) (x .1))
+returns-7 c = let x = c .before .before .match .rest in kept (unchanged _ (x .0 .0 .0 .0 .0 .1) (x .0 .0 .0 .0 .1) (x .0 .0 .0 .1) (x .0 .0 .1) (x .0 .1) (x .1))
 
 pub call-spec : {M : Type 1} → statement M
 call-spec =
     tie.close
     (tie.spec
-    (λ c κs. search needs) (λ c κs. search needs) (λ c κs. search needs) (λ c κs. search needs) (λ c κs. search needs) (λ c κs. search needs) (λ c κs. search needs) (λ c κs. search needs) (λ c κs. search needs) (λ c κs. search needs)
+    (λ c κs. search needs) (λ c κs. search needs) (λ c κs. search needs) (λ c κs. search needs) (λ c κs. search needs) (λ c κs. search needs) (λ c κs. search needs)
     (λ c. search needs) returns (λ c. search needs) returns-2 (λ c. search needs) returns-3 (λ c. search needs) returns-4 (λ c. search needs) returns-5
-    (λ c. search needs) returns-6 (λ c. search needs) returns-7 (λ c. search needs) returns-8 (λ c. search needs) returns-9 (λ c. search needs) returns-10 returns-11)
+    (λ c. search needs) returns-6 (λ c. search needs) returns-7)

@@ -5,4 +5,4 @@ use Rattle.scenario.proofs.main.Statement.{statement}
 use Rattle.scenario.proofs.main.Tie as tie
 
 pub main-spec : {M : Type 1} → statement M
-main-spec = tie.close (tie.spec (λ c κs. search needs) (λ c. zeros-length 884760 (c .before .blank .result) (c .before .blank .ensures)) (λ c κs. search needs) (λ c. search needs))
+main-spec = tie.close (tie.spec (λ c κs. search needs) (λ c. zeros-length 1134618 (c .before .blank .result) (c .before .blank .ensures)) (λ c κs. search needs) (λ c. search needs))
