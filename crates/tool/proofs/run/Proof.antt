@@ -21,7 +21,7 @@ insert-requires : tie.Need-insert-requires
 insert-requires c κs = (subst Bounded (c .before .before .before .before .q6 .given .1) (c .before .before .before .before .before .before .read .ensures .1), search needs)
 
 find-requires : tie.Need-find-requires
-find-requires c κs = (subst Bounded (c .before .before .before .before .q7 .given .1) (c .before .before .before .before .before .before .read .ensures .1), search needs)
+find-requires c κs = let h = subst Bounded (c .before .before .before .before .q7 .given .1) (c .before .before .before .before .before .before .read .ensures .1) in (omega arith, search needs)
 
 insert-by-requires : tie.Need-insert-by-requires
 insert-by-requires c κs = (subst Bounded (c .before .before .before .before .q10 .given .1) (c .before .before .before .before .before .before .read .ensures .1), search needs)
