@@ -18,8 +18,8 @@ ghost use Rattle.demand.specs.Needs.{changes};
 ghost use Rattle.report.specs.Run.{Ends};
 ghost use Rattle.mazhkuri.specs.Served.{unservedOf, ServedIf, Printable};
 
-// The longest store, 884,744 bytes, and one byte more: a longer file is refused by its length.
-const SPACE: usize = 884745;
+// The longest store, 1,134,602 bytes, and one byte more: a longer file is refused by its length.
+const SPACE: usize = 1134603;
 
 // Room for what is printed: the lines of 4,096 ids; a message with a word of the command line.
 const OUT: usize = 135168;
@@ -33,7 +33,7 @@ struct Served {
 }
 
 fn space() -> [u8; SPACE]
-    ensures { λ r. ⌜ r ≡ replicate 884745 0 ⌝ }
+    ensures { λ r. ⌜ r ≡ replicate 1134603 0 ⌝ }
 {
     [0; SPACE]
 }
