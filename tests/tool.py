@@ -94,11 +94,11 @@ class Bench:
 
     def files(self):
         """What is in the folder beside the program."""
-        found = {str(p.relative_to(self.folder)): p for p in self.fplacing.rglob("*") if p != self.program and p.is_file()}
+        found = {str(p.relative_to(self.folder)): p for p in self.folder.rglob("*") if p != self.program and p.is_file()}
         return {name: path.read_bytes() for name, path in found.items()}
 
     def lay(self, files):
-        """Makes these the files of the fplacing."""
+        """Makes these the files of the folder."""
         for name in self.files():
             (self.folder / name).unlink()
         for name, content in files.items():
@@ -117,7 +117,7 @@ class Bench:
         expect(out == first + "\n" and part in err, f"{words}: {out!r} {err!r}")
         after = self.store.read_bytes() if self.store.exists() else None
         expect(before == after, f"{words}: the store changed")
-        left = [p.name for p in self.fplacing.iterdir() if p.suffix in (".new", ".lock") or len(p.suffix) == 7]
+        left = [p.name for p in self.folder.iterdir() if p.suffix in (".new", ".lock") or len(p.suffix) == 7]
         expect(not left or "lock" in part, f"{words}: left {left}")
 
     def found(self, field="hue", value="red"):
@@ -545,7 +545,7 @@ def halves(b):
     token is the model's, each call with it does what the call with the key does."""
     office, server = b.folder / "office", b.folder / "server"
     for folder, moved in ((office, b.key), (server, b.store)):
-        fplacing.mkdir()
+        folder.mkdir()
         moved.rename(folder / moved.name)
     key, store, model = (office / "key").read_bytes(), server / "store", scheme.Scheme(Real)
 
@@ -875,7 +875,7 @@ def modes(b):
             expect(before and not any(mode & 0o077 for mode in before), f"modes: {words}: open to others before its mode is set: {before}")
     else:
         left_out("a file is never open to others", "there is no cc")
-    expect(not [p.name for p in b.fplacing.iterdir() if p.suffix in (".new", ".lock") or len(p.suffix) == 7], "modes: something is left behind")
+    expect(not [p.name for p in b.folder.iterdir() if p.suffix in (".new", ".lock") or len(p.suffix) == 7], "modes: something is left behind")
 
 
 # Stops the tool at its first sync, with the lock made. A host's name of 64 bytes has no 0 after it.
@@ -1137,7 +1137,7 @@ def every_point(b):
         return b.run("find", "store", "key", "hue", "red"), b.run("show", "store"), b.in_form()
 
     def clean():
-        for path in list(b.fplacing.iterdir()):
+        for path in list(b.folder.iterdir()):
             if path.suffix in (".new", ".lock") or len(path.suffix) == 7 or path.name in ("store2", "key2"):
                 path.unlink()
         b.store.write_bytes(begin)
@@ -1233,7 +1233,7 @@ def power_cut(b):
             views = {True: [view(end)], False: [view(end), view(begin)] + [view({**begin, name: b""})] * (name == "key2")}
             for state, answered in states.items():
                 expect(view(dict(state)) in views[answered], f"{words}: after a power cut the tool finds another store: {sorted(dict(state))}")
-                for lock in cut.fplacing.glob("*.lock"):
+                for lock in cut.folder.glob("*.lock"):
                     lock.unlink()
                 if dict(state).get(name) == b"":
                     (cut.folder / name).unlink()

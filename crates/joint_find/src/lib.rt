@@ -14,7 +14,7 @@ ghost use mathlib.Core.Bool.{false};
 ghost use Rattle.scheme.specs.Store.{tableM, tableR, widthOf, cut};
 ghost use Rattle.scheme.specs.Keys.{findMT, findME, findCL, partFind};
 ghost use Rattle.scheme.specs.Find.{shareReading, idsFound};
-ghost use Rattle.scheme.specs.JointFind.{without, jointFind as jointFindOf};
+ghost use Rattle.scheme.specs.JointFind.{jointFind as jointFindOf};
 ghost use Rattle.suite.specs.Program.{program};
 ghost use Rattle.store.specs.Check.{checkedOf};
 ghost use Rattle.format.specs.Tags.{Prepared};
@@ -22,9 +22,8 @@ ghost use Rattle.chains.specs.Chains.{kept};
 ghost use Rattle.ids.specs.Ids.{idsIn, notedIn};
 ghost use Rattle.find.specs.Given.{givenAnswer, givenOutput, Empty};
 ghost use Rattle.find.specs.Counts.{Sound};
-ghost use Rattle.sifting.specs.Sifting.{siftedBy};
 ghost use Rattle.joint_find.specs.Choice.{partCounts, betterOf, chosenTo};
-ghost use Rattle.joint_find.specs.Kept.{testOf, partsBad, keptOf};
+ghost use Rattle.joint_find.specs.Kept.{partsBad, keptOf};
 use answer::Counted;
 use answer::Refusal;
 use chains::BUCKETS;
@@ -97,7 +96,7 @@ fn choose(store: &[u8], z: Shape, parts: &[u8], n: usize) -> Choice
 
 // Of the ids of the shares 0 to p, by their counts, each once, those for which every part but the one at a
 // place tests yes, at the start of the output, and how many; or 18 with their number. The index has none
-// yet, no flag is set, and both have room for all. [02:W4.21 W4.23]
+// yet, and room for all. [02:W4.21 W4.23]
 fn give(
     t: &[u8],
     m: usize,
@@ -112,18 +111,16 @@ fn give(
     n: usize,
     at: usize,
     index: &mut [u32],
-    flags: &mut [u8],
     output: &mut [u8],
 ) -> Counted
     requires { ⌜ ((length (now t) ≡ widthOf tableM * m) × Searchable (widthOf tableM) used (rows (widthOf tableM) m (now t))) × ((m ≤ 4096) × ((p ≤ 15) × Empty (now index) (length (distinct (idsIn keys (rows (widthOf tableM) m (now t)) of (p + 1)))))) ⌝ }
     requires { ⌜ ((length (now labels) ≡ widthOf tableR * r) × Searchable (widthOf tableR) held (rows (widthOf tableR) r (now labels))) × ((length (now parts) ≡ 128 * n) × ((at < n) × (n ≤ 8))) ⌝ }
-    requires { ⌜ (now flags ≡ replicate (length (now flags)) 0) × (length (distinct (idsIn keys (rows (widthOf tableM) m (now t)) of (p + 1))) ≤ length (now flags)) ⌝ }
     ensures { λ a. ⌜ counted a ≡ givenAnswer (keptOf (rows (widthOf tableR) r (now (labels .entry))) at (rows 128 n (now (parts .entry))) (distinct (idsIn keys (rows (widthOf tableM) m (now (t .entry))) of (p + 1)))) (now (output .entry)) ⌝ }
     ensures { λ _. ⌜ now (output .exit) ≡ givenOutput (keptOf (rows (widthOf tableR) r (now (labels .entry))) at (rows 128 n (now (parts .entry))) (distinct (idsIn keys (rows (widthOf tableM) m (now (t .entry))) of (p + 1)))) (now (output .entry)) ⌝ }
     ensures { λ _. ⌜ now (index .exit) ≡ notedIn keys (rows (widthOf tableM) m (now (t .entry))) of (p + 1) (kept (now (index .entry)) (replicate 65536 0) 0) .index ⌝ }
-    ensures { λ _. ⌜ now (flags .exit) ≡ siftedBy (testOf (rows (widthOf tableR) r (now (labels .entry)))) (distinct (idsIn keys (rows (widthOf tableM) m (now (t .entry))) of (p + 1))) (without at (rows 128 n (now (parts .entry)))) (now (flags .entry)) ⌝ }
 {
     let mut ids = [0u8; FIRST_BYTES];
+    let mut flags = [0u8; MANY];
     let found = ids::gather(t, m, used, keys, of, p, index, &mut ids);
     sifting::sift_parts(
         t,
@@ -138,7 +135,7 @@ fn give(
         parts,
         0,
         at,
-        flags,
+        &mut flags,
     );
     sifting::sift_parts(
         t,
@@ -153,14 +150,14 @@ fn give(
         parts,
         at + 1,
         n,
-        flags,
+        &mut flags,
     );
-    let k = sifting::kept(flags, found);
+    let k = sifting::kept(&flags, found);
     let room = output.len() / ID;
     if room < k {
         return Counted::Refused(Refusal::OutputLength(k as u64));
     }
-    sifting::write(t, m, keys.me, index, &ids, found, flags, output);
+    sifting::write(t, m, keys.me, index, &ids, found, &flags, output);
     Counted::Number(k as u64)
 }
 
@@ -186,7 +183,6 @@ fn give_few(
     ensures { λ _. ⌜ now (output .exit) ≡ givenOutput (keptOf (rows (widthOf tableR) r (now (labels .entry))) at (rows 128 n (now (parts .entry))) (distinct (idsIn keys (rows (widthOf tableM) m (now (t .entry))) of (p + 1)))) (now (output .entry)) ⌝ }
 {
     let mut index = [0u32; BUCKETS + FEW];
-    let mut flags = [0u8; FEW];
     give(
         t,
         m,
@@ -201,7 +197,6 @@ fn give_few(
         n,
         at,
         &mut index,
-        &mut flags,
         output,
     )
 }
@@ -228,7 +223,6 @@ fn give_many(
     ensures { λ _. ⌜ now (output .exit) ≡ givenOutput (keptOf (rows (widthOf tableR) r (now (labels .entry))) at (rows 128 n (now (parts .entry))) (distinct (idsIn keys (rows (widthOf tableM) m (now (t .entry))) of (p + 1)))) (now (output .entry)) ⌝ }
 {
     let mut index = [0u32; BUCKETS + MANY];
-    let mut flags = [0u8; MANY];
     give(
         t,
         m,
@@ -243,7 +237,6 @@ fn give_many(
         n,
         at,
         &mut index,
-        &mut flags,
         output,
     )
 }
