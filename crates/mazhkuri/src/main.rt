@@ -26,6 +26,9 @@ const OUT: usize = 135168;
 
 const ERR: usize = 65792;
 
+// Room for the random bytes of a compaction: a nonce for each of 4,096 rows of S.
+const RANDOM: usize = 49152;
+
 // What a run gave, and whether the system did what was asked of it.
 struct Served {
     ran: Ran,
@@ -48,6 +51,12 @@ fn err_space() -> [u8; ERR]
     ensures { λ r. ⌜ r ≡ replicate 65792 0 ⌝ }
 {
     [0; ERR]
+}
+
+fn random_space() -> [u8; RANDOM]
+    ensures { λ r. ⌜ r ≡ replicate 49152 0 ⌝ }
+{
+    [0; RANDOM]
 }
 
 // What the system stood in the way of, which was told to standard error.
@@ -104,7 +113,7 @@ fn on_store(line: &[u8], needs: Needs, out: &mut [u8], err: &mut [u8]) -> Served
     if !given.whole {
         return unserved();
     }
-    let mut random = io::large_buffer();
+    let mut random = random_space();
     let m = demand::random_for(request::read(line), &store[..n]);
     if !files::randomize(&mut random[..m]) {
         return unserved();
