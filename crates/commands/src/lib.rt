@@ -1,6 +1,6 @@
 // The tool's commands on the bytes of a store: the calls of crates/calls, each with what the tool tells
-// of it. The answers are the calls' own; p of an insert is the store's. A call is also there in two
-// halves: crates/office makes a token, crates/server takes one.
+// of it. The answers are the calls' own; p of an insert is the store's, and a find is by the pairs of a line's
+// words. A call is also there in two halves: crates/office makes a token, crates/server takes one.
 ghost use mathlib.Core.Path.{_≡_};
 ghost use Prim.Native.Nat.{_*_, _≤_};
 ghost use lib.ListN.{length};
