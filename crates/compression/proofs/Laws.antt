@@ -5,11 +5,12 @@ use Prim.Native.Nat.{ℕ, zero, suc, _+_, _-_, _<_, _≤_}
 use native.Mathlib.Omega.{arith}
 use native.Mathlib.Nat.{add-zero, zero-add, suc-add}
 use native.Mathlib.Numerals.{add-one}
-use lib.ListN.{length, length-append, set, getD, replicate, List·getD-append}
-use lib.Seq.{set-append-seam}
+use lib.ListN.{length, length-append, take, drop, set, getD, replicate, List·getD-append}
+use lib.Seq.{set-append-seam, take-all}
 use Rattle.compression.specs.Words.{_⊞_}
 use Rattle.compression.specs.Schedule.{Word, Words, Next, Schedule}
-use Rattle.compression.specs.Compression.{Step, Steps}
+use Rattle.compression.specs.Compression.{Step, Steps, Compress, CompressAt}
+use borrow.Author.Tests.{le-leb, lt-leb}
 
 -- ---- sums and words, part by part
 
@@ -92,3 +93,17 @@ schedule-more n v b w h e f =
     (ap₂ (λ (l : List ℕ) (x : ℕ). set l (n + 16) x) e
     (f ∙ ap (Next n) e ∙ next-front n (Schedule n b) (replicate (48 - n) 0) (length-schedule n b))
     ∙ write-next (Schedule n b) (n + 16) (48 - n) (48 - suc n) (Next n (Schedule n b)) (length-schedule n b) (omega arith))
+
+-- ---- the block at a place
+
+pub block-at : (s m : List ℕ) (at : ℕ) → at + 64 ≤ length m → CompressAt s m at ≡ Compress s (take 64 (drop at m))
+unfolding CompressAt
+block-at s m at h = simp (le-leb (at + 64) (length m) h)
+
+-- a slice that is one block
+pub block-alone : (s b : List ℕ) → length b ≡ 64 → CompressAt s b 0 ≡ Compress s b
+block-alone s b e = block-at s b 0 (omega arith) ∙ ap (Compress s) (take-all 64 b (omega arith))
+
+pub no-block : (s m : List ℕ) (at : ℕ) → length m < at + 64 → CompressAt s m at ≡ s
+unfolding CompressAt
+no-block s m at h = simp (lt-leb (at + 64) (length m) h)

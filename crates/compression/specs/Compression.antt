@@ -1,7 +1,9 @@
 -- The compression of one block (FIPS 180-4, 6.2.2). A hash value is the list of its eight words, a to h or H0 to H7.
 use Prim.Native.Nat.{ℕ, zero, suc, _+_, _*_}
 use mathlib.Core.List.{List, [], _∷_}
-use lib.ListN.{getD}
+use mathlib.Core.Bool.{cond}
+use lib.ListN.{length, getD, take, drop}
+use lib.Dec.{leb}
 use Rattle.compression.specs.declared.State.{State}
 use Rattle.compression.specs.Words.{_⊞_, Ch, Maj, Σ0, Σ1}
 use Rattle.compression.specs.Constants.{K}
@@ -36,3 +38,7 @@ Added s v =
 -- the hash value after the block b
 unfoldable pub Compress : List ℕ → List ℕ → List ℕ
 Compress s b = Added s (Steps 64 0 K (Schedule 48 b) s)
+
+-- the hash value after the block of 64 bytes at a place of m; where no 64 bytes stand there it stays [02:W5.3]
+unfoldable pub CompressAt : List ℕ → List ℕ → ℕ → List ℕ
+CompressAt s m at = cond (leb (at + 64) (length m)) (Compress s (take 64 (drop at m))) s

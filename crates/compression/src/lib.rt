@@ -3,7 +3,7 @@ ghost use mathlib.Core.Path.{_≡_};
 ghost use Prim.Native.Nat.{_<_, _≤_, _+_};
 ghost use lib.ListN.{length, getD};
 ghost use Rattle.compression.specs.Schedule.{Schedule};
-ghost use Rattle.compression.specs.Compression.{words, Step, Steps, Added, Compress};
+ghost use Rattle.compression.specs.Compression.{words, Step, Steps, Added, Compress, CompressAt};
 
 mod functions;
 mod schedule;
@@ -174,7 +174,7 @@ fn added(s: State, v: State) -> State
 }
 
 // The hash value after a block.
-pub fn compress(s: State, block: &[u8]) -> State
+fn after(s: State, block: &[u8]) -> State
     requires { ⌜ length (now block) ≡ 64 ⌝ }
     ensures { λ r. ⌜ words r ≡ Compress (words s) (now (block .entry)) ⌝ }
 {
@@ -182,4 +182,19 @@ pub fn compress(s: State, block: &[u8]) -> State
     let w = schedule(block);
     let v = rounds(s, &k, &w);
     added(s, v)
+}
+
+// The hash value after the block of 64 bytes at a place of a slice, read where it stands. Where no 64 bytes
+// stand there the hash value stays. [02:W5.1 W5.3]
+pub fn compress(s: State, m: &[u8], at: usize) -> State
+    ensures { λ r. ⌜ words r ≡ CompressAt (words s) (now (m .entry)) at ⌝ }
+{
+    if m.len() < 64 {
+        return s;
+    }
+    if m.len() - 64 < at {
+        return s;
+    }
+    let e = at + 64;
+    after(s, &m[at..e])
 }

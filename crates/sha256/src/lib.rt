@@ -37,9 +37,8 @@ fn blocks(s: State, m: &[u8]) -> State
     let mut v = s;
     let mut at = 0;
     while 64 <= m.len() - at {
-        let e = at + 64;
-        v = compress(v, &m[at..e]);
-        at = e;
+        v = compress(v, m, at);
+        at += 64;
     }
     v
 }
@@ -85,7 +84,7 @@ pub fn first(block: &[u8]) -> State
     requires { ⌜ length (now block) ≡ 64 ⌝ }
     ensures { λ r. ⌜ words r ≡ Compress H0 (now (block .entry)) ⌝ }
 {
-    compress(initial(), block)
+    compress(initial(), block, 0)
 }
 
 // A word as a wider number.

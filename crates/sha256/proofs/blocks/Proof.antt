@@ -3,7 +3,8 @@ use lib.ListN.{take}
 use Prim.Native.Nat.{ℕ, _+_}
 use Rattle.sha256.proofs.Laws.{block-first, block-more, block-none}
 use Rattle.sha256.specs.Hash.{Blocks}
-use Rattle.compression.specs.Compression.{words, Compress}
+use Rattle.compression.specs.Compression.{words}
+use Rattle.compression.proofs.Laws.{block-at}
 use lib.ListN.{length, drop}
 use native.Mathlib.Omega.{arith}
 use Prim.Native.Nat.{_≤_, _-_, _/_}
@@ -18,41 +19,29 @@ Inv-loop m v₀ at₀ v at = (at ≤ length m) × (Blocks ((length m - at) / 64)
 abbrev μ-loop : tie.MeasureT-loop
 μ-loop m v₀ at₀ v at = length m - at
 
-gap : (at : ℕ) → at + 64 - at ≡ 64
-gap at = omega arith
-
 loop-holds : tie.Need-loop-holds Inv-loop μ-loop
 loop-holds c = (omega arith, block-first (words (c .before .args .s)) (c .before .args .m .now))
 
 sub-loop : tie.Need-sub-loop Inv-loop μ-loop
 sub-loop c = search needs
 
-add-e : tie.Need-add-e Inv-loop μ-loop
-add-e c = search needs
-
-sub-compress : tie.Need-sub-compress Inv-loop μ-loop
-sub-compress c = search needs
-
-part-compress-start : tie.Need-part-compress-start Inv-loop μ-loop
-part-compress-start c = search needs
-
-part-compress-end : tie.Need-part-compress-end Inv-loop μ-loop
-part-compress-end c = search needs
-
 compress-requires : tie.Need-compress-requires Inv-loop μ-loop
 compress-requires c κs = search needs
+
+add-at : tie.Need-add-at Inv-loop μ-loop
+add-at c = search needs
 
 loop-less : tie.Need-loop-less Inv-loop μ-loop
 loop-less c = search needs
 
 loop-again : tie.Need-loop-again Inv-loop μ-loop
 loop-again c =
-    let l = c .before .before .before .loop in
-    let m = c .before .before .before .before .before .args .m .now in (
+    let l = c .before .before .loop in
+    let m = c .before .before .before .before .args .m .now in (
       omega arith,
       ap (λ s. Blocks ((length m - (l .at + 64)) / 64) s (drop (l .at + 64) m))
-          (c .compress .ensures ∙ ap (λ (n : ℕ). Compress (words (l .v)) (take n (drop (l .at) m))) (gap (l .at)))
-          ∙ sym (block-more (l .at) (words (l .v)) m (c .before .before .loop-test .taken)) ∙ l .inv .1,
+          (c .compress .ensures ∙ block-at (words (l .v)) m (l .at) (omega arith))
+          ∙ sym (block-more (l .at) (words (l .v)) m (c .before .loop-test .taken)) ∙ l .inv .1,
     )
 
 returns : tie.Need-returns Inv-loop μ-loop
@@ -67,11 +56,8 @@ blocks-spec =
     μ-loop
     loop-holds
     sub-loop
-    add-e
-    sub-compress
-    part-compress-start
-    part-compress-end
     compress-requires
+    add-at
     loop-less
     loop-again
     returns)
