@@ -2,8 +2,9 @@
 ghost use mathlib.Core.Path.{_≡_};
 ghost use Prim.Native.Nat.{_<_, _≤_, _+_};
 ghost use lib.ListN.{length, getD};
-ghost use Rattle.compression.specs.Schedule.{Schedule};
-ghost use Rattle.compression.specs.Compression.{words, Step, Steps, Added, Compress, CompressAt};
+ghost use Rattle.compression.specs.Constants.{K as constants};
+ghost use Rattle.compression.specs.Compression.{words, Step, Added, CompressAt};
+ghost use Rattle.compression.specs.Groups.{group, Turns, Groups};
 
 mod functions;
 mod schedule;
@@ -12,7 +13,9 @@ use functions::ch;
 use functions::large0;
 use functions::large1;
 use functions::maj;
-use schedule::schedule;
+use schedule::Group;
+use schedule::due;
+use schedule::load;
 use std::num::wrapping_add_u32;
 
 // The round constants (4.2.2): one table, of which a compression reads a copy of its own. [01:KF5 FM4]
@@ -119,40 +122,75 @@ fn step(s: State, k: u32, w: u32) -> State
     }
 }
 
-// Turn t, with the constant and the word of the schedule that belong to it.
-fn turn<'a>(s: State, k: &'a [u32; 64], w: &'a [u32; 64], t: usize) -> State
+// Turn t with a word of the schedule, and the constant that belongs to it.
+fn turn<'a>(s: State, k: &'a [u32; 64], t: usize, w: u32) -> State
     requires { ⌜ t < 64 ⌝ }
-    ensures { λ r. ⌜ words r ≡ Step (getD (now (k .entry)) t 0) (getD (now (w .entry)) t 0) (words s) ⌝ }
+    ensures { λ r. ⌜ words r ≡ Step (getD (now (k .entry)) t 0) w (words s) ⌝ }
 {
-    step(s, k[t], w[t])
+    step(s, k[t], w)
 }
 
-// Eight turns from turn t on.
-fn eight<'a>(s: State, k: &'a [u32; 64], w: &'a [u32; 64], t: usize) -> State
-    requires { ⌜ t + 8 ≤ 64 ⌝ }
-    ensures { λ r. ⌜ words r ≡ Steps 8 t (now (k .entry)) (now (w .entry)) (words s) ⌝ }
+// Sixteen turns from turn t on, written out: the compiler then keeps state and words in registers.
+fn turns<'a>(s: State, k: &'a [u32; 64], t: usize, w: Group) -> State
+    requires { ⌜ t + 16 ≤ 64 ⌝ }
+    ensures { λ r. ⌜ words r ≡ Turns t (now (k .entry)) (group w) (words s) ⌝ }
 {
+    let p = w.p;
+    let q = w.q;
+    let r = w.r;
+    let z = w.s;
     let t1 = t + 1;
     let t2 = t1 + 1;
     let t3 = t2 + 1;
     let t4 = t3 + 1;
     let t5 = t4 + 1;
     let t6 = t5 + 1;
-    let s2 = turn(turn(s, k, w, t), k, w, t1);
-    let s4 = turn(turn(s2, k, w, t2), k, w, t3);
-    let s6 = turn(turn(s4, k, w, t4), k, w, t5);
-    turn(turn(s6, k, w, t6), k, w, t6 + 1)
+    let t7 = t6 + 1;
+    let t8 = t7 + 1;
+    let t9 = t8 + 1;
+    let t10 = t9 + 1;
+    let t11 = t10 + 1;
+    let t12 = t11 + 1;
+    let t13 = t12 + 1;
+    let t14 = t13 + 1;
+    let s4 = turn(
+        turn(turn(turn(s, k, t, p.a), k, t1, p.b), k, t2, p.c),
+        k,
+        t3,
+        p.d,
+    );
+    let s8 = turn(
+        turn(turn(turn(s4, k, t4, q.a), k, t5, q.b), k, t6, q.c),
+        k,
+        t7,
+        q.d,
+    );
+    let s12 = turn(
+        turn(turn(turn(s8, k, t8, r.a), k, t9, r.b), k, t10, r.c),
+        k,
+        t11,
+        r.d,
+    );
+    turn(
+        turn(turn(turn(s12, k, t12, z.a), k, t13, z.b), k, t14, z.c),
+        k,
+        t14 + 1,
+        z.d,
+    )
 }
 
-// The 64 turns of step 3.
-fn rounds<'a>(s: State, k: &'a [u32; 64], w: &'a [u32; 64]) -> State
-    ensures { λ r. ⌜ words r ≡ Steps 64 0 (now (k .entry)) (now (w .entry)) (words s) ⌝ }
+// The 64 turns of step 3, sixteen at a time, of a block's words.
+fn rounds(s: State, first: Group) -> State
+    ensures { λ r. ⌜ words r ≡ Groups 4 0 constants (group first) (words s) ⌝ }
 {
+    let k = K;
+    let mut w = first;
     let mut v = s;
     let mut t = 0;
     while t < 64 {
-        v = eight(v, k, w, t);
-        t += 8;
+        w = due(w, t);
+        v = turns(v, &k, t, w);
+        t += 16;
     }
     v
 }
@@ -173,17 +211,6 @@ fn added(s: State, v: State) -> State
     }
 }
 
-// The hash value after a block.
-fn after(s: State, block: &[u8]) -> State
-    requires { ⌜ length (now block) ≡ 64 ⌝ }
-    ensures { λ r. ⌜ words r ≡ Compress (words s) (now (block .entry)) ⌝ }
-{
-    let k = K;
-    let w = schedule(block);
-    let v = rounds(s, &k, &w);
-    added(s, v)
-}
-
 // The hash value after the block of 64 bytes at a place of a slice, read where it stands. Where no 64 bytes
 // stand there the hash value stays. [02:W5.1 W5.3]
 pub fn compress(s: State, m: &[u8], at: usize) -> State
@@ -195,6 +222,5 @@ pub fn compress(s: State, m: &[u8], at: usize) -> State
     if m.len() - 64 < at {
         return s;
     }
-    let e = at + 64;
-    after(s, &m[at..e])
+    added(s, rounds(s, load(m, at)))
 }

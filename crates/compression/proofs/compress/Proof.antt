@@ -1,10 +1,12 @@
 -- The block at the place, if it stands there.
-use Rattle.compression.specs.Compression.{words, Compress}
-use Rattle.compression.proofs.Laws.{block-at, no-block}
-use lib.ListN.{take, drop}
+use Rattle.compression.proofs.Laws.{block-groups, no-block}
+use Rattle.compression.specs.Compression.{words, Added}
+use Rattle.compression.specs.Constants.{K}
+use Rattle.compression.specs.Groups.{Groups}
 use native.Mathlib.Omega.{arith}
-use Prim.Native.Nat.{ℕ, _+_, _-_}
-use mathlib.Core.Path.{_≡_, sym, ap, _∙_}
+use Prim.Native.Nat.{ℕ}
+use mathlib.Core.List.{List}
+use mathlib.Core.Path.{sym, ap, _∙_}
 use borrow.Author.Needs.{needs}
 use Rattle.compression.proofs.compress.Statement.{statement}
 use Rattle.compression.proofs.compress.Tie as tie
@@ -22,32 +24,30 @@ returns-2 c =
     let a = c .before .before .before .args in
     sym (no-block (words (a .s)) (a .m .now) (a .at) (omega arith))
 
-add-e : tie.Need-add-e
-add-e c = search needs
+load-requires : tie.Need-load-requires
+load-requires c κs = search needs
 
-sub-after : tie.Need-sub-after
-sub-after c = search needs
+rounds-requires : tie.Need-rounds-requires
+rounds-requires c κs = search needs
 
-part-after-start : tie.Need-part-after-start
-part-after-start c = search needs
-
-part-after-end : tie.Need-part-after-end
-part-after-end c = search needs
-
-after-requires : tie.Need-after-requires
-after-requires c κs = search needs
+added-requires : tie.Need-added-requires
+added-requires c κs = search needs
 
 returns-3 : tie.Need-returns-3
 returns-3 c =
-    let a = c .before .before .before .before .before .args in
-    c .after .ensures
-    ∙ ap (λ (n : ℕ). Compress (words (a .s)) (take n (drop (a .at) (a .m .now)))) (sixty-four (a .at))
-    ∙ sym (block-at (words (a .s)) (a .m .now) (a .at) (omega arith))
-  where
-    sixty-four : (n : ℕ) → n + 64 - n ≡ 64
-    sixty-four n = omega arith
+    let a = c .before .before .before .before .before .before .args in
+    c .added .ensures
+    ∙ ap (Added (words (a .s))) (c .before .rounds .ensures ∙ ap (λ (w : List ℕ). Groups 4 0 K w (words (a .s))) (c .before .before .load .ensures))
+    ∙ block-groups (words (a .s)) (a .m .now) (a .at) (omega arith)
 
 pub compress-spec : {M : Type 1} → statement M
 compress-spec =
     tie.close
-    (tie.spec returns sub-if2 returns-2 add-e sub-after part-after-start part-after-end after-requires returns-3)
+    (tie.spec
+    returns
+    sub-if2
+    returns-2
+    load-requires
+    rounds-requires
+    added-requires
+    returns-3)

@@ -1,4 +1,4 @@
--- The step at what the two tables hold at t.
+-- The step at what the table holds at t.
 use borrow.Author.Needs.{needs}
 use Rattle.compression.proofs.turn.Statement.{statement}
 use Rattle.compression.proofs.turn.Tie as tie
@@ -8,12 +8,6 @@ mul-step c = search needs
 
 element-copy-out-step : tie.Need-element-copy-out-step
 element-copy-out-step c = search needs
-
-mul-step-2 : tie.Need-mul-step-2
-mul-step-2 c = search needs
-
-element-copy-out-step-2 : tie.Need-element-copy-out-step-2
-element-copy-out-step-2 c = search needs
 
 step-requires : tie.Need-step-requires
 step-requires c κs = search needs
@@ -27,7 +21,5 @@ turn-spec =
     (tie.spec
     mul-step
     element-copy-out-step
-    mul-step-2
-    element-copy-out-step-2
     step-requires
     returns)

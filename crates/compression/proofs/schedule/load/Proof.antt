@@ -1,62 +1,52 @@
--- The words written so far, and zeros behind them.
+-- Four quads, one after the other.
+use Rattle.compression.proofs.Laws.{block-words}
 use Prim.Native.Nat.{ℕ}
-use Rattle.compression.proofs.Laws.{load-more}
-use Rattle.compression.specs.Schedule.{Words}
-use lib.ListN.{length, replicate}
-use native.Mathlib.Omega.{arith}
-use Prim.Native.Nat.{_≤_, _-_}
-use mathlib.Core.List.{_++_}
-use mathlib.Core.Path.{_≡_, refl, sym, ap, _∙_}
+use mathlib.Core.List.{List, _++_}
+use mathlib.Core.Path.{_≡_, ap₂, _∙_}
 use borrow.Author.Needs.{needs}
 use Rattle.compression.proofs.schedule.load.Statement.{statement}
 use Rattle.compression.proofs.schedule.load.Tie as tie
 
-abbrev Inv-loop : tie.InvT-loop
-Inv-loop block w₀ t₀ w t = (t ≤ 16) × (w ≡ Words t block ++ replicate (64 - t) 0)
+four-requires : tie.Need-four-requires
+four-requires c κs = search needs
 
-abbrev μ-loop : tie.MeasureT-loop
-μ-loop block w₀ t₀ w t = 16 - t
+add-four : tie.Need-add-four
+add-four c = search needs
 
-loop-holds : tie.Need-loop-holds Inv-loop μ-loop
-unfolding Words
-loop-holds c = search needs
+four-requires-2 : tie.Need-four-requires-2
+four-requires-2 c κs = search needs
 
-word-requires : tie.Need-word-requires Inv-loop μ-loop
-word-requires c κs = search needs
+add-four-2 : tie.Need-add-four-2
+add-four-2 c = search needs
 
-mul-w : tie.Need-mul-w Inv-loop μ-loop
-mul-w c = search needs
+four-requires-3 : tie.Need-four-requires-3
+four-requires-3 c κs = search needs
 
-array-write-w : tie.Need-array-write-w Inv-loop μ-loop
-array-write-w c = search needs
+add-four-3 : tie.Need-add-four-3
+add-four-3 c = search needs
 
-add-t : tie.Need-add-t Inv-loop μ-loop
-add-t c = search needs
+four-requires-4 : tie.Need-four-requires-4
+four-requires-4 c κs = search needs
 
-loop-less : tie.Need-loop-less Inv-loop μ-loop
-loop-less c = search needs
-
-loop-again : tie.Need-loop-again Inv-loop μ-loop
-loop-again c =
-    let l = c .before .before .loop in
-    (omega arith, load-more (l .t) (c .word .result) (c .before .before .before .before .args .block .now) (l .w) (omega arith) (l .inv .1) (c .word .ensures))
-
-returns : tie.Need-returns Inv-loop μ-loop
+returns : tie.Need-returns
 returns c =
-    c .before .loop .inv .1
-    ∙ ap (λ (n : ℕ). Words n (c .before .before .before .args .block .now) ++ replicate (64 - n) 0) (omega arith)
+    let a = c .before .before .before .before .before .args in
+    c .before .before .before .four .ensures beside c .before .before .four2 .ensures beside c .before .four3 .ensures beside c .four4 .ensures
+    ∙ block-words (a .at) (a .m .now)
+  where
+    infixr 60 _beside_
+    _beside_ : {a b x y : List ℕ} → a ≡ x → b ≡ y → a ++ b ≡ x ++ y
+    e beside f = ap₂ (λ (l r : List ℕ). l ++ r) e f
 
 pub load-spec : {M : Type 1} → statement M
 load-spec =
     tie.close
     (tie.spec
-    Inv-loop
-    μ-loop
-    loop-holds
-    word-requires
-    mul-w
-    array-write-w
-    add-t
-    loop-less
-    loop-again
+    four-requires
+    add-four
+    four-requires-2
+    add-four-2
+    four-requires-3
+    add-four-3
+    four-requires-4
     returns)

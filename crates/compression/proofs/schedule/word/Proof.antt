@@ -1,12 +1,9 @@
 -- Four bytes, each below 256.
-use Rattle.compression.specs.Schedule.{Word}
+use Rattle.compression.proofs.Laws.{word-here}
 use native.Mathlib.Omega.{arith}
 use borrow.Author.Needs.{needs}
 use Rattle.compression.proofs.schedule.word.Statement.{statement}
 use Rattle.compression.proofs.schedule.word.Tie as tie
-
-mul-at : tie.Need-mul-at
-mul-at c = search needs
 
 shared-slice-read-wide : tie.Need-shared-slice-read-wide
 shared-slice-read-wide c = search needs
@@ -60,14 +57,14 @@ add-result-3 : tie.Need-add-result-3
 add-result-3 c = search needs
 
 returns : tie.Need-returns
-unfolding Word
-returns c = omega arith
+returns c =
+    let a = c .before .before .before .before .before .before .before .before .before .args in
+    omega (arith, word-here (a .at) (a .m .now))
 
 pub word-spec : {M : Type 1} → statement M
 word-spec =
     tie.close
     (tie.spec
-    mul-at
     shared-slice-read-wide
     wide-requires
     mul-result
