@@ -1,6 +1,7 @@
 """The records and lines of the program crates/vectors: document 01, 'Keyed function and cipher'
-[01:SC2 KF3 KF7]. The lines come from published files and from other implementations (Python's hashlib
-and hmac, the openssl command) and never from our own program.
+[01:SC2 KF3 KF7], and the compression of a block where it stands [02:W5.3]. The lines come from published
+files and from other implementations (Python's hashlib and hmac, the openssl command, fips180.py for the
+hash value after one block) and never from our own program.
 
   vectors.py            compares crates/vectors/stdin and stdout with what is derived here
   vectors.py --write    writes them
@@ -14,13 +15,14 @@ import pathlib
 import subprocess
 import sys
 
+import fips180
 from derived import settle
 
 HERE = pathlib.Path(__file__).resolve().parent
 PROGRAM = HERE.parent / "crates" / "vectors"
 PACKAGE = "python3-cryptography-vectors"
 
-HASH, MAC, CIPHER = 1, 2, 3
+HASH, MAC, CIPHER, BLOCK = 1, 2, 3, 4
 EDGES = [319, 320, 321, 1023, 1024, 1025, 4095, 4096, 65535, 65536]
 LONGEST = 65536
 
@@ -48,6 +50,16 @@ class Generated:
 
     def encoded(self):
         return b"\1" + len(self.bytes).to_bytes(4, "big") + self.seed.to_bytes(4, "big")
+
+
+class Number:
+    """A number of 4 bytes."""
+
+    def __init__(self, number):
+        self.number = number
+
+    def encoded(self):
+        return self.number.to_bytes(4, "big")
 
 
 def told(output):
@@ -253,8 +265,25 @@ def many_ciphers():
                 yield CIPHER, (key, nonce, text), cipher_line(key, nonce, text)
 
 
+def block_line(m, place):
+    """The hash value after the initial one and the block at a place; the initial one where no 64 bytes stand there."""
+    block = m.bytes[place:place + 64]
+    return told(fips180.digest(fips180.compress(fips180.INITIAL, block) if len(block) == 64 else fips180.INITIAL))
+
+
+def many_blocks():
+    """Every place of 200 bytes, places past the last block and past the end, and slices of about a block [02:W5.1 W5.3]."""
+    fips180.held_to_hashlib(Generated(length, 9300 + length).bytes for length in list(range(301)) + EDGES)
+    pairs = [(200, place) for place in (*range(138), 199, 200, 201, 264, 2**32 - 1)]
+    pairs += [(length, place) for length in (0, 1, 63, 64, 65, 66) for place in (0, 1, 2, 3)]
+    pairs += [(LONGEST, place) for place in (LONGEST - 65, LONGEST - 64, LONGEST - 63, LONGEST)]
+    for length, place in pairs:
+        m = Generated(length, 9700 + length)
+        yield BLOCK, (m, Number(place)), block_line(m, place)
+
+
 def all_records():
-    for part in PUBLISHED + [many_hashes, many_macs, many_ciphers]:
+    for part in PUBLISHED + [many_hashes, many_macs, many_ciphers, many_blocks]:
         records = list(part())
         print("%s: %d records" % (part.__name__.replace("_", " "), len(records)), flush=True)
         yield from records

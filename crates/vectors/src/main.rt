@@ -1,10 +1,12 @@
-// Hash, F and E on published vectors and on what another implementation gives (document 01,
-// "Keyed function and cipher") [01:KF7]. Reads records from standard input and writes one line
-// for each: the output in hexadecimal, or the refusal's number and whether the output was left as
-// lent. tests/vectors.py makes the records and the lines to expect.
+// Hash, F and E, and the compression of a block, on published vectors and on what another
+// implementation gives (document 01, "Keyed function and cipher") [01:KF7] [02:W5.3]. Reads records
+// from standard input and writes one line for each: the output in hexadecimal, or the refusal's
+// number and whether the output was left as lent. tests/vectors.py makes the records and the lines
+// to expect.
 //
-// Input: the number of records that follow. A record is its kind (1: hash, 2: keyed hash, 3: cipher)
-// and its byte strings in the order of the call's arguments; crates/records reads them.
+// Input: the number of records that follow. A record is its kind (1: hash, 2: keyed hash, 3: cipher,
+// 4: compression) and its byte strings in the order of the call's arguments, for 4 a byte string and
+// a place, which is a number; crates/records reads them.
 //
 // No contract can say what is read or written, so a function that only writes promises just that
 // it gives back nothing.
@@ -110,6 +112,20 @@ fn cipher_record()
     cipher(&key[..k], &nonce[..j], &mut text[..n], &lent[..n]);
 }
 
+// The hash value that follows the initial one by the block at a place of a byte string, or the
+// initial one where no 64 bytes stand there.
+fn block_record()
+    ensures { λ r. ⌜ r ≡ tt ⌝ }
+{
+    let mut m = [0u8; ROOM];
+    let n = records::read_bytes(&mut m);
+    let at = records::read_number() as usize;
+    let s = compression::compress(sha256::initial(), &m[..n], at);
+    let mut digest = [LENT; 32];
+    sha256::digest(s, &mut digest);
+    write_digest_line(Completion::Done, &digest);
+}
+
 fn record()
     ensures { λ r. ⌜ r ≡ tt ⌝ }
 {
@@ -118,6 +134,7 @@ fn record()
         1 => hash_record(),
         2 => mac_record(),
         3 => cipher_record(),
+        4 => block_record(),
         _ => {
             io::write_all(STDOUT_FILENO, b"no such kind\n");
         }
