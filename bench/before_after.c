@@ -1,8 +1,8 @@
-/* How the time of each operation has changed: two archives, linked as shared objects and loaded apart from one another,
- * are measured in turn, many rounds, and the best round of each counts. Each works on a store of its own version, in form;
- * both fill theirs by the same calls. Each round checks that the answers agree, and a find's ids; the whole stores too,
- * where both archives have the same version; after each measurement of a count, that the count which tells its rows answers
- * the same. What one of the archives does not have is left out.
+/* How the time of hash, F and each operation has changed: two archives, linked as shared objects and loaded apart from
+ * one another, are measured in turn, many rounds, and the best round of each counts. Each works on a store of its own
+ * version, in form; both fill theirs by the same calls. Each round checks that the answers agree, the digests, and a find's
+ * ids; the whole stores too, where both archives have the same version; after each measurement of a count, that the count
+ * which tells its rows answers the same. What one of the archives does not have is left out.
  *   before_after BEFORE.so AFTER.so [ROUNDS]
  * The script bench/before_after builds both.
  */
@@ -25,6 +25,8 @@ typedef struct {
     int64_t (*make1)(uint64_t, uint64_t, uint64_t, uint64_t, uint8_t *, size_t);
     int64_t (*make)(uint64_t, uint64_t, uint64_t, uint64_t, uint64_t, uint8_t *, size_t);
   };
+  int64_t (*sha256)(const uint8_t *, size_t, uint8_t *);
+  int64_t (*hmac)(const uint8_t *, size_t, const uint8_t *, size_t, uint8_t *);
   int64_t (*insert_token)(const uint8_t *, size_t, const uint8_t *, size_t, const uint8_t *, size_t, uint64_t, uint64_t,
                           const uint8_t *, size_t, uint8_t *);
   int64_t (*find_token)(const uint8_t *, size_t, const uint8_t *, size_t, const uint8_t *, size_t, uint8_t *);
@@ -43,7 +45,7 @@ typedef struct {
 
 static Library before, after;
 /* Both work in one place, since where a store lies changes the time of a small call; and what each left. */
-static uint8_t work[LARGEST], out[65536], left[2][LARGEST + 65536], nonces[12 * 4096];
+static uint8_t work[LARGEST], out[65536], left[2][LARGEST + 65536], nonces[12 * 4096], text[65536];
 static int rounds = 40;
 static const uint8_t key[32] = {1, 2, 3, 4, 5, 6, 7, 8, 9}, empty[1];
 
@@ -63,6 +65,8 @@ static void load(Library *l, const char *path) {
     exit(1);
   }
   *(void **)&l->make = named(from, "mazhkuri_make", 1);
+  *(void **)&l->sha256 = named(from, "mazhkuri_sha256", 1);
+  *(void **)&l->hmac = named(from, "mazhkuri_hmac", 1);
   *(void **)&l->insert_token = named(from, "mazhkuri_insert_token", 1);
   *(void **)&l->find_token = named(from, "mazhkuri_find_token", 1);
   *(void **)&l->count_token = named(from, "mazhkuri_count_token", 1);
@@ -77,7 +81,6 @@ static void load(Library *l, const char *path) {
   *(void **)&l->joint_find = named(from, "mazhkuri_joint_find", 0);
   *(void **)&l->part_token = named(from, "mazhkuri_part_token", 0);
   l->version = l->joint_find ? 2 : 1;
-  l->size = l->version == 1 ? 8 + 216 * 4096 : LARGEST;
   l->token = l->version == 1 ? 141 : TOKEN;
 }
 
@@ -117,14 +120,16 @@ static void add(unsigned f, size_t j, const uint8_t *id) {
   add_ids(f, j, ids);
 }
 
-static void make(Library *l) {
+/* A store with m rows in M, V and R, and 4,096 in the other tables. */
+static void make(Library *l, size_t m) {
+  l->size = l->version == 1 ? 8 + 110 * m + 106 * 4096 : 10 + 171 * m + 106 * 4096;
   if (l->version == 1)
-    check(l->make1(0, 4096, 4096, 4096, l->base, l->size) == 0, "make");
+    check(l->make1(0, m, 4096, 4096, l->base, l->size) == 0, "make");
   else
-    check(l->make(0, 4096, 4096, 4096, 4096, l->base, l->size) == 0, "make");
+    check(l->make(0, m, 4096, 4096, m, l->base, l->size) == 0, "make");
 }
 
-static void fresh(void) { make(&before), make(&after); }
+static void fresh(void) { make(&before, 4096), make(&after, 4096); }
 
 static void entries(unsigned f, size_t n, const uint8_t *id) {
   uint8_t token[32];
@@ -172,9 +177,15 @@ static void check_tallied(const Library *l, const Call *c, int64_t wanted) {
   if (l->count_tallied) check(l->count_tallied(l->base, l->size, c->token, 32, &rows) == wanted && rows > 0, "count with rows");
 }
 
-static void measure(const char *name, const Call *c, int times, int64_t wanted) {
+static void line(const char *name, const double took[2], int digits) {
+  printf("%-44s %9.*f us %9.*f us   %6.2f times faster\n", name, digits, took[0], digits, took[1], took[0] / took[1]);
+  fflush(stdout);
+}
+
+/* The best time of each. */
+static void compare(const char *name, const Call *c, int times, int64_t wanted, double best[2]) {
   const Library *by[2] = {&before, &after};
-  double best[2] = {1e18, 1e18};
+  best[0] = best[1] = 1e18;
   int alike = before.version == after.version;
   if (alike) check(memcmp(before.base, after.base, after.size) == 0, "set up");
   for (int r = 0; r < times; r++) {
@@ -193,8 +204,56 @@ static void measure(const char *name, const Call *c, int times, int64_t wanted) 
     check(memcmp(left[0], left[1], sizeof out + (alike ? after.size : 0)) == 0, name);
   }
   if (c->kind == COUNT) check_tallied(&before, c, wanted), check_tallied(&after, c, wanted);
-  printf("%-44s %9.1f us %9.1f us   %6.2f times faster\n", name, best[0], best[1], best[0] / best[1]);
-  fflush(stdout);
+}
+
+static void measure(const char *name, const Call *c, int times, int64_t wanted) {
+  double best[2];
+  compare(name, c, times, wanted, best);
+  line(name, best, 1);
+}
+
+/* The hash of n bytes, or F of them in one shot: so many calls in a round. */
+static void hashes(const char *name, int keyed, size_t n, int calls) {
+  const Library *by[2] = {&before, &after};
+  double best[2] = {1e18, 1e18};
+  uint8_t digest[32], given[2][32];
+  for (int r = 0; r < 10 * rounds; r++) {
+    fill(text, n);
+    for (int i = 0; i < 2; i++) {
+      int k = (i + r) % 2;
+      int64_t told = 0;
+      double began = now();
+      for (int j = 0; j < calls; j++)
+        told |= keyed ? by[k]->hmac(key, 32, text, n, digest) : by[k]->sha256(text, n, digest);
+      double took = (now() - began) / calls;
+      if (took < best[k]) best[k] = took;
+      check(told == 0, name);
+      memcpy(given[k], digest, 32);
+    }
+    check(memcmp(given[0], given[1], 32) == 0, name);
+  }
+  line(name, best, 3);
+}
+
+/* F with a prepared key: a find over 1,000 addresses in a table M of one row, less the count, which does the same reading. */
+static void prepared(void) {
+  Call find = {.kind = FIND}, count = {.kind = COUNT};
+  double found[2], counted[2], each[2];
+  uint8_t id[16], name[3];
+  make(&before, 1), make(&after, 1);
+  for (int i = 0; i < 1000; i++) {
+    fill(id, 16);
+    add_ids(1, 1, id);
+    check(before.erase(before.base, before.size, id, 16) == 1 && after.erase(after.base, after.size, id, 16) == 1, "set up");
+  }
+  entries(1, 0, NULL);
+  field(name, 1);
+  after.find_token(key, 32, name, 3, empty, 0, find.token);
+  after.count_token(key, 32, name, 3, empty, 0, count.token);
+  compare("find", &find, rounds, 0, found);
+  compare("count", &count, rounds, 1000, counted);
+  for (int k = 0; k < 2; k++) each[k] = (found[k] - counted[k]) / 1000;
+  line("F, prepared key", each, 3);
 }
 
 static void inserts(const char *name, size_t j, int64_t wanted, unsigned p) {
@@ -261,7 +320,13 @@ int main(int count, char **arguments) {
   load(&before, arguments[1]);
   load(&after, arguments[2]);
   if (count > 3) rounds = atoi(arguments[3]);
-  printf("m = c = s = r = 4,096, p = 0: before (version %d), after (version %d)\n", before.version, after.version);
+  printf("before (version %d), after (version %d)\n", before.version, after.version);
+  hashes("SHA-256 of 64 KiB", 0, 65536, 1);
+  hashes("SHA-256 of 1 KiB", 0, 1024, 50);
+  hashes("SHA-256 of 32 bytes", 0, 32, 500);
+  hashes("F of 8 bytes, in one shot", 1, 8, 200);
+  prepared();
+  printf("m = c = s = r = 4,096, p = 0\n");
   static const size_t full[3] = {0, 2048, 3891};
   static const char *how[3] = {"empty", "half full", "95 % full"};
   for (int i = 0; i < 3; i++) {
