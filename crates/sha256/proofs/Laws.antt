@@ -1,18 +1,19 @@
 -- Laws of the definitions: blocks split, the padded tail fills whole blocks, and a hash goes on from the state after a first block.
-use mathlib.Core.Path.{_≡_, refl, sym, ap, ap₂, subst, _∙_}
+use mathlib.Core.Path.{_≡_, refl, sym, ap, ap₂, _∙_}
 use mathlib.Core.List.{List, [], _∷_, _++_, append-assoc, append-nil}
 use Prim.Native.Nat.{ℕ, zero, suc, _+_, _-_, _*_, _/_, _%_, _<_, _≤_}
 use native.Mathlib.Omega.{arith}
-use native.Mathlib.Nat.{add-zero, zero-add, suc-add, add-assoc, sub-zero, not-suc-le-zero, le-of-suc-le-suc}
+use native.Mathlib.Nat.{zero-add, suc-add, sub-zero}
 use native.Mathlib.Numerals.{add-one}
-use lib.ListN.{length, length-append, length-set, length-drop, length-replicate, take, drop, set, getD, replicate, replicate-append-replicate, drop-of-length-le, List·getD-append}
-use lib.Seq.{take-at, drop-at, drop-drop, take-append-le, drop-append-le, set-append-seam, take-suc, drop-cons, length-take-le}
+use lib.ListN.{length, length-append, length-drop, length-replicate, take, drop, set, getD, replicate, replicate-append-replicate}
+use lib.Seq.{take-at, drop-at, drop-drop, take-append-le, drop-append-le, take-suc, length-take-le}
 use Rattle.octets.specs.Number.{bytes}
 use Rattle.octets.specs.Part.{back}
 use Rattle.octets.proofs.Numbers.{length-bytes}
 use Rattle.octets.proofs.Parts.{back-next, length-back, length-part}
 use Rattle.sha256.specs.Constants.{H0}
-use Rattle.compression.specs.Compression.{Added, Compress}
+use Rattle.compression.specs.Compression.{Added, Compress, CompressAt}
+use Rattle.compression.proofs.Laws.{block-at, write-next}
 use Rattle.sha256.specs.Padding.{zeros, padding}
 use Rattle.sha256.specs.Hash.{Blocks, Tail, Final, Digest, Hash}
 
@@ -60,17 +61,31 @@ block-none at s m h = ap (λ (n : ℕ). Blocks n s (drop at m)) (none (length m 
 
 -- ---- the tail
 
-pub length-padding : (n : ℕ) → length (padding n) ≡ zeros n + 9
+length-padding : (n : ℕ) → length (padding n) ≡ zeros n + 9
 unfolding padding
 length-padding n = ap suc (length-append (replicate (zeros n) 0) (bytes 8 (8 * n))) ∙ omega (arith, length-replicate {A = ℕ} (zeros n) 0, length-bytes 8 (8 * n))
 
--- the rest with its padding fills whole blocks
-pub padded-whole : (r n : ℕ) → r ≡ n % 64 → r + (zeros n + 9) ≡ (r + 72) / 64 * 64
+-- the rest with its padding fills one block where 8 bytes are left behind the byte 128, else two
+pub fills-one : (r n : ℕ) → r ≡ n % 64 → r < 56 → 64 ≡ r + (zeros n + 9)
 unfolding zeros
-padded-whole r n e = omega arith
+fills-one r n e h = omega arith
 
-pub length-padded : (rest : List ℕ) (n : ℕ) → length rest ≡ n % 64 → length (rest ++ padding n) ≡ (length rest + 72) / 64 * 64
-length-padded rest n h = length-append rest (padding n) ∙ ap (λ (k : ℕ). length rest + k) (length-padding n) ∙ padded-whole (length rest) n h
+pub fills-two : (r n : ℕ) → r ≡ n % 64 → 56 ≤ r → 128 ≡ r + (zeros n + 9)
+unfolding zeros
+fills-two r n e h = omega arith
+
+pub length-padded : (rest : List ℕ) (n : ℕ) → length (rest ++ padding n) ≡ length rest + (zeros n + 9)
+length-padded rest n = length-append rest (padding n) ∙ ap (λ (k : ℕ). length rest + k) (length-padding n)
+
+-- the tail in one block
+pub tail-one : (s rest b : List ℕ) (n : ℕ) → length rest ≡ n % 64 → length rest < 56 → b ≡ rest ++ padding n → CompressAt s b 0 ≡ Tail s rest n
+unfolding Tail Blocks
+tail-one s rest b n e h f =
+    ap (λ (l : List ℕ). CompressAt s l 0) f ∙ block-at s (rest ++ padding n) 0 (omega (arith, long))
+    ∙ ap (λ (k : ℕ). Blocks (k / 64) s (rest ++ padding n)) long
+  where
+    long : 64 ≡ length (rest ++ padding n)
+    long = fills-one (length rest) n e h ∙ sym (length-padded rest n)
 
 -- the full blocks of a message, and then the rest
 pub final-is : (s m : List ℕ) (n : ℕ) → n % 64 ≡ 0 → Final s n m ≡ Tail (Blocks (length m / 64) s m) (drop (length m / 64 * 64) m) (n + length m)
@@ -115,81 +130,62 @@ after-block b m e =
     count : length (b ++ rest) / 64 ≡ suc (length rest / 64)
     count = omega (arith, length-append b rest)
 
--- ---- the tail, part after part: the rest, the byte 128, zeros, and the length
+-- ---- the tail over zeros: the rest, the byte 128 and the length
 
--- what stands after the byte 128, and after the zeros
-abbrev pub marked : List ℕ → List ℕ → List ℕ → List ℕ
-marked to rest xs = set (xs ++ drop (length rest) to) (length rest) 128
+module _ (to rest : List ℕ) (n : ℕ) (h : to ≡ replicate (length rest + (zeros n + 9)) 0) where
+  pub length-zeros : length to ≡ length rest + (zeros n + 9)
+  length-zeros = ap length h ∙ length-replicate {A = ℕ} (length rest + (zeros n + 9)) 0
 
-abbrev pub cleared : List ℕ → List ℕ → List ℕ → List ℕ → List ℕ
-cleared to rest xs ys = back (marked to rest xs) (length rest + 1) (length to - 8) ys
+  abbrev marked : List ℕ → List ℕ
+  marked xs = set (xs ++ drop (length rest) to) (length rest) 128
 
-module _ (to rest xs : List ℕ) (n : ℕ) (h : length to ≡ length rest + (zeros n + 9)) (f : xs ≡ rest) where
-  marked-is : marked to rest xs ≡ (rest ++ (128 ∷ [])) ++ drop (suc (length rest)) to
+  abbrev front : List ℕ
+  front = rest ++ (128 ∷ replicate (zeros n) 0)
+
+  marked-is : marked rest ≡ front ++ replicate 8 0
   marked-is =
-      ap (λ (l : List ℕ). set (l ++ drop (length rest) to) (length rest) 128) f
-      ∙ ap (λ (l : List ℕ). set (rest ++ l) (length rest) 128) (drop-cons to (length rest) 0 (omega arith))
-      ∙ set-append-seam rest (getD to (length rest) 0) (drop (suc (length rest)) to) 128
-      ∙ sym (append-assoc rest (128 ∷ []) (drop (suc (length rest)) to))
+      ap (λ (l : List ℕ). set (rest ++ drop (length rest) l) (length rest) 128) (h ∙ sym (replicate-append-replicate (length rest) (zeros n + 9) 0))
+      ∙ ap (λ (l : List ℕ). set (rest ++ l) (length rest) 128) (drop-at (replicate (length rest) 0) (replicate (zeros n + 9) 0) (length rest) (length-replicate {A = ℕ} (length rest) 0))
+      ∙ write-next rest (length rest) (zeros n + 9) (zeros n + 8) 128 refl (omega arith)
+      ∙ ap (λ (l : List ℕ). (rest ++ (128 ∷ [])) ++ l) (sym (replicate-append-replicate (zeros n) 8 0))
+      ∙ simp append-assoc
 
-  gap : length to - 8 - (length rest + 1) ≡ zeros n
-  gap = omega arith
+  length-front : length front ≡ length to - 8
+  length-front = length-append rest (128 ∷ replicate (zeros n) 0) ∙ omega (arith, length-zeros, length-replicate {A = ℕ} (zeros n) 0)
 
-  pub length-marked : length (marked to rest xs) ≡ length to
-  length-marked =
-      length-set (xs ++ drop (length rest) to) (length rest) 128 ∙ length-append xs (drop (length rest) to)
-      ∙ omega (arith, length-drop (length rest) to, ap length f)
+  pub pad-is : (xs ys : List ℕ) → xs ≡ rest → ys ≡ bytes (length (take (length to - (length to - 8)) (drop (length to - 8) (marked xs)))) (8 * n)
+      → back (marked xs) (length to - 8) (length to) ys ≡ rest ++ padding n
+  unfolding padding
+  pad-is xs ys e f =
+      let m = ap marked e ∙ marked-is in
+      let last : length to - (length to - 8) ≡ 8 = omega (arith, length-zeros) in
+      let eight = ap₂ (λ (l : List ℕ) (k : ℕ). bytes (length (take k (drop (length to - 8) l))) (8 * n)) m last ∙ ap (λ (l : List ℕ). bytes (length (take 8 l)) (8 * n)) (drop-at front (replicate 8 0) (length to - 8) length-front) in
+      ap₂ (λ (l r : List ℕ). back l (length to - 8) (length to) r) m (f ∙ eight)
+      ∙ back-next front (replicate 8 0) (bytes 8 (8 * n)) (length to - 8) (length to) length-front
+      ∙ ap (λ (k : ℕ). (front ++ bytes 8 (8 * n)) ++ drop k (replicate 8 0)) last
+      ∙ simp (append-assoc, append-nil)
 
-  module _ (ys : List ℕ) (g : ys ≡ replicate (length (take (length to - 8 - (length rest + 1)) (drop (length rest + 1) (marked to rest xs)))) 0) where
-    zeros-are : ys ≡ replicate (zeros n) 0
-    zeros-are = g ∙ ap (λ (k : ℕ). replicate k 0) (length-part (marked to rest xs) (length rest + 1) (length to - 8) (omega (arith, length-marked)) ∙ gap)
+-- ---- a digest over zeros, the byte 128, and 768 as the length
 
-    cleared-is : cleared to rest xs ys ≡ ((rest ++ (128 ∷ [])) ++ replicate (zeros n) 0) ++ drop (zeros n) (drop (suc (length rest)) to)
-    cleared-is =
-        ap₂ (λ (l y : List ℕ). back l (length rest + 1) (length to - 8) y) marked-is zeros-are
-        ∙ back-next (rest ++ (128 ∷ [])) (drop (suc (length rest)) to) (replicate (zeros n) 0) (length rest + 1) (length to - 8)
-        (length-append rest (128 ∷ []))
-        ∙ ap (λ (k : ℕ). ((rest ++ (128 ∷ [])) ++ replicate (zeros n) 0) ++ drop k (drop (suc (length rest)) to)) gap
+-- behind a front
+set-behind : (xs ys : List ℕ) (i a : ℕ) → set (xs ++ ys) (length xs + i) a ≡ xs ++ set ys i a
+set-behind [] ys i a = rw (zero-add i)
+set-behind (x ∷ xs) ys i a = rw (suc-add (length xs) i) (ap (λ (l : List ℕ). x ∷ l) (set-behind xs ys i a))
 
-    pub length-cleared : length (cleared to rest xs ys) ≡ length to
-    length-cleared =
-        length-back (marked to rest xs) (length rest + 1) (length to - 8) ys (omega arith) (omega (arith, length-marked))
-        (ap length zeros-are ∙ length-replicate {A = ℕ} (zeros n) 0 ∙ omega arith)
-        ∙ length-marked
+digest-padded : (d : List ℕ) → length d ≡ 32 → set (set (d ++ replicate 32 0) 32 128) 62 3 ≡ d ++ padding 96
+unfolding padding zeros bytes
+digest-padded d e =
+    let i : 32 ≡ length d + 0 = omega arith in
+    let j : 62 ≡ length d + 30 = omega arith in
+    ap₂ (λ (x y : ℕ). set (set (d ++ replicate 32 0) x 128) y 3) i j
+    ∙ ap (λ (l : List ℕ). set l (length d + 30) 3) (set-behind d (replicate 32 0) 0 128) ∙ set-behind d (128 ∷ replicate 31 0) 30 3
 
-    pub pad-is : (zs : List ℕ)
-        → zs ≡ bytes (length (take (length to - (length to - 8)) (drop (length to - 8) (cleared to rest xs ys)))) (8 * n)
-        → back (cleared to rest xs ys) (length to - 8) (length to) zs ≡ rest ++ padding n
-    unfolding padding
-    pad-is zs i =
-        ap₂ (λ (l z : List ℕ). back l (length to - 8) (length to) z) cleared-is eight
-        ∙ back-next ((rest ++ (128 ∷ [])) ++ replicate (zeros n) 0) (drop (zeros n) (drop (suc (length rest)) to)) (bytes 8 (8 * n))
-        (length to - 8) (length to) fits
-        ∙ ap (λ (l : List ℕ). (((rest ++ (128 ∷ [])) ++ replicate (zeros n) 0) ++ bytes 8 (8 * n)) ++ l) none
-        ∙ simp (append-assoc, append-nil)
-      where
-        last : length to - (length to - 8) ≡ 8
-        last = omega arith
-
-        eight : zs ≡ bytes 8 (8 * n)
-        eight =
-            i ∙ ap (λ (k : ℕ). bytes k (8 * n))
-            (length-part (cleared to rest xs ys) (length to - 8) (length to) (omega (arith, length-cleared)) ∙ last)
-
-        fits : length ((rest ++ (128 ∷ [])) ++ replicate (zeros n) 0) ≡ length to - 8
-        fits =
-            length-append (rest ++ (128 ∷ [])) (replicate (zeros n) 0)
-            ∙ omega (arith, length-append rest (128 ∷ []), length-replicate {A = ℕ} (zeros n) 0)
-
-        none : drop (length to - (length to - 8)) (drop (zeros n) (drop (suc (length rest)) to)) ≡ []
-        none =
-            drop-of-length-le (drop (zeros n) (drop (suc (length rest)) to)) {i = length to - (length to - 8)}
-            (omega (arith, length-drop (zeros n) (drop (suc (length rest)) to), length-drop (suc (length rest)) to))
-
-    pub length-pad : (zs : List ℕ)
-        → zs ≡ bytes (length (take (length to - (length to - 8)) (drop (length to - 8) (cleared to rest xs ys)))) (8 * n)
-        → length (back (cleared to rest xs ys) (length to - 8) (length to) zs) ≡ length to
-    length-pad zs i = ap length (pad-is zs i) ∙ length-append rest (padding n) ∙ omega (arith, length-padding n)
+pub finish-is : (s d xs : List ℕ) → length d ≡ 32 → xs ≡ d → CompressAt s (set (set (xs ++ replicate 32 0) 32 128) 62 3) 0 ≡ Final s 64 d
+unfolding Final
+finish-is s d xs e f =
+    let n : 96 ≡ 64 + length d = omega arith in
+    ap (λ (l : List ℕ). CompressAt s (set (set (l ++ replicate 32 0) 32 128) 62 3) 0) f
+    ∙ tail-one s d (set (set (d ++ replicate 32 0) 32 128) 62 3) 96 e (omega arith) (digest-padded d e) ∙ ap (Tail s d) n
 
 -- ---- the digest, word by word
 
@@ -226,7 +222,7 @@ module _ (i : ℕ) (to ws ys : List ℕ) (h : i < length ws) (e : length to ≡ 
 
 -- ---- how long a hash value and a digest are
 
-length-digest : (ws : List ℕ) → length (Digest ws) ≡ 4 * length ws
+pub length-digest : (ws : List ℕ) → length (Digest ws) ≡ 4 * length ws
 unfolding Digest
 length-digest [] = refl
 length-digest (w ∷ ws) = length-append (bytes 4 w) (Digest ws) ∙ omega (arith, length-bytes 4 w, length-digest ws)

@@ -43,30 +43,33 @@ fn blocks(s: State, m: &[u8]) -> State
     v
 }
 
-// Writes the rest of a message of n bytes in all, and its padding (5.1.1), over whole blocks.
+// Writes the rest of a message of n bytes in all, and its padding (5.1.1), over the zeros of whole blocks.
 fn pad(to: &mut [u8], rest: &[u8], n: usize)
-    requires { ⌜ (length (now to) ≡ length (now rest) + (zeros n + 9)) × (n ≤ 131072) ⌝ }
+    requires { ⌜ (now to ≡ replicate (length (now rest) + (zeros n + 9)) 0) × (n ≤ 131072) ⌝ }
     ensures { λ _. ⌜ now (to .exit) ≡ now (rest .entry) ++ padding n ⌝ }
 {
     let r = rest.len();
-    let a = r + 1;
     let e = to.len();
     let b = e - 8;
     octets::copy(&mut to[..r], rest);
     to[r] = 128;
-    octets::clear(&mut to[a..b]);
     octets::put(&mut to[b..e], 8 * (n as u64));
 }
 
-// The hash value after the rest of a message of n bytes in all, with its padding.
+// The hash value after the rest of a message of n bytes in all, with its padding: one block where it fits,
+// else two.
 fn tail(s: State, rest: &[u8], n: usize) -> State
     requires { ⌜ (length (now rest) ≡ n % 64) × (n ≤ 131072) ⌝ }
     ensures { λ r. ⌜ words r ≡ Tail (words s) (now (rest .entry)) n ⌝ }
 {
+    if rest.len() < 56 {
+        let mut last = [0u8; 64];
+        pad(&mut last, rest, n);
+        return compress(s, &last, 0);
+    }
     let mut last = [0u8; 128];
-    let e = (rest.len() + 72) / 64 * 64;
-    pad(&mut last[..e], rest, n);
-    blocks(s, &last[..e])
+    pad(&mut last, rest, n);
+    blocks(s, &last)
 }
 
 // The hash value after the last bytes of a message of which n bytes, whole blocks, led to s.
@@ -107,6 +110,18 @@ pub fn digest(s: State, to: &mut [u8])
         octets::put(&mut to[at..e], wide(w[i]));
         i += 1;
     }
+}
+
+// The hash value after a digest, the last 32 bytes of a message of 96 of which the first 64 led to s: its
+// words are written into the padded block itself.
+pub fn finish_digest(s: State, d: State) -> State
+    ensures { λ r. ⌜ words r ≡ Final (words s) 64 (Digest (words d)) ⌝ }
+{
+    let mut last = [0u8; 64];
+    digest(d, &mut last[..32]);
+    last[32] = 128;
+    last[62] = 3; // 768 bits
+    compress(s, &last, 0)
 }
 
 // The hash of a message of at most 65,536 bytes; refusal 9 above, with the digest left as lent. [01:KF7]

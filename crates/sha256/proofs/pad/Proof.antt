@@ -1,83 +1,38 @@
--- Each part is written where the one before ends.
-use Rattle.sha256.proofs.Laws.{length-pad}
-use Rattle.sha256.proofs.Laws.{length-marked, length-cleared, pad-is}
-use lib.Seq.{length-take-le}
-use lib.ListN.{length, length-set, length-append, length-drop, length-take}
-use mathlib.Core.Path.{_≡_, refl, sym, ap, _∙_}
+-- The rest, the byte 128 and the length over zeros.
+use Prim.Native.Nat.{_+_}
+use mathlib.Core.Path.{_≡_, sym, ap, _∙_}
 use native.Mathlib.Omega.{arith}
+use lib.ListN.{length, length-set}
+use lib.Seq.{length-take-le}
+use Rattle.sha256.specs.Padding.{zeros}
+use Rattle.sha256.proofs.Laws.{length-zeros, length-padded, pad-is}
 use borrow.Author.Needs.{needs}
 use Rattle.sha256.proofs.pad.Statement.{statement}
 use Rattle.sha256.proofs.pad.Tie as tie
 
-add-a : tie.Need-add-a
-add-a c = search needs
+long : (s : tie.Start) → let a = s .args in length (a .to .now) ≡ length (a .rest .now) + (zeros (a .n) + 9)
+long s = let a = s .args in length-zeros (a .to .now) (a .rest .now) (a .n) (s .pre .0)
 
-sub-b : tie.Need-sub-b
-sub-b c = search needs
-
-slice-relend-prefix-copy : tie.Need-slice-relend-prefix-copy
-slice-relend-prefix-copy c = search needs
-
-slice-aggregate-copy : tie.Need-slice-aggregate-copy
-slice-aggregate-copy c = sym (length-take-le (length (c .before .before .before .args .rest .now)) (c .before .before .before .args .to .now) (omega arith))
-
-copy-requires : tie.Need-copy-requires
-copy-requires c κs = sym (length-take-le (length (c .before .before .before .args .rest .now)) (c .before .before .before .args .to .now) (omega arith))
-
-slice-write-to : tie.Need-slice-write-to
-slice-write-to c = search needs
-
-sub-clear : tie.Need-sub-clear
-sub-clear c = search needs
-
-part-clear-start : tie.Need-part-clear-start
-part-clear-start c = search needs
-
-part-clear-end : tie.Need-part-clear-end
-part-clear-end c = omega (arith, length-marked (c .before .before .before .before .before .before .args .to .now) (c .before .before .before .before .before .before .args .rest .now) (c .before .before .copy .last .0) (c .before .before .before .before .before .before .args .n) (c .before .before .before .before .before .before .pre .0) (c .before .before .copy .ensures))
-
-clear-requires : tie.Need-clear-requires
-clear-requires c κs = search needs
-
-sub-put : tie.Need-sub-put
-sub-put c = search needs
-
-part-put-start : tie.Need-part-put-start
-part-put-start c = search needs
-
-part-put-end : tie.Need-part-put-end
-part-put-end c = omega (arith, length-cleared (c .before .before .before .before .before .before .before .before .before .before .args .to .now) (c .before .before .before .before .before .before .before .before .before .before .args .rest .now) (c .before .before .before .before .before .before .copy .last .0) (c .before .before .before .before .before .before .before .before .before .before .args .n) (c .before .before .before .before .before .before .before .before .before .before .pre .0) (c .before .before .before .before .before .before .copy .ensures) (c .before .before .clear .last .0) (c .before .before .clear .ensures))
-
-mul-put : tie.Need-mul-put
-mul-put c = search needs
-
-put-requires : tie.Need-put-requires
-put-requires c κs = search needs
-
-same-length : tie.Need-same-length
-same-length c = length-pad (c .before .before .before .before .before .before .before .before .before .before .before .before .before .before .args .to .now) (c .before .before .before .before .before .before .before .before .before .before .before .before .before .before .args .rest .now) (c .before .before .before .before .before .before .before .before .before .before .copy .last .0) (c .before .before .before .before .before .before .before .before .before .before .before .before .before .before .args .n) (c .before .before .before .before .before .before .before .before .before .before .before .before .before .before .pre .0) (c .before .before .before .before .before .before .before .before .before .before .copy .ensures) (c .before .before .before .before .before .before .clear .last .0) (c .before .before .before .before .before .before .clear .ensures) (c .before .before .put .last .0) (c .before .before .put .ensures)
+-- the front that the rest is copied to
+front : tie.Need-slice-aggregate-copy
+front c =
+    let s = c .before .before .before in
+    sym (length-take-le (length (s .args .rest .now)) (s .args .to .now) (omega (arith, long s)))
 
 returns : tie.Need-returns
-returns c = pad-is (c .before .before .before .before .before .before .before .before .before .before .before .before .before .before .args .to .now) (c .before .before .before .before .before .before .before .before .before .before .before .before .before .before .args .rest .now) (c .before .before .before .before .before .before .before .before .before .before .copy .last .0) (c .before .before .before .before .before .before .before .before .before .before .before .before .before .before .args .n) (c .before .before .before .before .before .before .before .before .before .before .before .before .before .before .pre .0) (c .before .before .before .before .before .before .before .before .before .before .copy .ensures) (c .before .before .before .before .before .before .clear .last .0) (c .before .before .before .before .before .before .clear .ensures) (c .before .before .put .last .0) (c .before .before .put .ensures)
+returns c =
+    let y = c .before .before .before .before .before .before in
+    let s = y .before .before .before .before in
+    let p = c .before .before .put in
+    pad-is (s .args .to .now) (s .args .rest .now) (s .args .n) (s .pre .0) (y .copy .last .0) (p .last .0) (y .copy .ensures) (p .ensures)
+
+same-length : tie.Need-same-length
+same-length c =
+    let s = c .before .before .before .before .before .before .before .before .before .before in
+    ap length (returns c) ∙ length-padded (s .args .rest .now) (s .args .n) ∙ sym (long s)
 
 pub pad-spec : {M : Type 1} → statement M
 pad-spec =
     tie.close
-    (tie.spec
-    add-a
-    sub-b
-    slice-relend-prefix-copy
-    slice-aggregate-copy
-    copy-requires
-    slice-write-to
-    sub-clear
-    part-clear-start
-    part-clear-end
-    clear-requires
-    sub-put
-    part-put-start
-    part-put-end
-    mul-put
-    put-requires
-    same-length
-    returns)
+    (tie.spec (λ c. omega (arith, long (c .before .before))) (λ c. omega (arith, long (c .before .before))) front (λ c κs. front c)
+    (λ c. omega (arith, long (c .before .before .before .before .before .before))) (λ c. search needs) (λ c. search needs) (λ c. simp length-set (omega (arith, long (c .before .before .before .before .before .before)))) (λ c. search needs) (λ c κs. search needs) same-length returns)
