@@ -69,10 +69,9 @@ pub fn tag(k: Keyed, m: &[u8], to: &mut [u8])
     requires { ⌜ (length (now m) ≤ 65536) × (length (now to) ≡ 32) ⌝ }
     ensures { λ _. ⌜ now (to .exit) ≡ Tag (words (k .inner)) (words (k .outer)) (now (m .entry)) ⌝ }
 {
-    let inner = k.inner;
-    let outer = k.outer;
-    sha256::digest(sha256::finish(inner, 64, m), to);
-    sha256::digest(sha256::finish(outer, 64, to), to);
+    let inner = sha256::finish(k.inner, 64, m);
+    let outer = sha256::finish_digest(k.outer, inner);
+    sha256::digest(outer, to);
 }
 
 // The tag of a message under a prepared key, in an array of its own.
