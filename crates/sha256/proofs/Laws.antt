@@ -6,14 +6,14 @@ use native.Mathlib.Omega.{arith}
 use native.Mathlib.Nat.{zero-add, suc-add, sub-zero}
 use native.Mathlib.Numerals.{add-one}
 use lib.ListN.{length, length-append, length-drop, length-replicate, take, drop, set, getD, replicate, replicate-append-replicate}
-use lib.Seq.{take-at, drop-at, drop-drop, take-append-le, drop-append-le, take-suc, length-take-le}
+use lib.Seq.{take-at, drop-at, drop-drop, take-append-le, drop-append-le, take-suc, length-take-le, set-append-seam}
 use Rattle.octets.specs.Number.{bytes}
 use Rattle.octets.specs.Part.{back}
 use Rattle.octets.proofs.Numbers.{length-bytes}
 use Rattle.octets.proofs.Parts.{back-next, length-back, length-part}
 use Rattle.sha256.specs.Constants.{H0}
 use Rattle.compression.specs.Compression.{Added, Compress, CompressAt}
-use Rattle.compression.proofs.Laws.{block-at, write-next}
+use Rattle.compression.proofs.Laws.{block-at}
 use Rattle.sha256.specs.Padding.{zeros, padding}
 use Rattle.sha256.specs.Hash.{Blocks, Tail, Final, Digest, Hash}
 
@@ -146,9 +146,13 @@ module _ (to rest : List ℕ) (n : ℕ) (h : to ≡ replicate (length rest + (ze
   marked-is =
       ap (λ (l : List ℕ). set (rest ++ drop (length rest) l) (length rest) 128) (h ∙ sym (replicate-append-replicate (length rest) (zeros n + 9) 0))
       ∙ ap (λ (l : List ℕ). set (rest ++ l) (length rest) 128) (drop-at (replicate (length rest) 0) (replicate (zeros n + 9) 0) (length rest) (length-replicate {A = ℕ} (length rest) 0))
-      ∙ write-next rest (length rest) (zeros n + 9) (zeros n + 8) 128 refl (omega arith)
+      ∙ ap (λ (k : ℕ). set (rest ++ replicate k 0) (length rest) 128) more ∙ set-append-seam rest 0 (replicate (zeros n + 8) 0) 128
+      ∙ sym (append-assoc rest (128 ∷ []) (replicate (zeros n + 8) 0))
       ∙ ap (λ (l : List ℕ). (rest ++ (128 ∷ [])) ++ l) (sym (replicate-append-replicate (zeros n) 8 0))
       ∙ simp append-assoc
+    where
+      more : zeros n + 9 ≡ suc (zeros n + 8)
+      more = omega arith
 
   length-front : length front ≡ length to - 8
   length-front = length-append rest (128 ∷ replicate (zeros n) 0) ∙ omega (arith, length-zeros, length-replicate {A = ℕ} (zeros n) 0)
