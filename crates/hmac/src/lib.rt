@@ -43,7 +43,7 @@ fn xor(to: &mut [u8], x: u8)
     }
 }
 
-// The hash value after the key's block XORed with a pad byte.
+// The hash value after the key's block XORed with a pad byte. [02:W5.2]
 fn padded(b: [u8; 64], x: u8) -> State
     ensures { λ r. ⌜ words r ≡ Compress H0 (map (λ (y : ℕ). bitXor y x) b) ⌝ }
 {

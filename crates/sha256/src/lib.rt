@@ -30,7 +30,7 @@ pub fn initial() -> State
     }
 }
 
-// The hash value after the full blocks of a slice.
+// The hash value after the full blocks of a slice, each read where it stands. [02:W5.1]
 fn blocks(s: State, m: &[u8]) -> State
     ensures { λ r. ⌜ words r ≡ Blocks (length (now (m .entry)) / 64) (words s) (now (m .entry)) ⌝ }
 {
@@ -57,7 +57,7 @@ fn pad(to: &mut [u8], rest: &[u8], n: usize)
 }
 
 // The hash value after the rest of a message of n bytes in all, with its padding: one block where it fits,
-// else two.
+// else two. [02:W5.2]
 fn tail(s: State, rest: &[u8], n: usize) -> State
     requires { ⌜ (length (now rest) ≡ n % 64) × (n ≤ 131072) ⌝ }
     ensures { λ r. ⌜ words r ≡ Tail (words s) (now (rest .entry)) n ⌝ }
@@ -113,7 +113,7 @@ pub fn digest(s: State, to: &mut [u8])
 }
 
 // The hash value after a digest, the last 32 bytes of a message of 96 of which the first 64 led to s: its
-// words are written into the padded block itself.
+// words are written into the padded block itself. [02:W5.2]
 pub fn finish_digest(s: State, d: State) -> State
     ensures { λ r. ⌜ words r ≡ Final (words s) 64 (Digest (words d)) ⌝ }
 {
@@ -125,6 +125,7 @@ pub fn finish_digest(s: State, d: State) -> State
 }
 
 // The hash of a message of at most 65,536 bytes; refusal 9 above, with the digest left as lent. [01:KF7]
+// [02:W5.4 W5.5]
 pub fn hash(message: &[u8], out: &mut [u8; 32]) -> Completion
     ensures { λ r. ⌜ completion r ≡ hashAnswer (now (message .entry)) ⌝ }
     ensures { λ _. ⌜ now (out .exit) ≡ hashDigest (now (message .entry)) (now (out .entry)) ⌝ }
