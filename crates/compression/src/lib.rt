@@ -130,7 +130,7 @@ fn turn<'a>(s: State, k: &'a [u32; 64], t: usize, w: u32) -> State
     step(s, k[t], w)
 }
 
-// Sixteen turns from turn t on, written out: the compiler then keeps state and words in registers.
+// Sixteen turns from turn t on, written out and called at one place, so that the compiler inlines them.
 fn turns<'a>(s: State, k: &'a [u32; 64], t: usize, w: Group) -> State
     requires { ⌜ t + 16 ≤ 64 ⌝ }
     ensures { λ r. ⌜ words r ≡ Turns t (now (k .entry)) (group w) (words s) ⌝ }
@@ -153,30 +153,14 @@ fn turns<'a>(s: State, k: &'a [u32; 64], t: usize, w: Group) -> State
     let t12 = t11 + 1;
     let t13 = t12 + 1;
     let t14 = t13 + 1;
-    let s4 = turn(
-        turn(turn(turn(s, k, t, p.a), k, t1, p.b), k, t2, p.c),
-        k,
-        t3,
-        p.d,
-    );
-    let s8 = turn(
-        turn(turn(turn(s4, k, t4, q.a), k, t5, q.b), k, t6, q.c),
-        k,
-        t7,
-        q.d,
-    );
-    let s12 = turn(
-        turn(turn(turn(s8, k, t8, r.a), k, t9, r.b), k, t10, r.c),
-        k,
-        t11,
-        r.d,
-    );
-    turn(
-        turn(turn(turn(s12, k, t12, z.a), k, t13, z.b), k, t14, z.c),
-        k,
-        t14 + 1,
-        z.d,
-    )
+    let s2 = turn(turn(s, k, t, p.a), k, t1, p.b);
+    let s4 = turn(turn(s2, k, t2, p.c), k, t3, p.d);
+    let s6 = turn(turn(s4, k, t4, q.a), k, t5, q.b);
+    let s8 = turn(turn(s6, k, t6, q.c), k, t7, q.d);
+    let s10 = turn(turn(s8, k, t8, r.a), k, t9, r.b);
+    let s12 = turn(turn(s10, k, t10, r.c), k, t11, r.d);
+    let s14 = turn(turn(s12, k, t12, z.a), k, t13, z.b);
+    turn(turn(s14, k, t14, z.c), k, t14 + 1, z.d)
 }
 
 // The 64 turns of step 3, sixteen at a time, of a block's words.

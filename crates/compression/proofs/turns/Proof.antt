@@ -7,136 +7,88 @@ use borrow.Author.Needs.{needs}
 use Rattle.compression.proofs.turns.Statement.{statement}
 use Rattle.compression.proofs.turns.Tie as tie
 
-add-t1 : tie.Need-add-t1
-add-t1 c = search needs
+-- where the function starts, seen from behind turn 6 and those after it
+abbrev start6 : tie.After-turn6 → tie.Start
+start6 c = c .before .before .before .before .before .before .before .before .before .before
 
-add-t2 : tie.Need-add-t2
-add-t2 c = search needs
+abbrev start7 : tie.After-turn7 → tie.Start
+start7 c = start6 (c .before)
 
-add-t3 : tie.Need-add-t3
-add-t3 c = search needs
+abbrev start8 : tie.After-turn8 → tie.Start
+start8 c = start7 (c .before)
 
-add-t4 : tie.Need-add-t4
-add-t4 c = search needs
+abbrev start9 : tie.After-turn9 → tie.Start
+start9 c = start8 (c .before)
 
-add-t5 : tie.Need-add-t5
-add-t5 c = search needs
+abbrev start10 : tie.After-turn10 → tie.Start
+start10 c = start9 (c .before)
 
-add-t6 : tie.Need-add-t6
-add-t6 c = search needs
+abbrev start11 : tie.After-turn11 → tie.Start
+start11 c = start10 (c .before)
 
-add-t7 : tie.Need-add-t7
-add-t7 c = search needs
+abbrev start12 : tie.After-turn12 → tie.Start
+start12 c = start11 (c .before)
 
-add-t8 : tie.Need-add-t8
-add-t8 c = search needs
+abbrev start13 : tie.After-turn13 → tie.Start
+start13 c = start12 (c .before)
 
-add-t9 : tie.Need-add-t9
-add-t9 c = search needs
+abbrev start14 : tie.After-turn14 → tie.Start
+start14 c = start13 (c .before)
 
-add-t10 : tie.Need-add-t10
-add-t10 c = search needs
-
-add-t11 : tie.Need-add-t11
-add-t11 c = search needs
-
-add-t12 : tie.Need-add-t12
-add-t12 c = search needs
-
-add-t13 : tie.Need-add-t13
-add-t13 c = search needs
-
-add-t14 : tie.Need-add-t14
-add-t14 c = search needs
-
-turn-requires : tie.Need-turn-requires
-turn-requires c κs = search needs
-
-turn-requires-2 : tie.Need-turn-requires-2
-turn-requires-2 c κs = search needs
-
-turn-requires-3 : tie.Need-turn-requires-3
-turn-requires-3 c κs = search needs
-
-turn-requires-4 : tie.Need-turn-requires-4
-turn-requires-4 c κs = search needs
-
-turn-requires-5 : tie.Need-turn-requires-5
-turn-requires-5 c κs = search needs
-
-turn-requires-6 : tie.Need-turn-requires-6
-turn-requires-6 c κs = search needs
-
-turn-requires-7 : tie.Need-turn-requires-7
-turn-requires-7 c κs = omega (arith, c .before .before .before .before .before .before .before .before .before .before .pre)
-
-turn-requires-8 : tie.Need-turn-requires-8
-turn-requires-8 c κs = omega (arith, c .before .before .before .before .before .before .before .before .before .before .before .pre)
-
-turn-requires-9 : tie.Need-turn-requires-9
-turn-requires-9 c κs = omega (arith, c .before .before .before .before .before .before .before .before .before .before .before .before .pre)
-
-turn-requires-10 : tie.Need-turn-requires-10
-turn-requires-10 c κs = omega (arith, c .before .before .before .before .before .before .before .before .before .before .before .before .before .pre)
-
-turn-requires-11 : tie.Need-turn-requires-11
-turn-requires-11 c κs = omega (arith, c .before .before .before .before .before .before .before .before .before .before .before .before .before .before .pre)
-
-turn-requires-12 : tie.Need-turn-requires-12
-turn-requires-12 c κs = omega (arith, c .before .before .before .before .before .before .before .before .before .before .before .before .before .before .before .pre)
-
-turn-requires-13 : tie.Need-turn-requires-13
-turn-requires-13 c κs = omega (arith, c .before .before .before .before .before .before .before .before .before .before .before .before .before .before .before .before .pre)
-
-turn-requires-14 : tie.Need-turn-requires-14
-turn-requires-14 c κs = omega (arith, c .before .before .before .before .before .before .before .before .before .before .before .before .before .before .before .before .before .pre)
-
-turn-requires-15 : tie.Need-turn-requires-15
-turn-requires-15 c κs = omega (arith, c .before .before .before .before .before .before .before .before .before .before .before .before .before .before .before .before .before .before .pre)
-
-add-turn : tie.Need-add-turn
-add-turn c = omega (arith, c .before .before .before .before .before .before .before .before .before .before .before .before .before .before .before .before .before .before .before .pre)
-
-turn-requires-16 : tie.Need-turn-requires-16
-turn-requires-16 c κs = omega (arith, c .before .before .before .before .before .before .before .before .before .before .before .before .before .before .before .before .before .before .before .pre)
+abbrev start15 : tie.After-turn15 → tie.Start
+start15 c = start14 (c .before)
 
 returns : tie.Need-returns
 unfolding Turns
-returns c = c .turn16 .ensures ∙ ap (Step _ _) (c .before .turn15 .ensures ∙ ap (Step _ _) (c .before .before .turn14 .ensures ∙ ap (Step _ _) (c .before .before .before .turn13 .ensures ∙ ap (Step _ _) (c .before .before .before .before .turn12 .ensures ∙ ap (Step _ _) (c .before .before .before .before .before .turn11 .ensures ∙ ap (Step _ _) (c .before .before .before .before .before .before .turn10 .ensures ∙ ap (Step _ _) (c .before .before .before .before .before .before .before .turn9 .ensures ∙ ap (Step _ _) (c .before .before .before .before .before .before .before .before .turn8 .ensures ∙ ap (Step _ _) (c .before .before .before .before .before .before .before .before .before .turn7 .ensures ∙ ap (Step _ _) (c .before .before .before .before .before .before .before .before .before .before .turn6 .ensures ∙ ap (Step _ _) (c .before .before .before .before .before .before .before .before .before .before .before .turn5 .ensures ∙ ap (Step _ _) (c .before .before .before .before .before .before .before .before .before .before .before .before .turn4 .ensures ∙ ap (Step _ _) (c .before .before .before .before .before .before .before .before .before .before .before .before .before .turn3 .ensures ∙ ap (Step _ _) (c .before .before .before .before .before .before .before .before .before .before .before .before .before .before .turn2 .ensures ∙ ap (Step _ _) (c .before .before .before .before .before .before .before .before .before .before .before .before .before .before .before .turn .ensures)))))))))))))))
+returns c =
+    let c15 = c .before in
+    let c14 = c15 .before in
+    let c13 = c14 .before in
+    let c12 = c13 .before in
+    let c11 = c12 .before in
+    let c10 = c11 .before in
+    let c9 = c10 .before in
+    let c8 = c9 .before in
+    let c7 = c8 .before in
+    let c6 = c7 .before in
+    let c5 = c6 .before in
+    let c4 = c5 .before in
+    let c3 = c4 .before in
+    let c2 = c3 .before in
+    let c1 = c2 .before in
+    c .turn16 .ensures
+    ∙ ap (Step _ _) (c15 .turn15 .ensures
+    ∙ ap (Step _ _) (c14 .turn14 .ensures
+    ∙ ap (Step _ _) (c13 .turn13 .ensures
+    ∙ ap (Step _ _) (c12 .turn12 .ensures
+    ∙ ap (Step _ _) (c11 .turn11 .ensures
+    ∙ ap (Step _ _) (c10 .turn10 .ensures
+    ∙ ap (Step _ _) (c9 .turn9 .ensures
+    ∙ ap (Step _ _) (c8 .turn8 .ensures
+    ∙ ap (Step _ _) (c7 .turn7 .ensures
+    ∙ ap (Step _ _) (c6 .turn6 .ensures
+    ∙ ap (Step _ _) (c5 .turn5 .ensures
+    ∙ ap (Step _ _) (c4 .turn4 .ensures
+    ∙ ap (Step _ _) (c3 .turn3 .ensures
+    ∙ ap (Step _ _) (c2 .turn2 .ensures
+    ∙ ap (Step _ _) (c1 .turn .ensures)))))))))))))))
 
 pub turns-spec : {M : Type 1} → statement M
 turns-spec =
     tie.close
     (tie.spec
-    add-t1
-    add-t2
-    add-t3
-    add-t4
-    add-t5
-    add-t6
-    add-t7
-    add-t8
-    add-t9
-    add-t10
-    add-t11
-    add-t12
-    add-t13
-    add-t14
-    turn-requires
-    turn-requires-2
-    turn-requires-3
-    turn-requires-4
-    turn-requires-5
-    turn-requires-6
-    turn-requires-7
-    turn-requires-8
-    turn-requires-9
-    turn-requires-10
-    turn-requires-11
-    turn-requires-12
-    turn-requires-13
-    turn-requires-14
-    turn-requires-15
-    add-turn
-    turn-requires-16
+    (λ c. search needs) (λ c. search needs) (λ c. search needs) (λ c. search needs) (λ c. search needs) (λ c. search needs) (λ c. search needs)
+    (λ c. search needs) (λ c. search needs) (λ c. search needs) (λ c. search needs) (λ c. search needs) (λ c. search needs) (λ c. search needs)
+    (λ c κs. search needs) (λ c κs. search needs) (λ c κs. search needs) (λ c κs. search needs) (λ c κs. search needs) (λ c κs. search needs)
+    (λ c κs. omega (arith, start6 c .pre))
+    (λ c κs. omega (arith, start7 c .pre))
+    (λ c κs. omega (arith, start8 c .pre))
+    (λ c κs. omega (arith, start9 c .pre))
+    (λ c κs. omega (arith, start10 c .pre))
+    (λ c κs. omega (arith, start11 c .pre))
+    (λ c κs. omega (arith, start12 c .pre))
+    (λ c κs. omega (arith, start13 c .pre))
+    (λ c κs. omega (arith, start14 c .pre))
+    (λ c. omega (arith, start15 c .pre))
+    (λ c κs. omega (arith, start15 c .pre))
     returns)
