@@ -10,6 +10,7 @@ first difference.
 LIBRARY is the archive linked as a shared object (tests/run makes it). --long runs ten times as many.
 A table's rows fix its bytes [02:W2.5], so whole stores are compared byte for byte. Every count is made by both of its
 functions: the one that tells rows gives the same number, and the model's rows, or leaves what it was lent [02:W3.8].
+The model hashes by hashlib, so that calls promise the same bytes whichever way ours reads a message [02:W5.5].
 """
 import argparse
 import collections

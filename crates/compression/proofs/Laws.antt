@@ -8,7 +8,7 @@ use native.Mathlib.Numerals.{add-one}
 use borrow.Author.Tests.{le-leb, lt-leb}
 use lib.ListN.{length, length-append, length-drop, take, drop, getD, take-append-drop}
 use lib.Seq.{take-all, take-append-le, drop-append-le, drop-drop, getD-take, getD-drop}
-use Rattle.compression.specs.Words.{_⊞_, σ0, σ1}
+use Rattle.compression.specs.Words.{_⊞_}
 use Rattle.compression.specs.Schedule.{Word, Words, Next, Schedule}
 use Rattle.compression.specs.Compression.{Step, Steps, Added, Compress, CompressAt}
 use Rattle.compression.specs.Groups.{Slide, Slides, Due, Turns, Groups}

@@ -1,7 +1,7 @@
 // The compression of one block (FIPS 180-4, 6.2.2).
 ghost use mathlib.Core.Path.{_≡_};
 ghost use Prim.Native.Nat.{_<_, _≤_, _+_};
-ghost use lib.ListN.{length, getD};
+ghost use lib.ListN.{getD};
 ghost use Rattle.compression.specs.Constants.{K as constants};
 ghost use Rattle.compression.specs.Compression.{words, Step, Added, CompressAt};
 ghost use Rattle.compression.specs.Groups.{group, Turns, Groups};

@@ -1,12 +1,12 @@
 -- What is left decides: the groups from turn t on, of the words due there.
 use Rattle.compression.specs.Constants.{K}
 use Rattle.compression.specs.Compression.{words}
-use Rattle.compression.specs.Groups.{group, Due, Turns, Groups}
+use Rattle.compression.specs.Groups.{group, Due, Groups}
 use Rattle.compression.proofs.Laws.{group-more, group-none}
 use native.Mathlib.Omega.{arith}
 use Prim.Native.Nat.{ℕ, _+_, _-_, _/_, _%_, _≤_}
 use mathlib.Core.List.{List}
-use mathlib.Core.Path.{_≡_, refl, sym, ap, ap₂, _∙_}
+use mathlib.Core.Path.{_≡_, refl, sym, ap, _∙_}
 use borrow.Author.Needs.{needs}
 use Rattle.compression.proofs.rounds.Statement.{statement}
 use Rattle.compression.proofs.rounds.Tie as tie

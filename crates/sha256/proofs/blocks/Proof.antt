@@ -1,14 +1,12 @@
 -- What is left decides: the full blocks from at on.
-use lib.ListN.{take}
-use Prim.Native.Nat.{ℕ, _+_}
+use Prim.Native.Nat.{_+_, _-_, _/_, _≤_}
 use Rattle.sha256.proofs.Laws.{block-first, block-more, block-none}
 use Rattle.sha256.specs.Hash.{Blocks}
 use Rattle.compression.specs.Compression.{words}
 use Rattle.compression.proofs.Laws.{block-at}
 use lib.ListN.{length, drop}
 use native.Mathlib.Omega.{arith}
-use Prim.Native.Nat.{_≤_, _-_, _/_}
-use mathlib.Core.Path.{_≡_, refl, sym, ap, _∙_}
+use mathlib.Core.Path.{_≡_, sym, ap, _∙_}
 use borrow.Author.Needs.{needs}
 use Rattle.sha256.proofs.blocks.Statement.{statement}
 use Rattle.sha256.proofs.blocks.Tie as tie
