@@ -11,6 +11,9 @@ use Rattle.answer.specs.declared.Counted.{Counted}
 use Rattle.answer.specs.declared.Counted.the-variants.{Number, Refused as Refused₁}
 use Rattle.answer.specs.declared.Tallied.{Tallied}
 use Rattle.answer.specs.declared.Tallied.the-variants.{Number as Number₂, Refused as Refused₂}
+use Rattle.answer.specs.declared.Faults.{Faults}
+use Rattle.answer.specs.declared.Inspected.{Inspected}
+use Rattle.answer.specs.declared.Inspected.the-variants.{Numbers, Refused as Refused₃}
 
 -- done, with the values answered; refused, with the paper's number and what it carries
 pub data Answer : Type 0 where
@@ -80,12 +83,20 @@ abbrev pub tallied : Tallied → Answer
 tallied (Number₂ n rows) = done (n ∷ rows ∷ [])
 tallied (Refused₂ r) = refusal r
 
--- the rows looked at that such an answer carries; a refusal carries none [02:W3.8]
+-- what a check counts, in the order in which it is told [check:2 check:3 check:4 check:5 check:6 check:7 check:8]
+abbrev pub faultsOf : Faults → List ℕ
+faultsOf f = f .mm ∷ f .cc ∷ f .vm ∷ f .mv ∷ f .vr ∷ f .rv ∷ f .excess ∷ []
+
+abbrev pub inspected : Inspected → Answer
+inspected (Numbers f) = done (faultsOf f)
+inspected (Refused₃ r) = refusal r
+
+-- the rows looked at that a count's answer carries; a refusal carries none [02:W3.8]
 abbrev pub rowsOf : Answer → ℕ
 rowsOf (done l) = getD l 1 0
 rowsOf (refused n l) = 0
 
--- such an answer without the rows looked at [02:W3.8]
+-- that answer without the rows looked at [02:W3.8]
 abbrev pub withoutRows : Answer → Answer
 withoutRows (done l) = done (take 1 l)
 withoutRows (refused n l) = refused n l

@@ -68,6 +68,30 @@ pub enum Tallied {
     Refused(Refusal),
 }
 
+// What a check counts: rows of a store that do not go together. [check:2 check:3 check:4 check:5 check:6 check:7 check:8]
+pub struct Faults {
+    // Rows of M whose tag a row of M before them has.
+    pub mm: u64,
+    // Rows of C whose tag a row of C before them has.
+    pub cc: u64,
+    // Rows of V whose tag no row of M has.
+    pub vm: u64,
+    // Rows of M whose tag no row of V has.
+    pub mv: u64,
+    // Rows of V whose id no row of R has.
+    pub vr: u64,
+    // Rows of R whose id no row of V has.
+    pub rv: u64,
+    // The used rows of R less those of V, where there are more.
+    pub excess: u64,
+}
+
+// The answer of a check.
+pub enum Inspected {
+    Numbers(Faults),
+    Refused(Refusal),
+}
+
 // The paper's number of a refusal.
 pub fn number(r: Refusal) -> u64
     ensures { λ n. ⌜ n ≡ numberOf r ⌝ }

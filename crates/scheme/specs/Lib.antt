@@ -17,6 +17,7 @@ pub mod Call
 pub mod Ledger
 pub mod Run
 pub mod Order
+pub mod Check
 pub mod Premise
 pub mod Claim
 pub mod Example

@@ -64,3 +64,16 @@ upTo (suc n) = upTo n ++ (suc n ∷ [])
 abbrev pub distinct : List (List ℕ) → List (List ℕ)
 distinct [] = []
 distinct (x ∷ xs) = x ∷ select (λ y. not (same y x)) (distinct xs)
+
+-- how many elements equal an earlier one, where some were seen before the list
+abbrev pub repeatsAfter : List (List ℕ) → List (List ℕ) → ℕ
+repeatsAfter seen [] = 0
+repeatsAfter seen (x ∷ xs) = bit (anyOf (same x) seen) + repeatsAfter (x ∷ seen) xs
+
+-- how many elements equal an earlier one
+unfoldable pub repeats : List (List ℕ) → ℕ
+repeats xs = repeatsAfter [] xs
+
+-- how many elements of the first list equal none of the second
+unfoldable pub lacking : List (List ℕ) → List (List ℕ) → ℕ
+lacking xs ys = count (λ x. not (anyOf (same x) ys)) xs
