@@ -22,6 +22,7 @@ use Rattle.scheme.proofs.Queries.{After, order-step, erase-step, find-s
 use Rattle.scheme.proofs.Inserting.{insert-step}
 use Rattle.scheme.proofs.Joining.{test-step, joint-step}
 use Rattle.scheme.proofs.Compactions.{compact-step}
+use Rattle.scheme.proofs.Checking.{check-step}
 
 module _ (x : Setting) where
   open Setting x using (suite, K, z, calls)
@@ -47,6 +48,7 @@ module _ (x : Setting) where
   one i before l hi s (Call.count key f) k n b = count-step x i before l (omega arith) s key f k (n f (List·Memᴰ·head refl))
   one i before l hi s (Call.compact key nonces) k n b = compact-step x i before l hi s key nonces k
   one i before l hi s Call.order k n b = order-step x i before l (omega arith) s
+  one i before l hi s Call.check k n b = check-step x i before l (omega arith) s
   one i before l hi s (Call.test key f id) k n b = test-step x i before l (omega arith) s key f id k (n f (List·Memᴰ·head refl))
   one i before l hi s (Call.jointFind parts output) k n b = joint-step x i before l (omega arith) s output parts k n
 

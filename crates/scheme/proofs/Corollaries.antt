@@ -251,6 +251,7 @@ has-step z l pr id (Call.compact key nonces) k m = go (ledgerCompactVerdict z l 
     go none = unfold afterCompaction in m
     go (some r) = m
 has-step z l pr id Call.order k m = m
+has-step z l pr id Call.check k m = m
 has-step z l pr id (Call.test key f other) k m = m
 has-step z l pr id (Call.jointFind parts output) k m = m
 
@@ -366,6 +367,7 @@ lacks-step z l id (Call.compact key nonces) k h = go (ledgerCompactVerdict z l k
     go none = unfold afterCompaction in h
     go (some r) = h
 lacks-step z l id Call.order k h = h
+lacks-step z l id Call.check k h = h
 lacks-step z l id (Call.test key f other) k h = h
 lacks-step z l id (Call.jointFind parts output) k h = h
 

@@ -1,5 +1,5 @@
 -- The rows of C and the log behind S. For each pair: anchors 1 to B and counters start + 1 to start + k are held and none above,
--- where k is how often the pair stands in the log; so the reading gives B, start, k and the number made.
+-- where k is how often the pair stands in the log; so the reading gives B, start, k and the number made. No tag stands twice.
 use Prim.Native.Nat.{ℕ, zero, suc, _+_, _≤_, _<_}
 use mathlib.Core.Path.{_≡_, refl, sym, ap, _∙_}
 use mathlib.Core.Bool.{Bool, true, false, cond}
@@ -12,7 +12,7 @@ use lib.ListN.{length, take}
 use borrow.Author.Tests.{eqb-true, eqb-false, le-ltb}
 use Rattle.table.specs.Lists.{bit, same, count, isSome, All, Same}
 use Rattle.table.specs.Table.{Row, Table, used, body, hasTag, lookup, holds}
-use Rattle.table.proofs.Counting.{same-refl, same-eq, ne-same, same-length}
+use Rattle.table.proofs.Counting.{same-true, same-refl, same-eq, ne-same, none-first, same-length}
 use Rattle.table.proofs.Arranging.{Added, added-same, added-other, added-found}
 use Rattle.scheme.specs.Store.{tableC, widthOf, counterTag, anchorTag, countedRow, counterRow}
 use Rattle.scheme.specs.Reading
@@ -34,6 +34,19 @@ walk-is held (suc bound) i (suc k) h y n =
     let m : held (suc (suc i + k)) ≡ false = rw e at n in
     let f : held (suc i) ≡ true = y (suc i) (omega arith) (omega arith) in
     rw f (ap suc (walk-is held bound (suc i) k (omega arith) (λ a l u. y a (omega arith) (omega arith)) m))
+
+-- where no tag stands twice, a row with a tag that was not held leaves it so
+pub added-once : (w : ℕ) (t : Table) (row : Row) (t′ : Table) → Added w t row t′ → lookup (take 32 (body row)) t ≡ none
+    → ((tag : List ℕ) → count (hasTag tag) (used t) ≤ 1) → (tag : List ℕ) → count (hasTag tag) (used t′) ≤ 1
+unfolding lookup
+added-once w t row t′ a new once tag = let s = added-same w t row t′ a .counts (hasTag tag) in let k = go (hasTag tag (body row)) refl in omega arith
+  where
+    go : (b : Bool) → hasTag tag (body row) ≡ b → bit b + count (hasTag tag) (used t) ≤ 1
+    go true e =
+        let q : take 32 (body row) ≡ tag = same-true (take 32 (body row)) tag e in
+        let c = none-first (hasTag tag) (used t) (rw q at new) in
+        omega arith
+    go false e = let c = once tag in omega arith
 
 pub none-holds : (tag : List ℕ) (t : Table) → lookup tag t ≡ none → holds tag t ≡ false
 unfolding holds
@@ -80,6 +93,7 @@ module _ (x : Setting) where
     pub log-OK : All (OK x) log
     pub log-same : Same L (map (clOf x) log)
     pub total : length (used t) ≡ A + length L
+    pub once : (tag : List ℕ) → count (hasTag tag) (used t) ≤ 1
 
   -- ---- the reading
 
@@ -236,13 +250,15 @@ module _ (x : Setting) where
     pos-high : pos ≤ length calls + 1
     pos-high = let w = C .pairs pr ok .position-calls in omega arith
 
+    at : lookup (ctag x pr counter pos) t ≡ none
+    at = P .counters-none pos (omega arith) pos-high
+
     own : PairCounter t′ L′ A (suc i) pr n
     own =
         let r : runOf L′ pr ≡ suc (runOf L pr) = run-own L L′ pr logged in
         let s = P .anchors-start in
         let c = P .position-calls in
         let pm = P .position-made in
-        let at : lookup (ctag x pr counter pos) t ≡ none = P .counters-none pos (omega arith) pos-high in
         let found : lookup (ctag x pr counter pos) t′ ≡ some (body row) = added-own t pr counter pos row t′ ok added₀ row-tag pos-low pos-high at in
         let other = added-number t pr counter pos row t′ ok added₀ row-tag pos-low pos-high in
         let e : P .start + runOf L′ pr ≡ pos = omega arith in
@@ -289,6 +305,7 @@ module _ (x : Setting) where
           let b = same-length L′ (clOf x pr ∷ L) logged in
           let c = C .total in
           omega arith;
+      once = added-once (widthOf tableC) t row t′ added₀ (rw row-tag at) (C .once);
     }
       where
         other : (q : Pair) → (q ≡ pr → ⊥) → OK x q → PairCounter t′ L′ A (suc i) q (made′ q)

@@ -82,7 +82,7 @@ module _ (x : Setting) where
   unfolding entryTag
   mtag-length pr a = suite .F-length (mtOf pr) (number8 a)
 
-  itemM-tag : (g : Item) → take 32 (itemM g) ≡ mtag x (g .pair) (g .address)
+  pub itemM-tag : (g : Item) → take 32 (itemM g) ≡ mtag x (g .pair) (g .address)
   unfolding entryRow
   itemM-tag g = take-at (mtag x (g .pair) (g .address)) _ 32 (mtag-length (g .pair) (g .address))
 
@@ -90,11 +90,11 @@ module _ (x : Setting) where
   unfolding entryRow idIn
   itemM-id g h = text-of suite (meOf (g .pair)) (mtag x (g .pair) (g .address)) (g .nonce) (g .id) (mtag-length (g .pair) (g .address)) (h .nonce-length)
 
-  itemV-id : (g : Item) → Good g → reverseId (itemV g) ≡ g .id
+  pub itemV-id : (g : Item) → Good g → reverseId (itemV g) ≡ g .id
   unfolding reverseRow reverseId
   itemV-id g h = take-at (g .id) (mtag x (g .pair) (g .address)) 16 (h .id-length)
 
-  itemV-tag : (g : Item) → Good g → reverseTag (itemV g) ≡ mtag x (g .pair) (g .address)
+  pub itemV-tag : (g : Item) → Good g → reverseTag (itemV g) ≡ mtag x (g .pair) (g .address)
   unfolding reverseRow reverseTag
   itemV-tag g h = drop-at (g .id) (mtag x (g .pair) (g .address)) 16 (h .id-length)
 
@@ -110,7 +110,7 @@ module _ (x : Setting) where
 
   -- ---- a lookup
 
-  tag-agrees : (pr : Pair) (a : ℕ) → OK x pr → 1 ≤ a → a ≤ 64 * length calls → (g : Item) → Good g → hasTag (mtag x pr a) (itemM g) ≡ at pr a g
+  pub tag-agrees : (pr : Pair) (a : ℕ) → OK x pr → 1 ≤ a → a ≤ 64 * length calls → (g : Item) → Good g → hasTag (mtag x pr a) (itemM g) ≡ at pr a g
   tag-agrees pr a ok l u g h = rw (itemM-tag g) (go (at pr a g) refl)
     where
       go : (b : Bool) → at pr a g ≡ b → same (mtag x (g .pair) (g .address)) (mtag x pr a) ≡ b

@@ -19,6 +19,7 @@ pub mod Tokens
 pub mod Joining
 pub mod Inserting
 pub mod Compactions
+pub mod Checking
 pub mod Claim
 pub mod Examples
 pub mod Corollaries

@@ -172,7 +172,7 @@ module _ (x : Setting) where
 
   -- ---- a row
 
-  itemR-id : (g : Item) → Good g → labelId (itemR g) ≡ g .id
+  pub itemR-id : (g : Item) → Good g → labelId (itemR g) ≡ g .id
   unfolding labelRow labelId
   itemR-id g h = take-at (g .id) _ 16 (h .id-length)
 

@@ -85,6 +85,7 @@ module _ (x : Setting) where
     log-OK = C .log-OK;
     log-same = C .log-same;
     total = C .total;
+    once = C .once;
   }
 
   pub counters-as : (t : Table) (L : List (List ℕ)) (A i : ℕ) (made made′ : Pair → ℕ) → ((q : Pair) → made′ q ≡ made q) → Counters x t L A i made → Counters x t L A i made′
@@ -94,6 +95,7 @@ module _ (x : Setting) where
     log-OK = C .log-OK;
     log-same = C .log-same;
     total = C .total;
+    once = C .once;
   }
 
   -- a call that changes neither
@@ -154,6 +156,7 @@ module _ (x : Setting) where
       log-OK = tt;
       log-same = Same-refl [];
       total = ap length (used-zero (widthOf tableC) (z .c));
+      once = λ tag. rw (used-zero (widthOf tableC) (z .c)) (omega arith);
     });
     entries = record {
       G = [];

@@ -90,6 +90,7 @@ sound-step z l (Call.compact key nonces) s = go (ledgerCompactVerdict z l key no
     go none = unfold afterCompaction in record { apart = s .apart; shares = s .shares }
     go (some r) = s
 sound-step z l Call.order s = s
+sound-step z l Call.check s = s
 sound-step z l (Call.test key f id) s = s
 sound-step z l (Call.jointFind parts output) s = s
 

@@ -15,13 +15,13 @@ use Rattle.table.specs.Table.{Row, Table, used, body, hasTag, lookup, holds, pl
 use Rattle.table.proofs.Counting.{same-true, ne-same, same-sym, count-select, count-split, count-ext, count-none, all-select, select-map, Same-select, same-length}
 use Rattle.table.proofs.Distinct.{without}
 use Rattle.table.proofs.Arranging.{Added, added-same}
-use Rattle.table.proofs.Rows.{free-used, free-at-length, free-at-none, Held, place-held, free-one-length, free-one-other, held-other}
+use Rattle.table.proofs.Rows.{free-used, free-at-length, free-at-count, free-at-none, Held, place-held, free-one-length, free-one-other, held-other}
 use Rattle.scheme.specs.Store.{tableC, widthOf, countedRow}
 use Rattle.scheme.specs.Compaction.{heldPlaces}
 use Rattle.scheme.specs.Ledger.{Pair}
 use Rattle.scheme.specs.Premise.{Kind, counter, anchor}
 use Rattle.scheme.proofs.Setting.{Setting, OK, clOf, ctag, ctags, cl-differ, tag-length, counted-tag, numbers-found, counter≢anchor, by-pair}
-use Rattle.scheme.proofs.Counters.{runOf, PairCounter, Counters, unchanged, added-pair, added-number, added-own, some-holds, same-holds}
+use Rattle.scheme.proofs.Counters.{runOf, PairCounter, Counters, unchanged, added-pair, added-number, added-own, added-once, some-holds, same-holds}
 
 module _ (x : Setting) (pr : Pair) (ok : OK x pr) (t : Table) where
   open Setting x using (suite, K, z, calls, premise)
@@ -136,6 +136,9 @@ module _ (x : Setting) where
     high : P .B + 1 ≤ length calls + 1
     high = let c = P .position-calls in let s = P .anchors-start in omega arith
 
+    at : lookup (ctag x pr anchor (P .B + 1)) t₁ ≡ none
+    at = free-at-none (ctag x pr anchor (P .B + 1)) (widthOf tableC) (heldPlaces suite (clOf x pr) t (P .start) (runOf x L pr)) t (P .anchors-none (P .B + 1) (omega arith) high)
+
     own : PairCounter x t′ (without (clOf x pr) L) (A + 1) i pr (made pr)
     own =
         let r : runOf x (without (clOf x pr) L) pr ≡ 0 = run-gone L pr in
@@ -143,8 +146,6 @@ module _ (x : Setting) where
         let c = P .position-calls in
         let m = P .position-made in
         let ml = P .made-limit in
-        let at : lookup (ctag x pr anchor (P .B + 1)) t₁ ≡ none =
-        free-at-none (ctag x pr anchor (P .B + 1)) (widthOf tableC) (heldPlaces suite (clOf x pr) t (P .start) (runOf x L pr)) t (P .anchors-none (P .B + 1) (omega arith) high) in
         let found : lookup (ctag x pr anchor (P .B + 1)) t′ ≡ some (body row) = added-own x t₁ pr anchor (P .B + 1) row t′ ok added row-tag low high at in
         let other = added-number x t₁ pr anchor (P .B + 1) row t′ ok added row-tag low high in
         record {
@@ -202,6 +203,9 @@ module _ (x : Setting) where
           let c = C .total in
           let f = free t L A i made C hi pr ok some-run .fewer in
           omega arith;
+      once =
+          added-once (widthOf tableC) t₁ row t′ added (rw row-tag at)
+          (λ tag. let a = free-at-count (hasTag tag) (widthOf tableC) (heldPlaces suite (clOf x pr) t (P .start) (runOf x L pr)) t in let b = C .once tag in omega arith);
     }
       where
         other : (q : Pair) → (q ≡ pr → ⊥) → OK x q → PairCounter x t′ (without (clOf x pr) L) (A + 1) i q (made q)

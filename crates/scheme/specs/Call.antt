@@ -18,6 +18,7 @@ pub data Call : Type 0 where
   count : (key : List ℕ) (f : Field) → Call
   compact : (key nonces : List ℕ) → Call
   order : Call
+  check : Call
   test : (key : List ℕ) (f : Field) (id : List ℕ) → Call
   jointFind : (parts : List Part) (output : List ℕ) → Call
 
@@ -29,6 +30,7 @@ compared (Call.find key f output) a = a
 compared (Call.count key f) a = withoutRows a
 compared (Call.compact key nonces) a = a
 compared Call.order a = a
+compared Call.check a = a
 compared (Call.test key f id) a = a
 compared (Call.jointFind parts output) a = a
 

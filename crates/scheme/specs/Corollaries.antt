@@ -57,6 +57,7 @@ Keeps id (Call.find key f output) = Unit {0}
 Keeps id (Call.count key f) = Unit {0}
 Keeps id (Call.compact key nonces) = Unit {0}
 Keeps id Call.order = Unit {0}
+Keeps id Call.check = Unit {0}
 Keeps id (Call.test key f other) = Unit {0}
 Keeps id (Call.jointFind parts output) = Unit {0}
 
@@ -117,6 +118,7 @@ BringsNot id (Call.find key f output) = Unit {0}
 BringsNot id (Call.count key f) = Unit {0}
 BringsNot id (Call.compact key nonces) = Unit {0}
 BringsNot id Call.order = Unit {0}
+BringsNot id Call.check = Unit {0}
 BringsNot id (Call.test key f other) = Unit {0}
 BringsNot id (Call.jointFind parts output) = Unit {0}
 

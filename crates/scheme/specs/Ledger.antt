@@ -5,7 +5,7 @@ use mathlib.Core.Bool.{Bool, cond, not, _&&_, _||_}
 use mathlib.Core.Option.{Option, none, some}
 use mathlib.Core.List.{List, [], _∷_, _++_, map}
 use lib.Dec.{ltb, eqb}
-use lib.ListN.{length, drop}
+use lib.ListN.{length, drop, replicate}
 use Rattle.table.specs.Lists.{same, select, count, anyOf, allOf, flat, sum, upTo}
 use Rattle.answer.specs.Answer.{Answer, done}
 use Rattle.scheme.specs.Labels.{Field, sameField}
@@ -191,6 +191,8 @@ module _ (z : Bounds) (l : Ledger) where
     next = nextOr (ledgerCompactVerdict key nonces) afterCompaction;
   }
   ledgerStep Call.order = record { told = record { answer = done ((3 * H l + l .A + 2 * l .W) ∷ []); output = [] }; next = l }
+  -- a ledger has no rows that could fail to go together: seven zeros [check:10]
+  ledgerStep Call.check = record { told = record { answer = done (replicate 7 0); output = [] }; next = l }
   ledgerStep (Call.test key f id) = record {
     told = record { answer = answerOr (verdict (fieldTokenTests key f ++ idTests id)) (done (cond (ledgerHas id f) 1 0 ∷ [])); output = [] };
     next = l;

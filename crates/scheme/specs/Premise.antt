@@ -23,6 +23,7 @@ fieldsOf (Call.find key f output) = f ∷ []
 fieldsOf (Call.count key f) = f ∷ []
 fieldsOf (Call.compact key nonces) = []
 fieldsOf Call.order = []
+fieldsOf Call.check = []
 fieldsOf (Call.test key f id) = f ∷ []
 fieldsOf (Call.jointFind parts output) = map (λ (q : Part). q .field) parts
 
@@ -43,6 +44,7 @@ labellingsOf (Call.find key f output) = []
 labellingsOf (Call.count key f) = []
 labellingsOf (Call.compact key nonces) = []
 labellingsOf Call.order = []
+labellingsOf Call.check = []
 labellingsOf (Call.test key f id) = []
 labellingsOf (Call.jointFind parts output) = []
 
@@ -86,5 +88,6 @@ KeyFits K (Call.find key f output) = (key ≡ K) ⊎ (length key ≡ 32 → ⊥)
 KeyFits K (Call.count key f) = (key ≡ K) ⊎ (length key ≡ 32 → ⊥)
 KeyFits K (Call.compact key nonces) = (key ≡ K) ⊎ (length key ≡ 32 → ⊥)
 KeyFits K Call.order = Unit {0}
+KeyFits K Call.check = Unit {0}
 KeyFits K (Call.test key f id) = (key ≡ K) ⊎ (length key ≡ 32 → ⊥)
 KeyFits K (Call.jointFind parts output) = All (PartFits K) parts

@@ -15,6 +15,7 @@ use Rattle.scheme.specs.Find
 use Rattle.scheme.specs.Count
 use Rattle.scheme.specs.Compaction
 use Rattle.scheme.specs.Order
+use Rattle.scheme.specs.Check
 use Rattle.scheme.specs.Test
 use Rattle.scheme.specs.JointFind
 use Rattle.scheme.specs.Call
@@ -57,7 +58,7 @@ module _ (suite : Suite) (before : List ℕ) where
   jointCall parts output =
       madeOr (verdict (flat (map partTokenTests parts))) (JointFind.jointFind suite before (flat (map (partOf suite) parts)) output) before output
 
--- one call of the eight on a store: what it answers, the store after it, its output [01:LG20]
+-- one call of the nine on a store: what it answers, the store after it, its output [01:LG20]
 abbrev pub perform : Suite → Call → List ℕ → Result
 perform suite (Call.insert key f p u nonce ids nonces) before = insertCall suite before key f p u nonce ids nonces
 perform suite (Call.erase id) before = Erase.erase before id
@@ -65,6 +66,7 @@ perform suite (Call.find key f output) before = findCall suite before key f outp
 perform suite (Call.count key f) before = countCall suite before key f
 perform suite (Call.compact key nonces) before = compactCall suite before key nonces
 perform suite Call.order before = Order.order before
+perform suite Call.check before = Check.check before
 perform suite (Call.test key f id) before = testCall suite before key f id
 perform suite (Call.jointFind parts output) before = jointCall suite before parts output
 

@@ -1,6 +1,7 @@
 pub mod Counting
 pub mod Rows
 pub mod Distinct
+pub mod Repeats
 pub mod Walk
 pub mod Below
 pub mod Order

@@ -9,9 +9,9 @@ use native.Mathlib.Nat.{not-suc-le-zero, le-of-suc-le-suc}
 use native.Mathlib.Omega.{arith}
 use lib.ListN.{length, getD, drop, set, replicate, length-append, length-set}
 use lib.Seq.{take-at, drop-at, getD-set-other}
-use Rattle.table.specs.Lists.{bit, select, first, isSome, flat, All}
+use Rattle.table.specs.Lists.{bit, select, count, first, isSome, flat, All}
 use Rattle.table.specs.Table.{Row, Table, rows, isFree, body, used, freeRows, hasTag, lookup, holds, indexOf, placeOf, zeroRow, freeAt, freeWhere}
-use Rattle.table.proofs.Counting.{both}
+use Rattle.table.proofs.Counting.{both, first-none, none-first}
 
 -- a row of all zeros is free
 pub zero-free : (w : ℕ) → isFree (zeroRow w) ≡ true
@@ -86,7 +86,7 @@ free-where-or w p q (r ∷ rs) = ap₂ (λ (x : Row) (xs : Table). x ∷ xs) (go
     go false true e = rw (zero-free w)
     go false false e = rw e
 
--- one used row freed: one used row fewer; a row without the property leaves the first row with it; none stays none
+-- one used row freed: one used row fewer; a row without the property leaves the first row with it; no more pass
 zeroed-length : (w : ℕ) (t : Table) (i : ℕ) → i < length t → isFree (getD t i []) ≡ false → length (used t) ≡ suc (length (used (set t i (zeroRow w))))
 zeroed-length w [] i h f = absurd (not-suc-le-zero h)
 zeroed-length w (r ∷ rs) zero h f = rw (f, zero-free w) refl
@@ -110,33 +110,31 @@ zeroed-first q w (r ∷ rs) (suc i) e = go (isFree r) (zeroed-first q w rs i e)
     go true k = k
     go false k = ap (cond (q (body r)) (some (body r))) k
 
-zeroed-none : (q : List ℕ → Bool) (w : ℕ) (t : Table) (i : ℕ) → first q (used t) ≡ none → first q (used (set t i (zeroRow w))) ≡ none
-zeroed-none q w [] i e = e
-zeroed-none q w (r ∷ rs) zero e = rw (zero-free w) (go (isFree r) e)
+zeroed-count : (q : List ℕ → Bool) (w : ℕ) (t : Table) (i : ℕ) → count q (used (set t i (zeroRow w))) ≤ count q (used t)
+zeroed-count q w [] i = omega arith
+zeroed-count q w (r ∷ rs) zero = rw (zero-free w) (go (isFree r))
   where
-    at : (d : Bool) → cond d (some (body r)) (first q (used rs)) ≡ none → first q (used rs) ≡ none
-    at true o = absurd (let z : _≡_ {A = ℕ} 0 1 = cc in omega arith)
-    at false o = o
-
-    go : (b : Bool) → first q (cond b (used rs) (body r ∷ used rs)) ≡ none → first q (used rs) ≡ none
+    go : (b : Bool) → count q (used rs) ≤ count q (cond b (used rs) (body r ∷ used rs))
+    go true = omega arith
+    go false = omega arith
+zeroed-count q w (r ∷ rs) (suc i) = go (isFree r) (zeroed-count q w rs i)
+  where
+    go : (b : Bool) → count q (used (set rs i (zeroRow w))) ≤ count q (used rs)
+        → count q (cond b (used (set rs i (zeroRow w))) (body r ∷ used (set rs i (zeroRow w)))) ≤ count q (cond b (used rs) (body r ∷ used rs))
     go true k = k
-    go false k = at (q (body r)) k
-zeroed-none q w (r ∷ rs) (suc i) e = go (isFree r) e (zeroed-none q w rs i)
-  where
-    at : (d : Bool) → cond d (some (body r)) (first q (used rs)) ≡ none → (first q (used rs) ≡ none → first q (used (set rs i (zeroRow w))) ≡ none)
-        → cond d (some (body r)) (first q (used (set rs i (zeroRow w)))) ≡ none
-    at true o k = absurd (let z : _≡_ {A = ℕ} 0 1 = cc in omega arith)
-    at false o k = k o
+    go false k = omega arith
 
-    go : (b : Bool) → first q (cond b (used rs) (body r ∷ used rs)) ≡ none → (first q (used rs) ≡ none → first q (used (set rs i (zeroRow w))) ≡ none)
-        → first q (cond b (used (set rs i (zeroRow w))) (body r ∷ used (set rs i (zeroRow w)))) ≡ none
-    go true e k = k e
-    go false e k = at (q (body r)) e k
+-- freed rows make no row pass
+pub free-at-count : (q : List ℕ → Bool) (w : ℕ) (is : List ℕ) (t : Table) → count q (used (freeAt w is t)) ≤ count q (used t)
+free-at-count q w [] t = omega arith
+free-at-count q w (i ∷ is) t = let a = free-at-count q w is (set t i (zeroRow w)) in let b = zeroed-count q w t i in omega arith
 
 pub free-at-none : (tag : List ℕ) (w : ℕ) (is : List ℕ) (t : Table) → lookup tag t ≡ none → lookup tag (freeAt w is t) ≡ none
 unfolding lookup
-free-at-none tag w [] t e = e
-free-at-none tag w (i ∷ is) t e = free-at-none tag w is (set t i (zeroRow w)) (zeroed-none (hasTag tag) w t i e)
+free-at-none tag w is t e =
+    let c = none-first (hasTag tag) (used t) e in
+    let d = free-at-count (hasTag tag) w is t in
+    first-none (hasTag tag) (used (freeAt w is t)) (omega arith)
 
 pub free-at-length : (w : ℕ) (is : List ℕ) (t : Table) → length (freeAt w is t) ≡ length t
 free-at-length w [] t = refl
