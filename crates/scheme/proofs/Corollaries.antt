@@ -26,7 +26,7 @@ use Rattle.scheme.specs.Call
 use Rattle.scheme.specs.Call.{Call, Part, Told}
 use Rattle.scheme.specs.Ledger.{Pair, Entry, Ledger, Bounds, empty, entryOf, removed, ledgerInsertVerdict, appended, afterInsert, afterErase, afterCompaction, ledgerLists, ledgerIds, ledgerSum, ledgerHas, leastMade, ledgerJointIds, ledgerJointVerdict, ledgerFindVerdict, ledgerCompactVerdict, nextOr, ledgerStep, ledgerTells, ledgerAfter}
 use Rattle.scheme.specs.Claim.{Claim, boundsOf}
-use Rattle.scheme.specs.Corollaries.{Ran, toldAt, accepted, Finds, Keeps, NoIdLost, Query, finding, counting, testing, joining, callOf, CompactionHidden, EraseExact, BringsNot, ErasedGone, EachIdOnce, Made, ClientsAlike, RowsFixTable, RowsFixStore}
+use Rattle.scheme.specs.Corollaries.{Ran, toldAt, accepted, Finds, Keeps, NoIdLost, Query, finding, counting, testing, joining, callOf, CompactionHidden, EraseExact, BringsNot, ErasedGone, EachIdOnce, Made, ClientsAlike, RowsFixTable, RowsFixStore, NoFaults}
 use Rattle.scheme.specs.Run.{storeAfter}
 use Rattle.scheme.proofs.Setting.{Setting, by-pair}
 use Rattle.scheme.proofs.Shape.{cut-joined}
@@ -34,6 +34,7 @@ use Rattle.scheme.proofs.Simulation.{Sim, begin}
 use Rattle.scheme.proofs.LedgerLaws.{entry-own, entry-other, entry-removed}
 use Rattle.scheme.proofs.Verdicts.{both-none, verdict-append, passed, map-upTo}
 use Rattle.scheme.proofs.Claim.{claim, follows}
+use Rattle.scheme.proofs.Checking.{check-none}
 use Rattle.scheme.proofs.Once.{unseen-distinct, mem-select, select-mem, not-selected, distinct-has, distinct-mem, distinct-no-repeats}
 
 -- ---- the ledger along a list
@@ -478,3 +479,9 @@ rows-fix-store suite K K′ z calls calls′ told told′ r r′ s =
     λ k. form-fixed (widthOf k) (a .st .table k) (b .st .table k) (a .shaped .tables k .form) (b .shaped .tables k .form) (a .shaped .tables k .number ∙ sym (b .shaped .tables k .number))
     (subst (λ (st : Store). Same (usedRows (a .st .table k)) (usedRows (st .table k))) f (subst (λ (st : Store). Same (usedRows (st .table k)) (usedRows (cut (storeAfter suite calls′ (fresh z)) .table k))) e (s k))) in
     a .bytes ∙ ap joined (λ j. record { header = h j; table = fun-ext t j }) ∙ sym (b .bytes)
+
+-- ---- (h)
+
+pub no-faults : (suite : Suite) → NoFaults suite
+unfolding NoFaults
+no-faults suite K z calls told r = check-none _ (length calls) _ _ (omega arith) (stands suite K z calls told r)

@@ -3,7 +3,7 @@ use Prim.Native.Nat.{ℕ, suc, _+_, _*_}
 use mathlib.Core.Path.{_≡_}
 use mathlib.Core.Bool.{Bool, true, false, not}
 use mathlib.Core.List.{List, [], _∷_, _++_, map, List·Memᴰ}
-use lib.ListN.{length, getD, drop}
+use lib.ListN.{length, getD, drop, replicate}
 use Rattle.answer.specs.Answer.{Answer, done, refused}
 use mathlib.Core.Option.{none}
 use Rattle.answer.specs.Verdict.{verdict}
@@ -13,6 +13,7 @@ use Rattle.scheme.specs.Suite.{Suite}
 use Rattle.scheme.specs.Labels.{Field}
 use Rattle.scheme.specs.Store.{Sizes, Which, rowsOf, sizesBad, sizesOf, cut, stateTests, fresh}
 use Rattle.scheme.specs.Refusals.{idsIn}
+use Rattle.scheme.specs.Check.{check}
 use Rattle.scheme.specs.Call
 use Rattle.scheme.specs.Call.{Call, Part, Told}
 use Rattle.scheme.specs.Run.{storeTells, storeAfter}
@@ -207,3 +208,10 @@ RowsFixStore suite =
     → Ran suite K′ z calls′ told′
     → ((k : Which) → Same (usedRows (cut (storeAfter suite calls (fresh z)) .table k)) (usedRows (cut (storeAfter suite calls′ (fresh z)) .table k)))
     → storeAfter suite calls (fresh z) ≡ storeAfter suite calls′ (fresh z)
+
+-- (h) after every list of calls a check is not refused, and its seven numbers are 0 [check:10]
+unfoldable pub NoFaults : Suite → Type 0
+NoFaults suite =
+    (K : List ℕ) (z : Sizes) (calls : List Call) (told : List Told)
+    → Ran suite K z calls told
+    → check (storeAfter suite calls (fresh z)) .answer ≡ done (replicate 7 0)
