@@ -24,4 +24,5 @@ pub mod Claim
 pub mod Examples
 pub mod Corollaries
 pub mod Together
+pub mod Zeros
 pub mod Premises

@@ -1,7 +1,7 @@
 -- Each id once: the ledger's list without what was seen is the store's list of distinct ids, and these are the same ids.
 use Prim.Native.Nat.{ℕ}
 use mathlib.Core.Path.{_≡_, refl, sym, ap, _∙_}
-use mathlib.Core.Bool.{Bool, true, false, cond, not, _&&_, _||_, true≢false}
+use mathlib.Core.Bool.{Bool, true, false, cond, not, _&&_, _||_, true≢false, or-true}
 use mathlib.Core.Logic.{_⊎_, inl, inr, ⊎-elim}
 use mathlib.Core.List.{List, [], _∷_, List·Memᴰ, List·Memᴰ·head, List·Memᴰ·tail, List·Memᴰ·cases-cons, List·Memᴰ·not-nil}
 use Rattle.table.specs.Lists.{same, select, anyOf, distinct}
@@ -59,6 +59,22 @@ unseen-is seen (x ∷ xs) = go (anyOf (same x) seen) refl (unseen-is seen xs) (u
 
 pub unseen-distinct : (l : List (List ℕ)) → unseen [] l ≡ distinct l
 unseen-distinct l = unseen-is [] l ∙ select-all (distinct l)
+
+-- membership as a test
+pub mem-any : (id : List ℕ) (l : List (List ℕ)) → List·Memᴰ id l → anyOf (same id) l ≡ true
+mem-any id [] m = absurd (List·Memᴰ·not-nil m)
+mem-any id (y ∷ ys) m = ⊎-elim
+    (λ e. let h : same id y ≡ true = ap (same id) (sym e) ∙ same-refl id in rw h refl)
+    (λ n. rw (mem-any id ys n) (or-true (same id y)))
+    (List·Memᴰ·cases-cons m)
+
+pub any-mem : (id : List ℕ) (l : List (List ℕ)) → anyOf (same id) l ≡ true → List·Memᴰ id l
+any-mem id [] e = absurd (true≢false (sym e))
+any-mem id (y ∷ ys) e = go (same id y) refl e (any-mem id ys)
+  where
+    go : (b : Bool) → same id y ≡ b → (b || anyOf (same id) ys) ≡ true → (anyOf (same id) ys ≡ true → List·Memᴰ id ys) → List·Memᴰ id (y ∷ ys)
+    go true p e k = List·Memᴰ·head (same-true id y p)
+    go false p e k = List·Memᴰ·tail (k e)
 
 -- selecting keeps what passes, and brings nothing
 pub mem-select : (p : List ℕ → Bool) (id : List ℕ) → p id ≡ true → (l : List (List ℕ)) → List·Memᴰ id l → List·Memᴰ id (select p l)

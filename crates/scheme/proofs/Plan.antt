@@ -253,6 +253,9 @@ module _ (at : Which → Span) (b : List ℕ) (st : Store) (l : Laid at b st) wh
         end = l .end;
       }
 
+  pub laid-put : (k : Which) (t : Table) → Wide (widthOf k) (n k) t → Laid at (joined (putIn k t st)) (putIn k t st)
+  laid-put k t a = record { bytes = refl; head = l .head; wide = put-wide k t a; start = l .start; end = l .end }
+
   pub laid-length : length b ≡ endFrom n headerLength plan
   unfolding joined
   laid-length =

@@ -2,31 +2,29 @@
 -- list of a field exactly where the field's find gives it.
 use Prim.Native.Nat.{ℕ, _*_, _≤_}
 use mathlib.Core.Path.{_≡_, refl, sym, ap, _∙_, fun-ext}
-use mathlib.Core.Bool.{Bool, true, false, cond, not, _&&_, _||_, true≢false, or-true}
-use mathlib.Core.Logic.{⊎-elim}
+use mathlib.Core.Bool.{Bool, true, false, cond, _&&_, _||_, true≢false}
 use mathlib.Core.Option.{Option, none, some}
-use mathlib.Core.List.{List, [], _∷_, _++_, map, List·Memᴰ, List·Memᴰ·head, List·Memᴰ·tail, List·Memᴰ·cases-cons, List·Memᴰ·not-nil}
-use native.Mathlib.Omega.{arith}
+use mathlib.Core.List.{List, [], _∷_, _++_, map, List·Memᴰ, List·Memᴰ·not-nil}
 use lib.Dec.{ltb}
-use lib.ListN.{length, drop}
-use Rattle.answer.specs.Answer.{Answer, done}
+use lib.ListN.{length}
+use Rattle.answer.specs.Answer.{Answer}
 use Rattle.answer.specs.Verdict.{Test, verdict}
 use Rattle.table.specs.Lists.{same, select, anyOf, allOf, flat, All}
-use Rattle.table.proofs.Counting.{same-true, same-refl, both, select-agree, all-map}
+use Rattle.table.proofs.Counting.{both, all-map}
 use Rattle.scheme.specs.Suite.{Suite}
 use Rattle.scheme.specs.Labels.{Field, sameField}
 use Rattle.scheme.specs.Call
 use Rattle.scheme.specs.Call.{Call, Part, Told}
 use Rattle.scheme.specs.Refusals.{idTests}
-use Rattle.scheme.specs.Ledger.{Bounds, Pair, samePair, Entry, Ledger, empty, entryOf, withEntry, removed, ledgerLists, ledgerIds, ledgerHas, ledgerJointIds, ledgerJointVerdict, leastMade, ledgerInsertVerdict, ledgerCompactVerdict, appended, afterInsert, afterErase, afterCompaction, nextOr, ledgerStep, ledgerAfter}
+use Rattle.scheme.specs.Ledger.{Bounds, Pair, samePair, Entry, Ledger, empty, entryOf, withEntry, removed, ledgerLists, ledgerIds, ledgerHas, ledgerJointIds, ledgerJointVerdict, ledgerInsertVerdict, ledgerCompactVerdict, appended, afterInsert, afterErase, afterCompaction, nextOr, ledgerStep, ledgerAfter}
 use Rattle.scheme.specs.Run.{partTokenTests}
 use Rattle.scheme.specs.Claim.{boundsOf}
-use Rattle.scheme.specs.Corollaries.{accepted, toldAt, Ran, Finds, FindsJointly, JointIsEach}
+use Rattle.scheme.specs.Corollaries.{accepted, toldAt, Finds, JointIsEach}
 use Rattle.scheme.proofs.Setting.{samePair-true, samePair-refl, samePair-sym, sameField-true}
 use Rattle.scheme.proofs.Marks.{hasIn}
-use Rattle.scheme.proofs.Joining.{has-own, all-at, all-of-map}
+use Rattle.scheme.proofs.Joining.{has-own, all-at}
 use Rattle.scheme.proofs.Least.{fields, Chosen, chosen}
-use Rattle.scheme.proofs.Once.{distinct-has}
+use Rattle.scheme.proofs.Once.{mem-any, any-mem, distinct-has}
 use Rattle.scheme.proofs.Corollaries.{ran, told-at, finds-as, find-tells, accepted-none, verdict-refuses, entered, ids-are, mem-upTo}
 
 -- ---- each pair has one entry
@@ -103,21 +101,6 @@ unfolding empty
 sound-empty z = record { apart = tt; shares = tt }
 
 -- ---- a field's lists, and what its find gives
-
-mem-any : (id : List ℕ) (l : List (List ℕ)) → List·Memᴰ id l → anyOf (same id) l ≡ true
-mem-any id [] m = absurd (List·Memᴰ·not-nil m)
-mem-any id (y ∷ ys) m = ⊎-elim
-    (λ e. let h : same id y ≡ true = ap (same id) (sym e) ∙ same-refl id in rw h refl)
-    (λ n. rw (mem-any id ys n) (or-true (same id y)))
-    (List·Memᴰ·cases-cons m)
-
-any-mem : (id : List ℕ) (l : List (List ℕ)) → anyOf (same id) l ≡ true → List·Memᴰ id l
-any-mem id [] e = absurd (true≢false (sym e))
-any-mem id (y ∷ ys) e = go (same id y) refl e (any-mem id ys)
-  where
-    go : (b : Bool) → same id y ≡ b → (b || anyOf (same id) ys) ≡ true → (anyOf (same id) ys ≡ true → List·Memᴰ id ys) → List·Memᴰ id (y ∷ ys)
-    go true p e k = List·Memᴰ·head (same-true id y p)
-    go false p e k = List·Memᴰ·tail (k e)
 
 -- where a pair has no entry
 no-entry : (pr : Pair) (es : List Entry) → All (λ y. samePair (y .pair) pr ≡ false) es → entryOf pr es .ids ≡ []

@@ -1,19 +1,21 @@
 -- What callers rely on, as consequences of the claim, each for every list of calls under the premise.
-use Prim.Native.Nat.{ℕ, suc, _+_, _*_}
+use Prim.Native.Nat.{ℕ, suc, _+_, _*_, _≤_}
 use mathlib.Core.Path.{_≡_}
 use mathlib.Core.Bool.{Bool, true, false, not}
 use mathlib.Core.List.{List, [], _∷_, _++_, map, List·Memᴰ}
-use lib.ListN.{length, getD, drop, replicate}
+use lib.ListN.{length, getD, take, drop, replicate}
 use Rattle.answer.specs.Answer.{Answer, done, refused}
 use mathlib.Core.Option.{none}
 use Rattle.answer.specs.Verdict.{verdict}
 use Rattle.table.specs.Lists.{same, select, anyOf, allOf, flat, All, Same}
+use Rattle.table.specs.Table.{used, holds}
 use Rattle.table.specs.Order.{usedRows}
 use Rattle.scheme.specs.Suite.{Suite}
 use Rattle.scheme.specs.Labels.{Field}
-use Rattle.scheme.specs.Store.{Sizes, Which, rowsOf, sizesBad, sizesOf, cut, stateTests, fresh}
+use Rattle.scheme.specs.Store.{Sizes, Which, tableM, tableV, tableC, tableR, rowsOf, sizesBad, sizesOf, cut, stateTests, fresh}
 use Rattle.scheme.specs.Refusals.{idsIn}
-use Rattle.scheme.specs.Check.{check}
+use Rattle.scheme.specs.Erase.{erase}
+use Rattle.scheme.specs.Check.{tagsIn, reverseTags, reverseIds, labelIds, check}
 use Rattle.scheme.specs.Call
 use Rattle.scheme.specs.Call.{Call, Part, Told}
 use Rattle.scheme.specs.Run.{storeTells, storeAfter}
@@ -138,7 +140,7 @@ ErasedGone suite =
     → accepted (toldAt told (length first + suc (length second))) ≡ true
     → FindsNoId (toldAt told (length first + suc (length second))) output id
 
--- no id stands twice
+-- none stands twice
 abbrev pub NoRepeats : List (List ℕ) → Type 0
 NoRepeats [] = Unit {0}
 NoRepeats (x ∷ xs) = (List·Memᴰ x xs → ⊥) × NoRepeats xs
@@ -215,3 +217,29 @@ NoFaults suite =
     (K : List ℕ) (z : Sizes) (calls : List Call) (told : List Told)
     → Ran suite K z calls told
     → check (storeAfter suite calls (fresh z)) .answer ≡ done (replicate 7 0)
+
+-- an entry, a row of M without its mark, can be erased: a row of V has its tag under an id, and an erase of that id is done, frees that row
+-- and leaves no row of M with the tag
+pub record Erasable (before entry : List ℕ) : Type 0 where
+  pub id : List ℕ
+  pub id-length : length id ≡ 16
+  pub reverse : List·Memᴰ (id ++ take 32 entry) (used (cut before .table tableV))
+  pub freed : ℕ
+  pub answer : erase before id .answer ≡ done (freed ∷ [])
+  pub frees : 1 ≤ freed
+  pub gone : holds (take 32 entry) (cut (erase before id .store) .table tableM) ≡ false
+
+-- the rows of a store go together: no two entries share an address's tag, nor two rows of C a tag; each entry can be erased by its id, and
+-- each row of V leads to an entry; V and R have the same ids, and R no more rows than V
+pub record GoTogether (before : List ℕ) : Type 0 where
+  pub entries : NoRepeats (tagsIn (cut before .table tableM))
+  pub counters : NoRepeats (tagsIn (cut before .table tableC))
+  pub erasable : (entry : List ℕ) → List·Memᴰ entry (used (cut before .table tableM)) → Erasable before entry
+  pub leads : (tag : List ℕ) → List·Memᴰ tag (reverseTags (cut before .table tableV)) → List·Memᴰ tag (tagsIn (cut before .table tableM))
+  pub labelled : (id : List ℕ) → List·Memᴰ id (reverseIds (cut before .table tableV)) → List·Memᴰ id (labelIds (cut before .table tableR))
+  pub reversed : (id : List ℕ) → List·Memᴰ id (labelIds (cut before .table tableR)) → List·Memᴰ id (reverseIds (cut before .table tableV))
+  pub excess : length (used (cut before .table tableR)) ≤ length (used (cut before .table tableV))
+
+-- (h) seven zeros mean that the rows go together, in every store, whatever left its bytes [check:11]
+unfoldable pub ZerosMean : Type 0
+ZerosMean = (before : List ℕ) → check before .answer ≡ done (replicate 7 0) → GoTogether before
