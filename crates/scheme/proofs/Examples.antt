@@ -7,7 +7,7 @@ use native.Mathlib.Omega.{arith}
 use lib.Dec.{ltb}
 use lib.ListN.{length-map}
 use borrow.Author.Tests.{ltb-false, le-ltb}
-use Rattle.table.specs.Lists.{All}
+use Rattle.table.specs.Lists.{All, repeats, lacking}
 use Rattle.table.specs.Table.{lookup, holds, placeOf}
 use Rattle.scheme.specs.Suite.{Suite, number8, valueOf}
 use Rattle.scheme.specs.Labels.{sameField, fieldLengthsBad, sevens, label}
@@ -30,6 +30,8 @@ use Rattle.scheme.specs.Compaction
 use Rattle.scheme.specs.Compaction.{freedCounters, nextAnchor, anchoredTable, logOf, freeLog, compactVerdict, logged, compactedStore, treated}
 use Rattle.scheme.specs.Order
 use Rattle.scheme.specs.Order.{usedInAll, orderVerdict, orderedStore}
+use Rattle.scheme.specs.Check
+use Rattle.scheme.specs.Check.{repeatedEntries, repeatedCounters, reversesWithoutEntry, entriesWithoutReverse, reversesWithoutLabel, labelsWithoutReverse, labelsInExcess, faults, checkVerdict}
 use Rattle.table.specs.Looked.{smallerRows, lookedAt}
 use Rattle.table.specs.Order.{inForm, arranged, reordered, withRows, closed}
 use Rattle.scheme.specs.Ledger.{samePair, empty, H, removed, withPair, ledgerInsertVerdict, appended, afterInsert, afterErase, ledgerLists, ledgerIds, ledgerSum, ledgerFindVerdict, ledgerHas, ledgerJointVerdict, ledgerCompactVerdict, afterCompaction, ledgerStep}
@@ -65,6 +67,6 @@ small = record {
 }
 
 pub examples-hold : All Holds (examples small)
-unfolding bytes continued lookup holds placeOf number8 valueOf sameField fieldLengthsBad sevens label KM KC KS MTof MEof CLof share MT ME CL CT CE insertToken findToken countToken compactionToken tokenP tokenMT tokenME tokenCL tokenLog findMT findME findCL sizesBad lengthFor headerOf sizesOf cut joined headerBad marksBad stateTests fresh makeTests make entryTag entryRow reverseRow counterTag anchorTag countedRow counterRow anchorRow idIn plainIn clIn logRow reverseId reverseTag numbersAt anchorsHeld anchorNumbers startOf countersHeld counterNumbers isDamage reading insertTokenTests fieldTokenTests keyTests insertInputTests idTests compactionInputTests tokenTests insertReading newCount insertStateTests insertVerdict newEntries newReverses newCounter newLog insertedStore eraseVerdict isReverse erasedTags isErased erasedStore erase shareReading idsOfShare idsHeld idsFound findVerdict find countVerdict sumOfCounts smallerRows lookedAt anchorRows counterRows readingRows shareRows rowsRead mostRows Count.count logOf freeLog compactVerdict freedCounters nextAnchor logged compactedStore samePair empty H removed withPair ledgerInsertVerdict appended afterInsert afterErase ledgerLists ledgerIds ledgerSum ledgerFindVerdict ledgerCompactVerdict afterCompaction ledgerStep insertCall findCall countCall compactCall Insert.insert Compaction.compact treated anchoredTable inForm arranged reordered withRows closed formBad markTests usedInAll orderVerdict orderedStore Order.order RL markToken partToken tokenRL partFind partRL rMark labelRow labelId labelNonce labelMark partTests counterNonce labelNonces newLabels isLabel carries Test.tests testVerdict Test.test partDamaged partSum partIds partTest chosenAt chosenPart idsKept jointVerdict JointFind.jointFind ledgerHas ledgerJointVerdict testCall jointCall
+unfolding bytes continued lookup holds placeOf number8 valueOf sameField fieldLengthsBad sevens label KM KC KS MTof MEof CLof share MT ME CL CT CE insertToken findToken countToken compactionToken tokenP tokenMT tokenME tokenCL tokenLog findMT findME findCL sizesBad lengthFor headerOf sizesOf cut joined headerBad marksBad stateTests fresh makeTests make entryTag entryRow reverseRow counterTag anchorTag countedRow counterRow anchorRow idIn plainIn clIn logRow reverseId reverseTag numbersAt anchorsHeld anchorNumbers startOf countersHeld counterNumbers isDamage reading insertTokenTests fieldTokenTests keyTests insertInputTests idTests compactionInputTests tokenTests insertReading newCount insertStateTests insertVerdict newEntries newReverses newCounter newLog insertedStore eraseVerdict isReverse erasedTags isErased erasedStore erase shareReading idsOfShare idsHeld idsFound findVerdict find countVerdict sumOfCounts smallerRows lookedAt anchorRows counterRows readingRows shareRows rowsRead mostRows Count.count logOf freeLog compactVerdict freedCounters nextAnchor logged compactedStore samePair empty H removed withPair ledgerInsertVerdict appended afterInsert afterErase ledgerLists ledgerIds ledgerSum ledgerFindVerdict ledgerCompactVerdict afterCompaction ledgerStep insertCall findCall countCall compactCall Insert.insert Compaction.compact treated anchoredTable inForm arranged reordered withRows closed formBad markTests usedInAll orderVerdict orderedStore Order.order RL markToken partToken tokenRL partFind partRL rMark labelRow labelId labelNonce labelMark partTests counterNonce labelNonces newLabels isLabel carries Test.tests testVerdict Test.test partDamaged partSum partIds partTest chosenAt chosenPart idsKept jointVerdict JointFind.jointFind ledgerHas ledgerJointVerdict testCall jointCall repeats lacking repeatedEntries repeatedCounters reversesWithoutEntry entriesWithoutReverse reversesWithoutLabel labelsWithoutReverse labelsInExcess faults checkVerdict Check.check
 examples-hold =
-    (refl, (refl, (refl, (refl, (refl, (refl, (refl, (refl, (refl, (refl, (refl, (refl, (refl, (refl, ((λ suite k l nonce id. refl), (refl, (refl, (refl, (refl, (refl, (refl, (refl, (refl, tt)))))))))))))))))))))))
+    (refl, (refl, (refl, (refl, (refl, (refl, (refl, (refl, (refl, (refl, (refl, (refl, (refl, (refl, (refl, (refl, ((λ suite k l nonce id. refl), (refl, (refl, (refl, (refl, (refl, (refl, (refl, (refl, (refl, (refl, tt)))))))))))))))))))))))))))

@@ -1,5 +1,5 @@
 -- The examples, as one list: L1 to L6 of document 01's "Labels" and G1 to G8 of "A day in the ledger", ids that come more than once, finds by
--- several fields, then bytes, readings and refusals.
+-- several fields, checks, then bytes, readings and refusals.
 use Prim.Native.Nat.{ℕ}
 use mathlib.Core.List.{List, [], _∷_, _++_, map}
 use lib.ListN.{take, replicate}
@@ -12,6 +12,7 @@ use Rattle.scheme.specs.ByteExamples.{byteEquations, insertBytes, eraseC
 use Rattle.scheme.specs.RefusalExamples.{makingCases, storeMakingCases, inputCases, stateCases, formCases, orderCases, insertCases, queryCases, tallyCases, boundBytes, queryBytes}
 use Rattle.scheme.specs.ReadingExamples.{readingBytes, rowsBytes, laterBytes, blindBytes, blindCases, compactionCases, compactionBytes}
 use Rattle.scheme.specs.JointExamples.{leastBytes, testCases, jointBytes, jointCases}
+use Rattle.scheme.specs.CheckExamples.{checkCases, checkBytes}
 use Rattle.scheme.specs.Store.{Sizes, fresh}
 use Rattle.scheme.specs.Call
 use Rattle.scheme.specs.Call.{Call, Part, Told}
@@ -166,6 +167,23 @@ ordered =
     ∷ record { calls = compacts ∷ orders ∷ finds ∷ []; told = says (done (2 ∷ 2 ∷ [])) ∷ number 8 ∷ found 2 (65 ∷ 67 ∷ []) 32 ∷ [] }
     ∷ []
 
+-- ---- a check between other calls, and one after the worked list: seven zeros [check:10]
+
+abbrev pub checks : Block
+checks = record { calls = Call.check ∷ []; told = says (done (0 ∷ 0 ∷ 0 ∷ 0 ∷ 0 ∷ 0 ∷ 0 ∷ [])) ∷ [] }
+
+abbrev pub checked : List Block
+checked =
+    checks
+    -- an id under two fields, and twice under one
+    ∷ record { calls = inserts hueRed 0 (65 ∷ 66 ∷ 65 ∷ []) 84 ∷ inserts sizeL 0 (65 ∷ []) 36 ∷ []; told = number 3 ∷ number 1 ∷ [] }
+    ∷ checks
+    ∷ record { calls = erases 66 ∷ []; told = number 1 ∷ [] }
+    ∷ checks
+    ∷ record { calls = compacts ∷ inserts hueRed 1 (67 ∷ []) 36 ∷ []; told = says (done (2 ∷ 2 ∷ [])) ∷ number 1 ∷ [] }
+    ∷ checks
+    ∷ []
+
 -- ---- finds by several fields, and tests
 
 -- room for 8 entries, and in R for 7
@@ -241,17 +259,21 @@ jointly =
 abbrev pub examples : Suite → List Example
 examples suite =
     labelExamples ++
-    ((ledgerTells (boundsOf workedSizes) empty (callsOf worked) tells toldOf worked)
-    ∷ (storeTells suite (callsOf worked) (fresh workedSizes) tells toldOf worked)
+    ((ledgerTells (boundsOf workedSizes) empty (callsOf (worked ++ (checks ∷ []))) tells toldOf (worked ++ (checks ∷ [])))
+    ∷ (storeTells suite (callsOf (worked ++ (checks ∷ []))) (fresh workedSizes) tells toldOf (worked ++ (checks ∷ [])))
     ∷ (ledgerTells (boundsOf repeatedSizes) empty (callsOf repeated) tells toldOf repeated)
     ∷ (storeTells suite (callsOf repeated) (fresh repeatedSizes) tells toldOf repeated)
     ∷ (ledgerTells (boundsOf workedSizes) empty (callsOf ordered) tells toldOf ordered)
     ∷ (storeTells suite (callsOf ordered) (fresh workedSizes) tells toldOf ordered)
+    ∷ (ledgerTells (boundsOf workedSizes) empty (callsOf checked) tells toldOf checked)
+    ∷ (storeTells suite (callsOf checked) (fresh workedSizes) tells toldOf checked)
     ∷ (ledgerTells (boundsOf jointSizes) empty (callsOf jointly) tells toldOf jointly)
     ∷ (storeTells suite (callsOf jointly) (fresh jointSizes) tells toldOf jointly)
     ∷ every byteEquations
     ∷ bytes (leastBytes ++ jointBytes suite)
     ∷ cases (testCases suite ++ jointCases suite)
+    ∷ bytes checkBytes
+    ∷ cases checkCases
     ∷ bytes (insertBytes suite ++ (readingBytes suite ++ (rowsBytes suite ++ (laterBytes suite ++ (blindBytes ++ (compactionBytes suite ++ (boundBytes suite ++ queryBytes suite)))))))
     ∷ cases (makingCases ++ storeMakingCases)
     ∷ cases (inputCases suite)

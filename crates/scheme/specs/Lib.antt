@@ -25,5 +25,6 @@ pub mod ByteExamples
 pub mod RefusalExamples
 pub mod ReadingExamples
 pub mod JointExamples
+pub mod CheckExamples
 pub mod Examples
 pub mod Corollaries

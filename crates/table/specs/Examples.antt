@@ -1,11 +1,11 @@
--- Examples of rows in byte order and of rows looked at (document 02, "Rows in byte order", "Stop early, and say the rows read"): what the
--- definitions give, beside what the document says. The checker computes both (proofs/Examples.antt).
+-- Examples of rows in byte order, of rows looked at (document 02, "Rows in byte order", "Stop early, and say the rows read") and of elements
+-- repeated and lacking: what the definitions give, beside what the document says. The checker computes both (proofs/Examples.antt).
 use Prim.Native.Nat.{ℕ}
 use mathlib.Core.Bool.{Bool}
 use mathlib.Core.List.{List, [], _∷_, _++_}
 use lib.Dec.{eqb}
 use lib.ListN.{getD, replicate}
-use Rattle.table.specs.Lists.{bit, flat}
+use Rattle.table.specs.Lists.{bit, flat, repeats, lacking}
 use Rattle.table.specs.Table.{Row, Table, placeOf}
 use Rattle.table.specs.Order.{precedes, inForm, arranged, reordered, closed}
 use Rattle.table.specs.Looked.{lookedAt}
@@ -36,6 +36,13 @@ placed a t = placeOf (replicate 31 0 ++ (a ∷ [])) t ∷ []
 
 abbrev pub looked : ℕ → Table → List ℕ
 looked a t = lookedAt (replicate 31 0 ++ (a ∷ [])) t ∷ []
+
+-- one byte, which equals no list but itself
+abbrev pub x : List ℕ
+x = 4 ∷ []
+
+abbrev pub y : List ℕ
+y = 5 ∷ []
 
 abbrev pub three : Table
 three = row 5 0 ∷ row 5 1 ∷ row 8 0 ∷ free ∷ free ∷ []
@@ -73,4 +80,11 @@ examples =
     ∷ (looked 7 (row 5 0 ∷ row 6 0 ∷ []) is (2 ∷ []))
     ∷ (looked 6 (row 5 0 ∷ row 6 0 ∷ row 7 0 ∷ []) is (2 ∷ []))
     ∷ (looked 5 (free ∷ free ∷ []) is (0 ∷ []))
+    -- each element that an earlier one equals, neighbours or not; a list equals none that it begins [check:2 3]
+    ∷ (repeats [] ∷ repeats (x ∷ []) ∷ repeats (x ∷ y ∷ []) ∷ [] is (0 ∷ 0 ∷ 0 ∷ []))
+    ∷ (repeats (x ∷ x ∷ []) ∷ repeats (x ∷ y ∷ x ∷ []) ∷ repeats (x ∷ x ∷ x ∷ []) ∷ repeats (x ∷ y ∷ y ∷ x ∷ []) ∷ [] is (1 ∷ 1 ∷ 2 ∷ 2 ∷ []))
+    ∷ (repeats (x ∷ (x ++ y) ∷ []) ∷ repeats ([] ∷ [] ∷ []) ∷ [] is (0 ∷ 1 ∷ []))
+    -- each element of the first list that the second has nowhere [check:4 5 6 7]
+    ∷ (lacking [] (x ∷ []) ∷ lacking (x ∷ []) [] ∷ lacking (x ∷ x ∷ y ∷ []) [] ∷ [] is (0 ∷ 1 ∷ 3 ∷ []))
+    ∷ (lacking (x ∷ y ∷ x ∷ []) (y ∷ x ∷ []) ∷ lacking (x ∷ y ∷ x ∷ []) (y ∷ []) ∷ lacking (y ∷ []) (x ∷ (y ++ x) ∷ []) ∷ [] is (0 ∷ 2 ∷ 1 ∷ []))
     ∷ []
