@@ -1,4 +1,4 @@
--- What callers rely on, as consequences of the claim, each for every list of calls under the premise.
+-- What callers rely on, as consequences of the claim, each for every list of calls under the premise; RowsFixTable and ZerosMean for every store.
 use Prim.Native.Nat.{ℕ, suc, _+_, _*_, _≤_}
 use mathlib.Core.Path.{_≡_}
 use mathlib.Core.Bool.{Bool, true, false, not}
