@@ -56,7 +56,7 @@ ascending-at (r ∷ rs) (suc i) (suc j) a h k = ascending-at rs i j (a .1) (le-o
 
 -- ---- the first index that passes
 
-index-le : (q : Row → Bool) (t : Table) (i : ℕ) → i < length t → q (getD t i []) ≡ true → indexOf q t ≤ i
+pub index-le : (q : Row → Bool) (t : Table) (i : ℕ) → i < length t → q (getD t i []) ≡ true → indexOf q t ≤ i
 index-le q [] i h e = absurd (not-suc-le-zero h)
 index-le q (r ∷ rs) zero h e = rw e (omega arith)
 index-le q (r ∷ rs) (suc i) h e = go (q r) (index-le q rs i (le-of-suc-le-suc h) e)
@@ -81,7 +81,7 @@ index-before q t i h = go (q (getD t i [])) refl
     go false e = refl
 
 -- none before i passes: i, where it passes
-index-is : (q : Row → Bool) (t : Table) (i : ℕ) → ((j : ℕ) → j < i → q (getD t j []) ≡ false) → i < length t → q (getD t i []) ≡ true → indexOf q t ≡ i
+pub index-is : (q : Row → Bool) (t : Table) (i : ℕ) → ((j : ℕ) → j < i → q (getD t j []) ≡ false) → i < length t → q (getD t i []) ≡ true → indexOf q t ≡ i
 index-is q t i fail h e = go (ltb (indexOf q t) i) refl
   where
     l : indexOf q t ≤ i
@@ -113,7 +113,7 @@ abbrev pub startsWith : List ℕ → Row → Bool
 startsWith key r = not (isFree r) && same (take (length key) (body r)) key
 
 module _ (w : ℕ) (t : Table) (f : InForm w t) where
-  used-at : (i : ℕ) → i < length (usedRows t) → getD t i [] ≡ getD (usedRows t) i []
+  pub used-at : (i : ℕ) → i < length (usedRows t) → getD t i [] ≡ getD (usedRows t) i []
   used-at i h = ap (λ (l : Table). getD l i []) (f .filled) ∙ List·getD-append (usedRows t) (replicate (freeRows t) (zeroRow w)) [] i h
 
   pub used-row : (i : ℕ) → i < length (usedRows t) → isFree (getD t i []) ≡ false
@@ -141,7 +141,7 @@ module _ (w : ℕ) (t : Table) (f : InForm w t) where
         go (suc x) e k = omega arith
 
     -- used rows' bodies, as far as a key goes, ascend
-    parts-ascend : (k i j : ℕ) → i ≤ j → j < length (usedRows t) → precedes (take k (body (getD t j []))) (take k (body (getD t i []))) ≡ false
+    pub parts-ascend : (k i j : ℕ) → i ≤ j → j < length (usedRows t) → precedes (take k (body (getD t j []))) (take k (body (getD t i []))) ≡ false
     parts-ascend k i j h l =
         let o : precedes (getD t j []) (getD t i []) ≡ false = rw (used-at j l, used-at i (omega arith)) (ascending-at (usedRows t) i j (f .order) h l) in
         not-before-take k (body (getD t j [])) (body (getD t i [])) (body-order (getD t j []) (getD t i []) (mark-one j l) (mark-one i (omega arith)) o)

@@ -1,0 +1,4 @@
+pub mod Keys
+pub mod Neighbours
+pub mod Walks
+pub mod Flags
