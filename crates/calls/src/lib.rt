@@ -3,7 +3,7 @@
 ghost use mathlib.Core.Path.{_≡_};
 ghost use Prim.Native.Nat.{_+_, _*_, _≤_};
 ghost use lib.ListN.{length};
-ghost use Rattle.answer.specs.Answer.{completion, counted, tallied};
+ghost use Rattle.answer.specs.Answer.{completion, counted, tallied, inspected};
 ghost use Rattle.scheme.specs.Call.{Call};
 ghost use Rattle.scheme.specs.Run.{perform, partOf, partTokenTests};
 ghost use Rattle.suite.specs.Program.{program};
@@ -12,6 +12,7 @@ ghost use Rattle.compact.specs.Outcome.{compactionAnswer};
 ghost use Rattle.calls.specs.Parts.{edge as edgeOf, piece as pieceOf, partAt, partsOf, partsTests, placed, keptParts};
 use answer::Completion;
 use answer::Counted;
+use answer::Inspected;
 use answer::Refusal;
 use answer::Tallied;
 use compact::Compaction;
@@ -93,6 +94,13 @@ pub fn order(store: &mut [u8]) -> Counted
     ensures { λ _. ⌜ now (store .exit) ≡ perform program Call.order (now (store .entry)) .store ⌝ }
 {
     order::order(store)
+}
+
+// Counts the rows of a store that do not go together. [check:1]
+pub fn check(store: &[u8]) -> Inspected
+    ensures { λ r. ⌜ inspected r ≡ perform program Call.check (now (store .entry)) .answer ⌝ }
+{
+    consistency::check(store)
 }
 
 // Tests whether the document of an id has a field with a value. [02:W4.17]
