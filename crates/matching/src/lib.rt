@@ -50,7 +50,7 @@ fn alike(a: &[u8], i: usize, b: &[u8], j: usize, k: usize) -> bool
 // How many used rows have a tag that a row before them has: equal tags stand together. [check:2 check:3 check:9]
 pub fn repeats(t: &[u8], w: usize, n: usize, u: usize) -> u64
     requires { ⌜ ((33 ≤ w) × (length (now t) ≡ w * n)) × Searchable w u (rows w n (now t)) ⌝ }
-    ensures { λ r. ⌜ (r ≡ repeatsIn (map (take 32) (usedIn (rows w n (now (t .entry)))))) ⌝ }
+    ensures { λ r. ⌜ r ≡ repeatsIn (map (take 32) (usedIn (rows w n (now (t .entry))))) ⌝ }
 {
     let mut r: u64 = 0;
     let mut i = 1;
@@ -193,13 +193,13 @@ fn unflagged(t: &[u8], w: usize, n: usize, u: usize, flags: &[u8]) -> u64
 {
     let mut left: u64 = 0;
     let mut first = 0;
-    let mut i = 0;
-    while i < u {
-        first = start(t, w, n, u, i, first);
+    let mut j = 0;
+    while j < u {
+        first = start(t, w, n, u, j, first);
         if flags[first] == 0 {
             left += 1;
         }
-        i += 1;
+        j += 1;
     }
     left
 }
@@ -277,13 +277,13 @@ pub fn lacking_ids(
     ensures { λ r. ⌜ r ≡ lackingIn (map (take 16) (usedIn (rows w n (now (t .entry))))) (map (take 16) (usedIn (rows width m (now (v .entry))))) ⌝ }
 {
     let mut r: u64 = 0;
-    let mut i = 0;
+    let mut k = 0;
     let mut j = 0;
-    while i < u {
-        let a = w * i + 1;
+    while k < u {
+        let a = w * k + 1;
         match compare_id(t, a, v, width, m, used, j) {
             Meeting::Same => {
-                i += 1;
+                k += 1;
                 j += 1;
             }
             Meeting::Before => j += 1,
@@ -291,7 +291,7 @@ pub fn lacking_ids(
                 if !was_met(t, a, v, width, m, used, j) {
                     r += 1;
                 }
-                i += 1;
+                k += 1;
             }
         }
     }

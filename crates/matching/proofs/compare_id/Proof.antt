@@ -68,7 +68,7 @@ returns c =
 alike-requires : tie.Need-alike-requires
 alike-requires c κs =
     let s = c .before .before .before in
-    (s .pre .1, omega (arith, row c .1, s .pre .0 .0 .0))
+    (omega (arith, s .pre .1), omega (arith, row c .1, s .pre .0 .0 .0))
 
 returns-2 : tie.Need-returns-2
 returns-2 c = sym (meeting-here _ _ _ (within (c .before .before)) true _ (compared (c .before) ∙ c .if2 .taken) refl)

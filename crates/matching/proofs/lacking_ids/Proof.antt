@@ -22,10 +22,10 @@ abbrev ids : ℕ → ℕ → List ℕ → List (List ℕ)
 ids w n t = map (take 16) (used (rows w n t))
 
 abbrev Inv-loop : tie.InvT-loop
-Inv-loop t w n u v width m used r₀ i₀ j₀ r i j = Walking (ids w n t) (ids width m v) i j r
+Inv-loop t w n u v width m used r₀ k₀ j₀ r i j = Walking (ids w n t) (ids width m v) i j r
 
 abbrev μ-loop : tie.MeasureT-loop
-μ-loop t w n u v width m used r₀ i₀ j₀ r i j = u - i + (used - j)
+μ-loop t w n u v width m used r₀ k₀ j₀ r i j = u - i + (used - j)
 
 module _ (s : tie.Start Inv-loop μ-loop) where
   abbrev xs : List (List ℕ)
@@ -49,34 +49,34 @@ module _ (s : tie.Start Inv-loop μ-loop) where
 -- the row ends within the table
 row : (c : tie.In-loop Inv-loop μ-loop) →
     let a = c .before .before .before .before .args in
-    let i = c .before .loop .i in
+    let i = c .before .loop .k in
     (i < length (xs (c .before .before .before .before))) × (a .w * i + a .w ≤ length (a .t .now))
 row c =
     let s = c .before .before .before .before in
     let a = s .args in
-    let i = c .before .loop .i in
+    let i = c .before .loop .k in
     let h : i < a .u = omega (arith, c .loop-test .taken) in
     (omega (arith, long s), inside (a .w) (a .n) (a .u) (a .t .now) (s .pre .0 .1) (s .pre .0 .0 .1) i h .1)
 
 -- its id
 text : (c : tie.In-loop Inv-loop μ-loop) →
     let a = c .before .before .before .before .args in
-    let i = c .before .loop .i in
+    let i = c .before .loop .k in
     getD (xs (c .before .before .before .before)) i [] ≡ take 16 (drop (a .w * i + 1) (a .t .now))
 text c =
     let s = c .before .before .before .before in
     let a = s .args in
-    key-text (a .w) (a .n) (a .u) (a .t .now) (s .pre .0 .1) (s .pre .0 .0 .1) 16 (c .before .loop .i) (omega (arith, s .pre .0 .0 .0)) (omega (arith, c .loop-test .taken))
+    key-text (a .w) (a .n) (a .u) (a .t .now) (s .pre .0 .1) (s .pre .0 .0 .1) 16 (c .before .loop .k) (omega (arith, s .pre .0 .0 .0)) (omega (arith, c .loop-test .taken))
 
 -- what the comparison says of it
 said : (c : tie.After-compare-id Inv-loop μ-loop) (k : Meeting) → c .compare-id .result ≡ k →
     let s = c .before .before .before .before .before in
-    Says (getD (xs s) (c .before .before .loop .i) []) (ys s) (c .before .before .loop .j) k
+    Says (getD (xs s) (c .before .before .loop .k) []) (ys s) (c .before .before .loop .j) k
 said c k e =
     let s = c .before .before .before .before .before in
     let j = c .before .before .loop .j in
     subst (λ (x : List ℕ). Says x (ys s) j k) (sym (text (c .before)))
-    (subst (Says (take 16 (drop (s .args .w * c .before .before .loop .i + 1) (s .args .t .now))) (ys s) j) (sym (c .compare-id .ensures) ∙ e) (says _ (ys s) j))
+    (subst (Says (take 16 (drop (s .args .w * c .before .before .loop .k + 1) (s .args .t .now))) (ys s) j) (sym (c .compare-id .ensures) ∙ e) (says _ (ys s) j))
 
 compare-id-requires : tie.Need-compare-id-requires Inv-loop μ-loop
 compare-id-requires c κs =
@@ -88,14 +88,14 @@ loop-again c =
     let s = c .before .before .before .before .before .before .before in
     let l = c .before .before .before .before .loop in
     let q = said (c .before .before) Meeting.Same (c .enum-told .given .1) in
-    walk-same (xs s) (ys s) (up s) (up′ s) (l .i) (l .j) (l .r) (l .inv) (row (c .before .before .before) .0) (q .0) (q .1)
+    walk-same (xs s) (ys s) (up s) (up′ s) (l .k) (l .j) (l .r) (l .inv) (row (c .before .before .before) .0) (q .0) (q .1)
 
 loop-again-2 : tie.Need-loop-again-2 Inv-loop μ-loop
 loop-again-2 c =
     let s = c .before .before .before .before .before .before .before in
     let l = c .before .before .before .before .loop in
     let q = said (c .before .before) Meeting.Before (c .enum-told2 .given .1) in
-    walk-before (xs s) (ys s) (up s) (up′ s) (l .i) (l .j) (l .r) (l .inv) (row (c .before .before .before) .0) (q .0) (q .1)
+    walk-before (xs s) (ys s) (up s) (up′ s) (l .k) (l .j) (l .r) (l .inv) (row (c .before .before .before) .0) (q .0) (q .1)
 
 was-met-requires : tie.Need-was-met-requires Inv-loop μ-loop
 was-met-requires c κs =
@@ -105,12 +105,12 @@ was-met-requires c κs =
 past : (c : tie.Joined1 Inv-loop μ-loop) (b : Bool) → c .before .was-met .result ≡ b →
     let s = c .before .before .before .before .before .before .before .before .before in
     let l = c .before .before .before .before .before .before .loop in
-    Walking (xs s) (ys s) (l .i + 1) (l .j) (l .r + bit (not b))
+    Walking (xs s) (ys s) (l .k + 1) (l .j) (l .r + bit (not b))
 past c b e =
     let s = c .before .before .before .before .before .before .before .before .before in
     let l = c .before .before .before .before .before .before .loop in
     let n = c .before .before .before .before .before in
-    walk-past (xs s) (ys s) (up s) (up′ s) (l .i) (l .j) (l .r) (l .inv) (row n .0) b
+    walk-past (xs s) (ys s) (up s) (up′ s) (l .k) (l .j) (l .r) (l .inv) (row n .0) b
     (said (c .before .before .before .before) Meeting.Past (c .before .before .enum-told3 .given .1))
     (ap (λ (x : List ℕ). metBefore x (ys s) (l .j)) (text n) ∙ sym (c .before .was-met .ensures) ∙ e)
 
@@ -118,15 +118,15 @@ loop-again-3 : tie.Need-loop-again-3 Inv-loop μ-loop
 loop-again-3 c =
     let s = c .before .before .before .before .before .before .before .before .before in
     let l = c .before .before .before .before .before .before .loop in
-    ⊎-elim (λ w. subst (λ (r : ℕ). Walking (xs s) (ys s) (l .i + 1) (l .j) r) (sym (w .1)) (past c false (not-true (c .before .was-met .result) (w .0 .taken))))
-    (λ w. subst (λ (r : ℕ). Walking (xs s) (ys s) (l .i + 1) (l .j) r) (add-zero (l .r) ∙ sym (w .1)) (past c true (not-false (c .before .was-met .result) (w .0 .left))))
+    ⊎-elim (λ w. subst (λ (r : ℕ). Walking (xs s) (ys s) (l .k + 1) (l .j) r) (sym (w .1)) (past c false (not-true (c .before .was-met .result) (w .0 .taken))))
+    (λ w. subst (λ (r : ℕ). Walking (xs s) (ys s) (l .k + 1) (l .j) r) (add-zero (l .r) ∙ sym (w .1)) (past c true (not-false (c .before .was-met .result) (w .0 .left))))
     (c .if1 .came)
 
 returns : tie.Need-returns Inv-loop μ-loop
 returns c =
     let s = c .before .before .before .before in
     let l = c .before .loop in
-    walk-end (xs s) (ys s) (l .i) (l .j) (l .r) (omega (arith, c .loop-test .left, long s)) (l .inv)
+    walk-end (xs s) (ys s) (l .k) (l .j) (l .r) (omega (arith, c .loop-test .left, long s)) (l .inv)
 
 -- where the walk has come to a row, that is a used one
 here : (c : tie.After-compare-id Inv-loop μ-loop) → c .before .before .loop .j < length (ys (c .before .before .before .before .before)) → c .before .before .loop .j < c .before .before .before .before .before .args .used
