@@ -15,6 +15,8 @@ Count = namedtuple("Count", "key name value")
 Compact = namedtuple("Compact", "key nonces")
 # Puts the store in form; takes nothing but the store [02:W2.6].
 Order = namedtuple("Order", "")
+# Counts rows that do not go together; takes nothing but the store [check:1].
+Check = namedtuple("Check", "")
 Test = namedtuple("Test", "key name value id")
 # What each part of a joint find is made from, in order [02:W4.24].
 Part = namedtuple("Part", "key name value")

@@ -6,7 +6,9 @@ comparison can fail: each deliberately wrong version has to be caught. Whole lis
 store of any sizes [01:LG2 LG5 LG6 LG14 LG15 LG17 LG18 LG19]; ids with several entries in each way that a find may
 meet them [02:W1.1 W1.2 W1.3 W1.4 W1.5 W1.6]; rows in byte order after every call [02:W2.1 W2.2 W2.3 W2.4 W2.5], and
 stores with rows in any place, put in form on the way [02:W2.6 W2.7 W2.8 W2.10]; then counts, with the rows looked at
-[02:W3.1 W3.2 W3.3 W3.4 W3.5 W3.6 W3.7 W3.8 W3.11 W3.12]; tests and joint finds of 1 to 8 parts [02:W4.17 W4.26].
+[02:W3.1 W3.2 W3.3 W3.4 W3.5 W3.6 W3.7 W3.8 W3.11 W3.12]; tests and joint finds of 1 to 8 parts [02:W4.17 W4.26]; a check
+after every fifth call of a list and at its end, which tells 0 of each [check:10], and checks of stores with faults [check:1 check:2 check:3
+check:4 check:5 check:6 check:7 check:8].
 """
 import argparse
 import random
@@ -14,13 +16,14 @@ import sys
 import time
 
 import examples
+import faults
 import form
 import hostile
 import looked
 import placing
 import scheme
 import version1
-from calls import (Compact, Count, Done, Erase, Find, Insert, JointFind, Order, Part, Refused, Test, compared,
+from calls import (Check, Compact, Count, Done, Erase, Find, Insert, JointFind, Order, Part, Refused, Test, compared,
                    field_lengths_wrong, named_in, nonce_bytes)
 from joint import Joint
 from ledger import Ledger
@@ -82,7 +85,7 @@ class Lists:
             # A field that had the most entries may come to have the fewest.
             begin += [Erase(id) for id in self.alone]
             self.alone = []
-        return begin + [self.call() for _ in range(r.randint(1, max(1, self.longest - len(begin))))]
+        return with_checks(begin + [self.call() for _ in range(r.randint(1, max(1, self.longest - len(begin))))])
 
     def shared_ids(self, field):
         """An insert of most of the ids, in any order, and now and then of some that no other field has."""
@@ -193,6 +196,12 @@ class Lists:
     def compact(self):
         nonces = self.sizes[2] if self.r.random() < 0.7 else self.r.randint(0, self.sizes[2])
         return Compact(self.any_key(), self.nonce_bytes(self.near(12 * nonces)))
+
+
+def with_checks(calls):
+    """The list with a check after every fifth call and at its end [check:10]."""
+    result = [call for at, call in enumerate(calls) for call in ([call, Check()] if at % 5 == 4 else [call])]
+    return result + [Check()]
 
 
 def tags_differ(model, key, p, calls):
@@ -366,7 +375,7 @@ def all_told(tally, repeats, joint, least):
     """Every answer that a list can come to was come to, so that no rule went untried; and each kind of
     repeats, of tests and of joint finds was met as often as `least` says."""
     wanted = {"Insert": (1, 2, 3, 4, 5, 12, 15, 16, 17, 21), "Erase": (5,), "Find": (1, 2, 18),
-              "Count": (1, 2), "Compact": (1, 4, 19), "Order": (), "Test": (1, 2, 5), "JointFind": (1, 2, 6, 18)}
+              "Count": (1, 2), "Compact": (1, 4, 19), "Order": (), "Test": (1, 2, 5), "JointFind": (1, 2, 6, 18), "Check": ()}
     missing = [(kind, n) for kind, numbers in wanted.items() for n in ("done",) + numbers
                if not tally.get((kind, n))]
     if missing:
@@ -411,6 +420,21 @@ def counts(given):
     return 0
 
 
+def checks(given):
+    """Checks of stores with faults: the numbers are those of counting, and every kind of store was met."""
+    for suite, number in ((Cheap, given.faults), (Real, given.faults // 10)):
+        met = faults.check(given.seed, number, suite)
+        if isinstance(met, str):
+            print("checks: %s" % met)
+            return 1
+        print("checks, %s suite: %d stores, %s" % (suite.name, number, met), flush=True)
+        seldom = met.too_seldom(number // 500)
+        if number >= 1000 and seldom:
+            print("NOT TRIED OFTEN ENOUGH, %d times: %s" % (number // 500, seldom))
+            return 1
+    return 0
+
+
 def other_stores(given):
     """Stores with rows in any place, two histories, and stores of version 1."""
     number = max(given.lists // 4, 40)
@@ -443,11 +467,12 @@ def main():
                          help="the premise's tags are computed for one list in this many")
     options.add_argument("--hostile", type=int, default=9000, help="calls on hostile stores")
     options.add_argument("--counts", type=int, default=3000, help="stores made for counts")
+    options.add_argument("--faults", type=int, default=6000, help="stores made for checks")
     options.add_argument("--mutants", action="store_true", help="wrong versions are caught")
     given = options.parse_args()
     examples.all_examples()
-    print("L1 to L6, G1 to G8, ids with several entries, rows in byte order, rows that a count looks at, tests and joint finds and"
-          " the forged stores: as the papers say", flush=True)
+    print("L1 to L6, G1 to G8, ids with several entries, rows in byte order, rows that a count looks at, tests, joint finds,"
+          " checks and the forged stores: as the papers say", flush=True)
     if given.mutants:
         import mutants
         return mutants.caught(given)
@@ -456,7 +481,7 @@ def main():
         told_all = compare(suite, given.seed, number, given.longest, given.premise)
         if told_all is None or (number >= 1000 and not all_told(*told_all, number // 40)):
             return 1
-    return counts(given) or other_stores(given) or hostile_stores(given)
+    return counts(given) or checks(given) or other_stores(given) or hostile_stores(given)
 
 
 if __name__ == "__main__":

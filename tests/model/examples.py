@@ -1,8 +1,9 @@
 """Fixed examples: document 01's L1 to L6 and its worked list G1 to G8, on store and ledger both, and lists with ids that
 come more than once, with orders between, with tests and joint finds (document 02, requests 1, 2 and 4); tables in form and
-out of it; the rows that a count looks at (request 3); R rows, tests and joint finds on forged stores; and refusals 7 to 21 on
-made and forged stores, in the paper's order.
+out of it; the rows that a count looks at (request 3); R rows, tests and joint finds on forged stores; checks of stores with each
+kind of fault; and refusals 7 to 21 on made and forged stores, in the paper's order.
 """
+import faults
 import form
 import scheme
 from calls import Compact, Count, Done, Erase, Find, Insert, JointFind, Order, Part, Refused, Test, compared, nonce_bytes
@@ -217,6 +218,8 @@ def run_calls(build, build_ledger, sizes, calls):
             expect(name + " in the ledger", ledger.call(call), wanted)
             answer, output = model.call(store, call)
             expect(name + " in the store", (compared(call, answer), output), wanted)
+            # Whatever the call, its rows go together after it [check:10].
+            expect(name + ", checked", model.check(store), ledger.check())
 
 
 def making(build):
@@ -242,7 +245,7 @@ def making(build):
 
 
 def every_call(model, store, p):
-    """The eight operations on a store, with tokens that are right for p."""
+    """The nine operations on a store, with tokens that are right for p."""
     token = model.insert_token(KEY, *HUE, p, 0, NONCE)
     return [("insert", lambda: model.insert(store, token, bytes(36), id_of("A"))),
             ("erase", lambda: model.erase(store, id_of("A"))),
@@ -251,7 +254,8 @@ def every_call(model, store, p):
             ("compact", lambda: model.compact(store, model.compact_token(KEY), bytes(48))),
             ("order", lambda: model.order(store)),
             ("test", lambda: model.test(store, id_of("A"), model.mark_token(KEY, *HUE))),
-            ("joint find", lambda: model.joint_find(store, model.part_token(KEY, *HUE) + model.part_token(KEY, *SIZE), bytearray(64)))]
+            ("joint find", lambda: model.joint_find(store, model.part_token(KEY, *HUE) + model.part_token(KEY, *SIZE), bytearray(64))),
+            ("check", lambda: model.check(store))]
 
 
 def all_refuse(model, store, number_wanted, names=None):
@@ -470,7 +474,7 @@ def rows():
 
 
 # All but an order, which takes a store in any form.
-IN_FORM = ("insert", "erase", "find", "count", "compact", "test", "joint find")
+IN_FORM = ("insert", "erase", "find", "count", "compact", "test", "joint find", "check")
 
 
 def forms():
@@ -817,6 +821,27 @@ def unmarked(build):
             expect("in form after it", form.in_form(store), True)
 
 
+def checked(build):
+    """The seven numbers of stores written by hand, each written by hand; those of a store in which an insert was repeated at an
+    address in use; every refusal beside what is accepted; nothing changes [check:1 check:2 check:3 check:4 check:5 check:6 check:7
+    check:8]."""
+    for suite in (Cheap, Real):
+        model, right = build(suite), scheme.Scheme(suite)
+        joined, call = faults.address_in_use(right)
+        repeated = bytearray(joined)
+        expect("an insert at an address in use", right.call(repeated, call)[0], Done((2,)))
+        for title, store, wanted in (*faults.by_hand(), ("an older C and S", joined, faults.NONE),
+                                     ("an address in use", bytes(repeated), (1, 0, 0, 0, 0, 0, 0))):
+            lent = bytearray(store)
+            expect("a check: " + title, model.check(lent), Done(wanted))
+            expect("a check leaves the store", bytes(lent), store)
+            expect("the numbers by counting", faults.by_counting(store), wanted)
+        for store, wanted in faults.refusals(bytes(repeated)):
+            lent = bytearray(store)
+            expect("a check refused", model.check(lent), Refused(wanted, ()) if wanted else Done((1, 0, 0, 0, 0, 0, 0)))
+            expect("a check leaves the store", bytes(lent), store)
+
+
 def shared(build, build_ledger):
     """The examples that a wrong version of store or ledger is held against."""
     labels(build)
@@ -825,7 +850,7 @@ def shared(build, build_ledger):
     run_calls(build, build_ledger, (1, 6, 4, 4, 6), ordered())
     run_calls(build, build_ledger, (1, 8, 6, 6, 7), jointly())
     run_calls(build, build_ledger, (0, 8, 4, 4, 8), least())
-    for example in (making, headers, input_order, limits, inserted, tested, joined, unmarked, looked):
+    for example in (making, headers, input_order, limits, inserted, tested, joined, unmarked, looked, checked):
         example(build)
 
 

@@ -1,15 +1,16 @@
-"""Hostile stores for the eight operations: the papers say what each call does for all inputs.
+"""Hostile stores for the nine operations: the papers say what each call does for all inputs.
 
 A store that some calls made is broken in one or more ways: header, length, marks, damaged and
 forged rows, R rows missing or of another mark, tags and ids that repeat, bytes in free rows, random
 bytes. Most of them are then put in form, so that the later refusals are met too; of others one table
 is put out of form in one way; the rest stay as they are [02:W2.11 W2.12]. `Hostile.draw` gives the store
-and a call; `check` runs the model on it and holds it to what no store may change.
+and a call; `check` runs the model on it, and a check besides, and holds it to what no store may change.
 """
 import random
 from collections import Counter
 
 import calls
+import faults
 import form
 import looked
 import scheme
@@ -372,12 +373,17 @@ class Marks:
 
 
 def check(seed, number_of, suite):
-    """Runs `number_of` calls on broken stores; the tallies of what was told and met, or None at a fault."""
+    """Runs `number_of` calls on broken stores, and a check of each; the tallies of what was told and met, or None at a fault."""
     drawn, tally, forms, orders, counts = Hostile(seed, suite), {}, form.Forms(), Orders(), looked.Looked()
     marks, model = Marks(), Scheme(suite)
     for i in range(number_of):
         store, call = drawn.draw()
         before = bytes(store)
+        seen = model.check(store)
+        fault = fault_of(calls.Check(), seen, None, before, bytes(store))
+        if fault:
+            print("FAULT %s: store %d, seed %d: %s" % (fault, i, seed, before.hex()))
+            return None
         if huge(model, store, call):
             continue
         answer, output = model.call(store, call)
@@ -412,8 +418,10 @@ def fault_of(call, answer, output, before, after):
             return "a refusal changed the output"
         if before == after:
             return None
-    if kind in ("Find", "Count", "Test", "JointFind") and before != after:
+    if kind in ("Find", "Count", "Test", "JointFind", "Check") and before != after:
         return "a reading call changed the store"
+    if kind == "Check":
+        return faults.fault_of(before, answer)
     if kind == "Count" and not 0 <= answer.values[1] <= looked.most(before):
         return "a count looked at more rows than it may"
     if kind == "Test" and answer.values[0] not in (0, 1):

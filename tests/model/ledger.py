@@ -35,6 +35,8 @@ class Ledger:
             return self.count(call), None
         if isinstance(call, calls.Order):
             return self.order(), None
+        if isinstance(call, calls.Check):
+            return self.check(), None
         if isinstance(call, calls.Test):
             return self.test(call), None
         if isinstance(call, calls.JointFind):
@@ -131,6 +133,10 @@ class Ledger:
         """How many used rows there are [02:W2.8]: of M, V and R one for each id in lists [02:W4.13], of C the anchors and a
         counter for each insert, of S a row for each insert. Nothing changes, and 20 never comes [02:W2.10]."""
         return Done((3 * self.total() + self.anchors + 2 * self.inserts,))
+
+    def check(self):
+        """It has no rows, so none that do not go together: every list of calls leaves 0 of each [check:10]."""
+        return Done((0,) * 7)
 
     def test(self, call):
         """1 where the id is in a list of that field and value, whatever its u [02:W4.17]."""

@@ -1,7 +1,7 @@
 """Wrong versions of store and ledger: each has to be caught by the examples, by the random lists, on hostile
-stores or on stores made for counts, so that the comparison is known to be able to fail. Only a difference counts; an exception of
+stores or on stores made for counts or for checks, so that the comparison is known to be able to fail. Only a difference counts; an exception of
 a wrong version's own is a fault of this test. The first three are the slips that document 01, 'A day
-in the ledger', names. Those of request 4 of document 02 are in joint_mutants.py.
+in the ledger', names. Those of request 4 of document 02 are in joint_mutants.py, those of the check in check_mutants.py.
 """
 import sys
 import traceback
@@ -9,11 +9,13 @@ from bisect import bisect_left, bisect_right
 
 import calls
 import examples
+import faults
 import form
 import hostile
 import looked
 import scheme
 from calls import Done, Refused, first
+from check_mutants import CHECKS, CHECKS_IN_LISTS, CHECKS_REFUSED, LEDGERS_CHECKS
 from joint_mutants import LEDGERS_MARKS, MARKS_IN_LISTS, MARKS_ON_STORES
 from ledger import Ledger
 from primitives import Cheap
@@ -1105,16 +1107,20 @@ LEDGERS_ROWS = [LedgerTellsRows]
 # What request 4 could be taken for [02:W4.3 W4.4 W4.5 W4.6 W4.7 W4.9 W4.10 W4.11 W4.12 W4.13 W4.14 W4.17 W4.18 W4.19 W4.20 W4.21
 # W4.22 W4.23 W4.24 W4.25 W4.30]: the examples have to catch each of these in a store, and besides the lists or the hostile stores.
 MARKS = MARKS_IN_LISTS + MARKS_ON_STORES
+# What the check could be taken for [check:1 check:2 check:3 check:4 check:5 check:6 check:7 check:8 check:10]: the stores written by hand
+# and the drawn ones both have to catch each of these.
+SEEN = CHECKS + CHECKS_REFUSED
 STORES = [CountsFromZeroAfterAnchor, NextAddressFromIdsListed, AnchorPerSRow, AnchorCountOneShort,
           AnchorNumberAgain, EraseLeavesM, EraseLeavesV, EraseFirstOnly, CompactionLeavesS,
           CompactionLeavesCounters, CompactionNeverTreats, InsertWritesNoCounter,
           InsertWritesOnlyFirst, FindStopsAtMissing, FindOneAddressShort, FindOnlyShareZero,
           FindWritesBeforeRefusing, FindCarriesRoom, FindAlwaysEmpty, RoomInAnotherOrder,
-          RefusesWhenFull, CompactionByLabels, LabelWithoutLength, LabelBigGroupsFirst, SharesAlike] + REPEATS + FORMS + ROWS + MARKS
+          RefusesWhenFull, CompactionByLabels, LabelWithoutLength, LabelBigGroupsFirst, SharesAlike] + REPEATS + FORMS + ROWS + MARKS + SEEN
 LEDGERS = [LedgerMadeFromIdsListed, LedgerAnchorPerInsert, LedgerSixteenTooLate,
-           LedgerAnchorsNotKept] + LEDGERS_REPEATS + LEDGERS_FORMS + LEDGERS_ROWS + LEDGERS_MARKS
+           LedgerAnchorsNotKept] + LEDGERS_REPEATS + LEDGERS_FORMS + LEDGERS_ROWS + LEDGERS_MARKS + LEDGERS_CHECKS
 # Caught by the lists, whatever the examples say.
-IN_LISTS = REPEATS + LEDGERS_REPEATS + FORMS_IN_LISTS + LEDGERS_FORMS + ROWS_IN_LISTS + LEDGERS_ROWS + MARKS_IN_LISTS + LEDGERS_MARKS
+IN_LISTS = (REPEATS + LEDGERS_REPEATS + FORMS_IN_LISTS + LEDGERS_FORMS + ROWS_IN_LISTS + LEDGERS_ROWS + MARKS_IN_LISTS + LEDGERS_MARKS
+            + CHECKS_IN_LISTS + LEDGERS_CHECKS)
 
 
 def by_examples(build, build_ledger):
@@ -1171,6 +1177,19 @@ def by_counts(build, given):
     return None
 
 
+def by_checks(build, given):
+    """The number of stores made for checks after which the wrong version told something else than the right one, or left other
+    bytes, or None."""
+    drawn = faults.Stores(given.seed, Cheap)
+    wrong, right = build(Cheap), Scheme(Cheap)
+    for i in range(given.faults):
+        store = drawn.draw()
+        lent = bytearray(store)
+        if wrong.check(lent) != right.check(store) or lent != store:
+            return i + 1
+    return None
+
+
 def by_whole_answers(given):
     """The number of lists after which a comparison that leaves nothing out found the rows of a count, or None: the ledger
     knows no rows, so right versions differ in it [02:W3.8]."""
@@ -1182,9 +1201,9 @@ def by_whole_answers(given):
         compare.compared = kept
 
 
-def found(wrong, example, after, stores, counts):
+def found(wrong, example, after, stores, counts, checks):
     """Whether a wrong version was caught where it has to be."""
-    if wrong in ROWS and not (example and counts) or wrong in MARKS and not example:
+    if wrong in ROWS and not (example and counts) or wrong in SEEN and not (example and checks) or wrong in MARKS and not example:
         return False
     if wrong in IN_LISTS:
         return bool(after)
@@ -1199,16 +1218,18 @@ def caught(given):
             example = by_examples(*pair)
             stores = by_hostile(wrong, given) if wrong in FORMS + MARKS_ON_STORES else None
             counts = by_counts(wrong, given) if wrong in ROWS else None
+            checks = by_checks(wrong, given) if wrong in SEEN else None
             # Lists that can show nothing are left out, for their time.
-            after = by_lists(*pair, given, wrong in FORMS + MARKS) if wrong in IN_LISTS or not (stores or counts) else None
+            after = by_lists(*pair, given, wrong in FORMS + MARKS) if wrong in IN_LISTS or not (stores or counts or checks) else None
         except Exception:
             print("FAULT in %s, which shows nothing:" % wrong.__name__)
             traceback.print_exc(file=sys.stdout)
             faults += 1
             continue
-        shown = ["after %d" % n if n else "-" for n in (after, stores, counts)]
-        print("%-30s examples: %-16s lists: %-10s hostile stores: %-11s counts: %s" % (wrong.__name__, example or "-", *shown), flush=True)
-        missed += not found(wrong, example, after, stores, counts)
+        shown = ["after %d" % n if n else "-" for n in (after, stores, counts, checks)]
+        print("%-30s examples: %-16s lists: %-10s hostile stores: %-11s counts: %-10s checks: %s" % (wrong.__name__, example or "-", *shown),
+              flush=True)
+        missed += not found(wrong, example, after, stores, counts, checks)
     whole = by_whole_answers(given)
     print("rows of a count compared with the ledger: a difference %s" % ("after %d lists" % whole if whole else "was not found"))
     missed += not whole

@@ -1,6 +1,6 @@
-"""Labels, tokens, the store and the eight operations on its bytes: document 01, 'Labels' to
-'Refusals from the state', with requests 1 to 4 of document 02, for all inputs, hostile stores among them.
-Written from the papers.
+"""Labels, tokens, the store and the nine operations on its bytes: document 01, 'Labels' to
+'Refusals from the state', with requests 1 to 4 of document 02, and the check, for all inputs, hostile stores among
+them. Written from the papers.
 
 Each table's rows fix its bytes [02:W2.5]: `arranged`. What leaves the row placing open is in placing.py.
 """
@@ -598,6 +598,48 @@ class Scheme:
         """10 and 11 only [02:W2.9]."""
         yield from self.store_conditions(store)
 
+    # What can be seen of a store without a key
+
+    def check(self, store):
+        """Seven numbers of rows that do not go together; nothing changes [check:1]."""
+        refused = first(self.check_conditions(store))
+        return refused or Done(self.faults(store))
+
+    def check_conditions(self, store):
+        """10, 11, 20 [check:1]."""
+        yield from self.state_conditions(store)
+
+    def faults(self, store):
+        """[check:2 check:3 check:4 check:5 check:6 check:7 check:8]"""
+        entries, counters = self.tags(store, "M"), self.tags(store, "C")
+        tags, ids, labelled = self.reverse_tags(store), self.reverse_ids(store), self.labelled_ids(store)
+        return (self.again(entries), self.again(counters), self.lacking(tags, entries), self.lacking(entries, tags),
+                self.lacking(ids, labelled), self.lacking(labelled, ids), self.more(len(labelled), len(ids)))
+
+    def tags(self, store, name):
+        """Of the rows of M or of C."""
+        return [r[1:33] for r in used_rows(store, self.tables(store)[name])]
+
+    def reverse_tags(self, store):
+        return [r[17:49] for r in used_rows(store, self.tables(store)["V"])]
+
+    def reverse_ids(self, store):
+        return [r[1:17] for r in used_rows(store, self.tables(store)["V"])]
+
+    def labelled_ids(self, store):
+        return [r[1:17] for r in used_rows(store, self.tables(store)["R"])]
+
+    def again(self, tags):
+        """How many a row before them has."""
+        return sum(tag in tags[:at] for at, tag in enumerate(tags))
+
+    def lacking(self, these, others):
+        """How many of these are not among the others."""
+        return sum(one not in others for one in these)
+
+    def more(self, n, than):
+        return n - than if n > than else 0
+
     # A call of a list: its token, then the operation
 
     def call(self, store, call):
@@ -612,6 +654,8 @@ class Scheme:
             return self.erase(store, call.id), None
         if isinstance(call, calls.Order):
             return self.order(store), None
+        if isinstance(call, calls.Check):
+            return self.check(store), None
         if isinstance(call, calls.Test):
             return self.test(store, call.id, token), None
         if calls.has_output(call):
@@ -624,7 +668,7 @@ class Scheme:
     def token(self, call):
         if isinstance(call, calls.Insert):
             return self.insert_token(call.key, call.name, call.value, call.p, call.u, call.nonce)
-        if isinstance(call, (calls.Erase, calls.Order)):
+        if isinstance(call, (calls.Erase, calls.Order, calls.Check)):
             return None
         if isinstance(call, calls.Find):
             return self.find_token(call.key, call.name, call.value)
