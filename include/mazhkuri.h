@@ -1,7 +1,8 @@
 /* Mazhkuri: a stateless encrypted multi-map, proved. The C interface of the static library.
  *
  * A client holds one key of 32 bytes, remembers nothing, and makes tokens. A server holds a store
- * and no key: it inserts, erases, finds, finds by several fields, tests, counts, compacts and orders.
+ * and no key: it inserts, erases, finds, finds by several fields, tests, counts, compacts, orders and
+ * checks.
  * docs/API.md tells each call at length, docs/FORMAT.md the bytes of stores and tokens.
  *
  * What a call returns
@@ -9,7 +10,8 @@
  *   below 0     the call was refused: minus (the refusal's number + 256 * what it carries).
  *               mazhkuri_refusal and mazhkuri_carried take the two apart. Only refusal 18 carries a
  *               number, and refusal 13 of a compaction, which carries its two numbers so far.
- * Different answers of a call are different numbers (proved): nothing of an answer is lost.
+ * Different answers of a call are different numbers (proved): nothing of an answer is lost. A check
+ * returns the sum of its numbers, and writes the numbers themselves.
  * A refused call changes no byte of what it was lent, with one exception: see mazhkuri_compact.
  *
  * Memory
@@ -21,7 +23,8 @@
  *   A length may be 0, and then the pointer may be any non-null pointer; it is not read through. NULL
  *   must not be passed, not even with length 0. No alignment is asked for. A length is at most
  *   PTRDIFF_MAX.
- *   What a call writes (digest, tag, text, token, store, output) must not overlap any other argument.
+ *   What a call writes (digest, tag, text, token, store, output, rows, numbers) must not overlap any
+ *   other argument.
  *   Arguments that a call only reads may overlap one another.
  *   What a call writes has to hold some value before the call (a refused call leaves it).
  *
@@ -77,6 +80,26 @@ enum {
   MAZHKURI_COMPACTION_TOKEN = 32,
   MAZHKURI_MARK_TOKEN = 32,
   MAZHKURI_PART_TOKEN = 128
+};
+
+/* What a check counts, each at its place of numbers, and what it means for later calls. A reverse row leads
+ * from an id back to its entry; an erase goes by them. */
+enum {
+  /* entry rows at the address of one before them: a find gives the id of the first alone */
+  MAZHKURI_REPEATED_ENTRIES = 0,
+  /* counter rows at the position of one before them: a count may be too low, and inserts repeat addresses */
+  MAZHKURI_REPEATED_COUNTERS = 1,
+  /* reverse rows of no entry: an erase of their id counts them, and finds lack that entry */
+  MAZHKURI_REVERSES_WITHOUT_ENTRY = 2,
+  /* entry rows without a reverse row: no erase frees them, and finds go on to give their id */
+  MAZHKURI_ENTRIES_WITHOUT_REVERSE = 3,
+  /* reverse rows whose id has no label row: tests of it say no, and joint finds leave it out */
+  MAZHKURI_REVERSES_WITHOUT_LABEL = 4,
+  /* label rows whose id has no reverse row: tests may say yes of an id that was erased or never inserted */
+  MAZHKURI_LABELS_WITHOUT_REVERSE = 5,
+  /* label rows beyond the number of reverse rows: they take room, and 21 comes too soon */
+  MAZHKURI_LABELS_IN_EXCESS = 6,
+  MAZHKURI_NUMBERS = 7
 };
 
 /* The bytes of a store with m entry rows, c counter rows, s log rows and r label rows, each 1 to 4,096. */
@@ -207,6 +230,12 @@ int64_t mazhkuri_compact(uint8_t *store, size_t store_length, const uint8_t *non
  * that are all zero. Every used row is kept. For stores whose rows stand in another order, which every
  * other call refuses by 20. Returns how many used rows there are in all tables; or -10, -11. */
 int64_t mazhkuri_order(uint8_t *store, size_t store_length);
+
+/* Checks a store, without any key: writes the seven numbers of the enum above, in that order. Returns their
+ * sum; or -10, -11, -20, and then the numbers stay as they were. The store is never changed. Every list of
+ * calls on a store that mazhkuri_make made leaves 0 of each (proved, under the premise of docs/CLAIM.md); another
+ * number tells of a restore that went wrong, of damage, or of another program that wrote to the store. */
+int64_t mazhkuri_check(const uint8_t *store, size_t store_length, uint64_t numbers[7]);
 
 #ifdef __cplusplus
 }

@@ -6,6 +6,7 @@ use lib.Dec.{eqb}
 use mathlib.Core.List.{List, [], _∷_}
 use lib.ListN.{set}
 use lib.IntN.{ℤ, pos, negℤ}
+use Rattle.table.specs.Lists.{sum}
 use Rattle.answer.specs.Answer.{Answer, done, refused, rowsOf}
 
 -- the values as one number: none is 0, and of two (anchors, counters) the first counts 2 ^ 32
@@ -52,3 +53,13 @@ answering n (refused k l) = refused k l
 abbrev pub rowsLent : Answer → List ℕ → List ℕ
 rowsLent (done l) old = set old 0 (rowsOf (done l))
 rowsLent (refused n l) old = old
+
+-- a check answers the sum of its numbers [check:14]
+abbrev pub summed : Answer → Answer
+summed (done l) = done (sum l ∷ [])
+summed (refused n l) = refused n l
+
+-- what a caller lent for the numbers of a check, after it: they stand there, and a refusal leaves it [check:14]
+abbrev pub numbersLent : Answer → List ℕ → List ℕ
+numbersLent (done l) old = l
+numbersLent (refused n l) old = old

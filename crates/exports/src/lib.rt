@@ -3,7 +3,8 @@
 ghost use mathlib.Core.Path.{_≡_};
 ghost use Prim.Native.Nat.{_^_, _<_};
 ghost use lib.IntN.{pos, negℤ};
-ghost use Rattle.answer.specs.Answer.{carriedBy, refusal, completion as completionOf, counted as countedOf, tallied as talliedOf, withoutRows};
+ghost use Rattle.answer.specs.Answer.{carriedBy, refusal, completion as completionOf, counted as countedOf, tallied as talliedOf, withoutRows, faultsOf, inspected as inspectedOf};
+ghost use Rattle.table.specs.Lists.{sum};
 ghost use Rattle.sha256.specs.Hash.{hashAnswer, hashDigest};
 ghost use Rattle.hmac.specs.Hmac.{macAnswer, macTag};
 ghost use Rattle.chacha20.specs.Call.{cipherAnswer, cipherText};
@@ -18,12 +19,15 @@ ghost use Rattle.scheme.specs.JointFind.{jointFind as jointFindOf};
 ghost use Rattle.scheme.specs.Count.{count as countOf};
 ghost use Rattle.scheme.specs.Compaction.{compact as compactOf};
 ghost use Rattle.scheme.specs.Order.{order as orderOf};
+ghost use Rattle.scheme.specs.Check.{check as checkOf};
 ghost use Rattle.suite.specs.Program.{program};
 ghost use Rattle.client.specs.Making.{makingAnswer, makingToken, fieldOf};
 ghost use Rattle.compact.specs.Outcome.{compactionAnswer};
-ghost use Rattle.encoding.specs.Encoding.{packed, magnitude, encoded, answering, rowsLent};
+ghost use Rattle.encoding.specs.Encoding.{packed, magnitude, encoded, answering, rowsLent, summed, numbersLent};
 use answer::Completion;
 use answer::Counted;
+use answer::Faults;
+use answer::Inspected;
 use answer::Refusal;
 use answer::Tallied;
 use compact::Compaction;
@@ -116,6 +120,29 @@ fn compacted(r: Compaction) -> i64
         Compaction::Done(t) => positive(t.anchors * 0x1_0000_0000 + t.counters),
         Compaction::Refused(z) => refused(z),
         Compaction::Damage(t) => negative(13 + 256 * (t.anchors * 0x1_0000_0000 + t.counters)),
+    }
+}
+
+// The sum of what a check counts. [check:14]
+fn total(f: Faults) -> u64
+    requires { ⌜ sum (faultsOf f) < 2 ^ 63 ⌝ }
+    ensures { λ n. ⌜ n ≡ sum (faultsOf f) ⌝ }
+{
+    f.mm + f.cc + f.vm + f.mv + f.vr + f.rv + f.excess
+}
+
+// The numbers of a check where they were asked for, and their sum; a refusal leaves what was lent. [check:14]
+fn inspected(r: Inspected, numbers: &mut [u64; 7]) -> i64
+    requires { ⌜ magnitude (summed (inspectedOf r)) < 2 ^ 63 ⌝ }
+    ensures { λ k. ⌜ k ≡ encoded (summed (inspectedOf r)) ⌝ }
+    ensures { λ _. ⌜ now (numbers .exit) ≡ numbersLent (inspectedOf r) (now (numbers .entry)) ⌝ }
+{
+    match r {
+        Inspected::Numbers(f) => {
+            *numbers = [f.mm, f.cc, f.vm, f.mv, f.vr, f.rv, f.excess];
+            positive(total(f))
+        }
+        Inspected::Refused(z) => refused(z),
     }
 }
 
@@ -324,4 +351,13 @@ pub extern "C" fn mazhkuri_order(store: &mut [u8]) -> i64
     ensures { λ _. ⌜ now (store .exit) ≡ orderOf (now (store .entry)) .store ⌝ }
 {
     counted(order::order(store))
+}
+
+// Counts rows that do not go together, and writes the seven numbers, unless it is refused. [check:1 check:14]
+#[no_mangle]
+pub extern "C" fn mazhkuri_check(store: &[u8], numbers: &mut [u64; 7]) -> i64
+    ensures { λ r. ⌜ r ≡ encoded (summed (checkOf (now (store .entry)) .answer)) ⌝ }
+    ensures { λ _. ⌜ now (numbers .exit) ≡ numbersLent (checkOf (now (store .entry)) .answer) (now (numbers .entry)) ⌝ }
+{
+    inspected(consistency::check(store), numbers)
 }
