@@ -1,7 +1,7 @@
 """The static library against the model, through the C interface: hash, F and E, on published vectors too;
 random lists of calls against the model store and the model ledger; ids with thousands of entries against the
 ledger; calls on hostile stores against the model store; rows in any place; counts with the rows looked at; tests and joint
-finds of 1 to 8 parts; stores of version 1. Expected values come from
+finds of 1 to 8 parts; checks of stores with every kind of fault; stores of version 1. Expected values come from
 tests/model, Python's hashlib and hmac, OpenSSL's libcrypto and published files, never from our own code. Exit status 1 at the
 first difference.
 
@@ -10,6 +10,7 @@ first difference.
 LIBRARY is the archive linked as a shared object (tests/run makes it). --long runs ten times as many.
 A table's rows fix its bytes [02:W2.5], so whole stores are compared byte for byte. Every count is made by both of its
 functions: the one that tells rows gives the same number, and the model's rows, or leaves what it was lent [02:W3.8].
+Every check gives the sum of its numbers and writes them, or leaves what it was lent [check:14].
 The model hashes by hashlib, so that calls promise the same bytes whichever way ours reads a message [02:W5.5].
 """
 import argparse
@@ -30,6 +31,7 @@ sys.path.insert(0, str(HERE / "model"))
 import calls  # noqa: E402
 import compare  # noqa: E402
 import examples  # noqa: E402
+import faults  # noqa: E402
 import form  # noqa: E402
 import hostile  # noqa: E402
 import looked  # noqa: E402
@@ -46,7 +48,7 @@ from primitives import Real  # noqa: E402
 from repeats import Repeats  # noqa: E402
 
 GUARD = bytes([0xA5]) * 32
-# What stands in the rows that a count is lent; no count has as many.
+# What stands in the numbers that a count or a check is lent; none has as many.
 LENT = 0xA5A5A5A5A5A5A5A5
 
 
@@ -122,11 +124,12 @@ class Library:
         "sha256": "ra", "hmac": "rra", "chacha20": "rrw", "insert_token": "rrrnnra",
         "find_token": "rrra", "count_token": "rrra", "compaction_token": "ra", "mark_token": "rrra", "part_token": "rrra",
         "make": "nnnnnw", "insert": "wrrr", "erase": "wr", "find": "rrw", "count": "rr", "count_tallied": "rra",
-        "compact": "wrr", "order": "w", "test": "rrr", "joint_find": "rrw"}
+        "compact": "wrr", "order": "w", "test": "rrr", "joint_find": "rrw", "check": "ra"}
 
     def __init__(self, path):
         self.library = ctypes.CDLL(str(path))
         self.counts = collections.Counter()  # counts by both functions: done with and without rows, or a refusal's number
+        self.checks = collections.Counter()  # checks: all 0, or not, or a refusal's number
         self.arenas = [Arena() for _ in range(7)]
         for name, kinds in self.CALLS.items():
             function = getattr(self.library, "mazhkuri_" + name)
@@ -178,10 +181,25 @@ def counted(library, store, token):
     return told, rows
 
 
+def checked(library, store):
+    """A check: its sum, and the seven numbers; where it is refused, what was lent for them is left, and there are none."""
+    lent = LENT.to_bytes(8, sys.byteorder) * 7
+    told, numbers = library.check(store, lent)
+    if told < 0:
+        same("Check, numbers of a refusal", numbers, lent)
+    library.checks[-told if told < 0 else "all 0" if told == 0 else "not all 0"] += 1
+    return told, None if told < 0 else tuple(int.from_bytes(n, sys.byteorder) for n in scheme.parts(numbers, 8))
+
+
 def returned(call, answer):
-    """What the library returns for an answer of the model; of a count with the rows looked at."""
+    """What the library returns for an answer of the model; of a count with the rows looked at, of a check the sum with the
+    numbers."""
+    if isinstance(call, calls.Check) and isinstance(answer, Done):
+        return sum(answer.values), answer.values
     told = encoded(calls.compared(call, answer))
-    return (told, answer.values[1] if isinstance(answer, Done) else None) if isinstance(call, calls.Count) else told
+    if isinstance(call, calls.Count):
+        return told, answer.values[1] if isinstance(answer, Done) else None
+    return (told, None) if isinstance(call, calls.Check) else told
 
 
 def same(what, got, wanted):
@@ -288,12 +306,14 @@ def token_made(library, kind, arguments, wanted, generator):
 
 
 def by_library(library, store, kind, token, call):
-    """What the library returns, a count's rows with it, the output after it, and the store after it."""
+    """What the library returns, a count's rows or a check's numbers with it, the output after it, and the store after it."""
     if kind in ("Find", "JointFind"):
         told, output = (library.find if kind == "Find" else library.joint_find)(store, token, call.output)
         return told, output, store
     if kind == "Count":
         return counted(library, store, token), None, store
+    if kind == "Check":
+        return checked(library, store), None, store
     if kind == "Test":
         return library.test(store, call.id, token)[0], None, store
     if kind == "Insert":
@@ -324,6 +344,8 @@ def by_model(model, store, kind, token, call):
         answer = model.erase(store, call.id)
     elif kind == "Order":
         answer = model.order(store)
+    elif kind == "Check":
+        answer = model.check(store)
     else:
         answer = model.compact(store, token, call.nonces)
     return answer, output, bytes(store)
@@ -381,7 +403,7 @@ def one_list(library, model, drawn, listed, tally, *tallies):
         for at, call in enumerate(listed):
             kind = type(call).__name__
             wanted, wanted_output = ledger.call(call)
-            takes_token = kind not in ("Erase", "Order")
+            takes_token = kind not in ("Erase", "Order", "Check")
             token = token_of(library, model, call, drawn.r) if takes_token else None
             if takes_token and token is None:
                 answer, output = model.token(call), call.output if calls.has_output(call) else None
@@ -435,7 +457,7 @@ def large(library, seed):
         listed += [joint(fields, n) for fields in ((field, other), (other, field), (other,) * 8) for n in (1, 4096)]
         listed += [calls.Count(drawn.key, *field)]
         listed += [calls.Compact(drawn.key, nonces(12 * n)) for n in (4, 5)]
-        listed += [calls.Order()]
+        listed += [calls.Order(), calls.Check()]
     one_list(library, scheme.Scheme(Other), drawn, listed, tally)
     return "%d calls, told %s" % (sum(tally.values()), numbers_told(tally))
 
@@ -468,7 +490,7 @@ class Filled:
             same("the model's count", calls.compared(call, answer), wanted)
             same(kind, told, returned(call, answer))
         else:
-            same(kind, told, encoded(wanted))
+            same(kind, told, returned(call, wanted))
         same(kind + ", output", output, wanted_output)
         same(kind + ", in form", self.store == before or form.in_form(self.store), True)
         self.repeats.call(self.ledger, call, wanted)
@@ -493,6 +515,7 @@ class Filled:
             if room >= 0:
                 self.call(calls.Find(self.key, *self.field, self.r.randbytes(room)))
         self.call(calls.Count(self.key, *self.field))
+        self.call(calls.Check())
         self.tests(ids)
 
     def tests(self, room):
@@ -615,7 +638,7 @@ class Stores(Hostile):
             return right[:at] + bytes([right[at] ^ self.r.randint(1, 255)]) + right[at + 1:]
         return self.bytes(len(right)) if kind < 0.97 else right[:-1] if kind < 0.985 else right + b"\0"
 
-    def eight(self, store):
+    def each(self, store):
         """A call of each kind, with its token."""
         r, model = self.r, scheme.Scheme(self.suite)
         field, u = r.choice(FIELDS), r.randint(0, self.p)
@@ -629,7 +652,7 @@ class Stores(Hostile):
                      calls.Find(KEY, *field, self.bytes(self.room(model, store, field))),
                      calls.Compact(KEY, self.bytes(12 * nonces + wrong)), calls.Order(),
                      calls.Test(KEY, *field, id[:15] if wrong else id),
-                     calls.JointFind(self.joint_parts(), self.bytes(r.choice((0, 15, 16, 32, 96, 200))))):
+                     calls.JointFind(self.joint_parts(), self.bytes(r.choice((0, 15, 16, 32, 96, 200)))), calls.Check()):
             token = model.token(call)
             yield type(call).__name__, token and self.other(token), call
 
@@ -668,7 +691,7 @@ def hostile_stores(library, number, seed):
         store = drawn.broken()
         if not calls.first(model.store_conditions(store)):
             forms.store(store)
-        for kind, token, call in drawn.eight(store):
+        for kind, token, call in drawn.each(store):
             if calls.has_output(call) and walks_far(model, store, token):
                 left_out += 1
                 continue
@@ -748,7 +771,7 @@ def any_place(library, number, seed):
         told = placing.readings(before, store)
         others = [calls.Insert(key, *field, p, 0, bytes(12), bytes(36), bytes(16)), calls.Erase(bytes(16)), calls.Count(key, *field),
                   calls.Find(key, *field, bytes(48)), calls.Compact(key, b""), calls.Test(key, *field, bytes(16)),
-                  calls.JointFind([calls.Part(key, *field)] * 2, bytes(48))]
+                  calls.JointFind([calls.Part(key, *field)] * 2, bytes(48)), calls.Check()]
         if placing.out_of_form(store):
             out += 1
             for call in others:
@@ -1103,12 +1126,113 @@ def version_one(library):
     for name, store in version1.stores().items():
         made = [calls.Insert(*field, store[1], 0, bytes(12), bytes(36), bytes(16)), calls.Erase(bytes(16)), calls.Find(*field, bytes(64)),
                 calls.Count(*field), calls.Compact(examples.KEY, bytes(12 * 16)), calls.Order(), calls.Test(*field, bytes(16)),
-                calls.JointFind([calls.Part(*field)] * 2, bytes(64))]
+                calls.JointFind([calls.Part(*field)] * 2, bytes(64)), calls.Check()]
         for call in made:
             answer, _, _ = operate(library, model, store, type(call).__name__, model.token(call), call)
             same("%s on %s" % (type(call).__name__, name), answer, Refused(10, ()))
             tried += 1
     return "%d calls on %d stores" % (tried, len(version1.stores()))
+
+
+# Checks
+
+
+def checks(library, number, seed):
+    """Checks of stores written by hand, with their numbers, of drawn ones with every kind of fault, and of each refusal beside what
+    is accepted; of a store in which an insert was repeated at an address in use [check:1 check:2 check:3 check:4 check:5 check:6
+    check:7 check:8 check:14]."""
+    model, met, refused = scheme.Scheme(Other), faults.Faults(), collections.Counter()
+
+    def tried(store):
+        answer, _, _ = operate(library, model, store, "Check", None, calls.Check())
+        fault = faults.fault_of(store, answer)
+        if fault:
+            raise Difference("%s: %s" % (fault, store.hex()))
+        return answer
+
+    for title, store, numbers in faults.by_hand():
+        same(title, checked(library, store), (sum(numbers), numbers))
+        tried(store)
+    joined, insert = faults.address_in_use(model)
+    same("an older C and S", checked(library, joined), (0, faults.NONE))
+    answer, _, repeated = operate(library, model, joined, "Insert", model.token(insert), insert)
+    same("an insert at an address in use", answer, Done((2,)))
+    same("two entries at one address", checked(library, repeated), (1, (1, 0, 0, 0, 0, 0, 0)))
+    drawn = faults.Stores(seed, Other)
+    for i in range(number):
+        store = drawn.draw()
+        met.store(store, tried(store))
+        for broken, wanted in faults.refusals(store) if i % 100 == 0 and not calls.first(model.state_conditions(store)) else ():
+            answer = tried(broken)
+            same("refused", answer, Refused(wanted, ()) if wanted else model.check(store))
+            refused[wanted] += 1
+    seldom = met.too_seldom(number // 500)
+    if seldom or min(refused[n] for n in (10, 11, 20)) < number // 100:
+        raise Difference("not tried often enough: %s %s" % (seldom, dict(refused)))
+    return "%d stores by hand, %d drawn, %s, refused besides %s; %s" % (
+        2 * len(faults.MADE), number, met, dict(refused), largest_checks(library, seed))
+
+
+def largest_checks(library, seed):
+    """The largest tables: rows that go together; all tags alike; a tag again at the first, the last and a middle row; a row gone from
+    one of two tables that go together. The numbers are by counting."""
+    r, tried = random.Random(seed), 0
+    tags, ids = [r.randbytes(32) for _ in range(4096)], [r.randbytes(16) for _ in range(3000)]
+    ids += r.choices(ids, k=1096)
+    whole = {"M": [b"\1" + tag + r.randbytes(28) for tag in tags], "V": [b"\1" + id + tag for id, tag in zip(ids, r.sample(tags, 4096))],
+             "C": [b"\1" + r.randbytes(60) for _ in range(4096)], "S": [b"\1" + r.randbytes(44)] * 4096,
+             "R": [b"\1" + id + r.randbytes(44) for id in ids]}
+
+    def told(rows, wanted):
+        nonlocal tried
+        tried += 1
+        store = faults.holding(rows, 15)
+        same("a check by counting", faults.by_counting(store), wanted)
+        same("a check of the largest tables", checked(library, store), (sum(wanted), wanted))
+
+    told(whole, faults.NONE)
+    told({name: [b"\1" + bytes(scheme.WIDTH[name] - 1)] * 4096 for name in whole}, (4095, 4095, 0, 0, 0, 0, 0))
+    alike = {**whole, "M": [b"\1" + tags[0] + x[33:] for x in whole["M"]], "V": [x[:17] + tags[0] for x in whole["V"]]}
+    told(alike, (4095, 0, 0, 0, 0, 0, 0))
+    for n in (2, 8, 24):
+        # Tags that begin alike, and one of V in place of another.
+        begin = {**whole, "M": [b"\1" + tags[0][:n] + x[1 + n:] for x in whole["M"]],
+                 "V": [x[:17] + tags[0][:n] + x[17 + n:] for x in whole["V"]]}
+        told(begin, faults.NONE)
+        for at in (0, 2047, 4095):
+            other = sorted(begin["M"])[at][1:32] + bytes([sorted(begin["M"])[at][32] ^ 1])
+            told({**begin, "V": begin["V"][:9] + [begin["V"][9][:17] + other] + begin["V"][10:]}, (0, 0, 1, 1, 0, 0, 0))
+    told({**whole, "V": alike["V"]}, (0, 0, 0, 4095, 0, 0, 0))
+    told({**whole, "M": alike["M"]}, (4095, 0, 4095, 0, 0, 0, 0))
+    told({**whole, "M": []}, (0, 0, 4096, 0, 0, 0, 0))
+    told({**whole, "V": []}, (0, 0, 0, 4096, 0, 4096, 4096))
+    told({**whole, "R": []}, (0, 0, 0, 0, 4096, 0, 0))
+    for name, at, number in (("M", 33, 0), ("C", 33, 1)):
+        rows = sorted(whole[name])
+        for i in (0, 1, 2047, 4094, 4095):
+            # The row at i takes the tag of its neighbour, which may leave a row of V and one of M without their like.
+            near = rows[i - 1 if i else 1]
+            changed = {**whole, name: rows[:i] + [near[:at] + rows[i][at:]] + rows[i + 1:]}
+            told(changed, (1, 0, 1, 0, 0, 0, 0) if name == "M" else (0, 1, 0, 0, 0, 0, 0))
+            last = near[:at - 1] + bytes([near[at - 1] ^ 1]) + rows[i][at:]
+            told({**whole, name: rows[:i] + [last] + rows[i + 1:]}, (0, 0, 1, 1, 0, 0, 0) if name == "M" else faults.NONE)
+    once = {id for id, n in collections.Counter(ids).items() if n == 1}
+    for name in "MVR":
+        rows = sorted(whole[name])
+        for i in (0, 2047, 4095):
+            alone = rows[i][1:17] in once
+            gone = {**whole, name: rows[:i] + rows[i + 1:]}
+            told(gone, {"M": (0, 0, 1, 0, 0, 0, 0), "V": (0, 0, 0, 1, 0, int(alone), 1), "R": (0, 0, 0, 0, int(alone), 0, 0)}[name])
+    return "%d of the largest tables" % tried
+
+
+def checks_made(library):
+    """How often a check was done and refused, in all parts."""
+    made = library.checks
+    seldom = {told: made[told] for told in ("all 0", "not all 0", 10, 11, 20) if made[told] < 50}
+    if seldom:
+        raise Difference("not checked often enough: %s" % seldom)
+    return ", ".join("%s %d" % (told, n) for told, n in sorted(made.items(), key=str))
 
 
 def main():
@@ -1135,13 +1259,15 @@ def main():
              ("searches", lambda: searches(library, many * 400, given.seed)),
              ("rows that a count looks at", lambda: rows_looked_at(library, many * 2000, given.seed)),
              ("joint finds", lambda: joint_finds(library, many * given.lists // 20, given.seed)),
+             ("checks", lambda: checks(library, many * 3 * given.lists, given.seed)),
              ("stores of version 1", lambda: version_one(library)),
              ("rows in any place", lambda: any_place(library, many * given.lists // 4, given.seed)),
              ("two histories", lambda: two_histories(library, many * given.lists // 4, given.seed)),
              ("lists", lambda: lists(library, many * given.lists, given.seed)),
              ("hostile stores", lambda: hostile_stores(library, many * given.hostile, given.seed)),
              ("counts past the rows", lambda: long_walks(library, many * 40, given.seed)),
-             ("counts, by both functions", lambda: counts_made(library))]
+             ("counts, by both functions", lambda: counts_made(library)),
+             ("checks, in all parts", lambda: checks_made(library))]
     for name, part in parts:
         began = time.time()
         try:

@@ -1,6 +1,6 @@
 /* The worked list of calls of document 01 (G1 to G8) through the C interface, then a list whose ids have
- * several entries, one with rows out of form, the rows that a count looks at, and tests and joint finds
- * (document 02, requests 1 to 4), with every answer and find checked. Each argument has a heap block of
+ * several entries, one with rows out of form, the rows that a count looks at, tests and joint finds
+ * (document 02, requests 1 to 4), and checks, with every answer and find looked at. Each argument has a heap block of
  * exactly its size, so that valgrind sees a read or write past it; tests/run runs it so. */
 #include "../include/mazhkuri.h"
 
@@ -185,6 +185,21 @@ static void compact(const char *what, size_t nonces, int64_t wanted) {
   free(token), free(bytes);
 }
 
+static int checks, refused_checks;
+
+/* A check: the seven numbers, a digit each, and their sum; a refused one leaves what it was lent [check:14]. */
+static void check(const char *what, const char *digits, int64_t refused) {
+  uint8_t *before = block(store, 0, store_length);
+  uint64_t *numbers = (uint64_t *)block(NULL, 0xa5, 7 * sizeof LENT);
+  int64_t sum = 0;
+  for (size_t i = 0; !refused && i < 7; i++) sum += digits[i] - '0';
+  expect(what, mazhkuri_check(store, store_length, numbers), refused ? refused : sum);
+  for (size_t i = 0; i < 7; i++) expect(what, (int64_t)numbers[i], refused ? (int64_t)LENT : digits[i] - '0');
+  expect("a check leaves the store", memcmp(store, before, store_length), 0);
+  checks++, refused_checks += refused < 0;
+  free(before), free(numbers);
+}
+
 static void order(const char *what, int64_t wanted) {
   expect(what, mazhkuri_order(store, store_length), wanted);
 }
@@ -223,6 +238,10 @@ static void empty(void) {
   expect("count in nothing", mazhkuri_count_tallied(none, 0, out, 32, rows), -10);
   expect("its rows", *rows == LENT, 1);
   free(rows);
+  uint64_t *numbers = (uint64_t *)block(NULL, 0xa5, 7 * sizeof LENT);
+  expect("check of nothing", mazhkuri_check(none, 0, numbers), -10);
+  expect("its numbers", numbers[0] == LENT && numbers[6] == LENT, 1);
+  free(numbers);
   expect("compaction of nothing", mazhkuri_compact(none, 0, out, 0, out + 1, 0), -6);
   free(none), free(out), free(token);
 }
@@ -257,6 +276,7 @@ static void repeated(void) {
   erase("R7", "A", 2);
   find("R7", HUE, "C");
   count("R7", HUE, 10);
+  check("R7", "0000000", 0);
   free(store);
 }
 
@@ -272,6 +292,7 @@ static void cured(const char *what, const uint8_t *kept, int64_t rows) {
   expect(what, mazhkuri_compact(store, store_length, some, 0, some, 32), -20);
   expect(what, mazhkuri_test(store, store_length, some, 16, some, 32), -20);
   expect(what, mazhkuri_joint_find(store, store_length, some, 128, output, 16), -20);
+  check(what, "", -20);
   expect("its refusal", mazhkuri_refusal(-20), 20);
   expect("a refusal leaves the store", memcmp(store, before, store_length), 0);
   expect("a refusal leaves the output", output[0] == 0xee && output[15] == 0xee, 1);
@@ -423,6 +444,77 @@ static void jointly(void) {
   free(store);
 }
 
+/* A row of a table of six, in form: the last used one comes again, goes, or has another last byte. */
+static uint8_t *last_row(int table, size_t *width) {
+  static const size_t widths[5] = {61, 49, 61, 45, 61};
+  uint8_t *at = store + HEADER;
+  for (int t = 0; t < table; t++) at += 6 * widths[t];
+  *width = widths[table];
+  while (at[*width] == 1) at += *width;
+  return at;
+}
+
+static void again(int table) {
+  size_t w;
+  uint8_t *row = last_row(table, &w);
+  memcpy(row + w, row, w);
+}
+
+static void gone(int table) {
+  size_t w;
+  uint8_t *row = last_row(table, &w);
+  memset(row, 0, w);
+}
+
+static void changed(int table, size_t byte) {
+  size_t w;
+  uint8_t *row = last_row(table, &w);
+  row[byte]++; /* no byte changed here is 255, and its row stays the last */
+  expect("a byte that grew", row[byte] != 0, 1);
+}
+
+/* Stores with each kind of fault, and one in which an insert was repeated at an address in use
+ * [check:1 check:2 check:3 check:4 check:5 check:6 check:7 check:8]. */
+static void seen(void) {
+  enum { M, V, C, S, R };
+  make(1, 6, 6, 6, 6);
+  check("a fresh store", "0000000", 0);
+  insert("one id", HUE, 0, "A", 1);
+  uint8_t *older = block(store, 0, store_length);
+  insert("another", HUE, 0, "B", 2);
+  check("two entries", "0000000", 0);
+  uint8_t *kept = block(store, 0, store_length);
+  static const struct {
+    const char *what, *numbers;
+    int again, gone, changed;
+    size_t byte;
+  } made[] = {{"a row of M twice", "1000000", M, -1, -1, 0},      {"a row of C twice", "0100000", C, -1, -1, 0},
+              {"a row of V twice", "0000000", V, -1, -1, 0},      {"a row of S twice", "0000000", S, -1, -1, 0},
+              {"a row of R twice", "0000001", R, -1, -1, 0},      {"a row of M gone", "0010000", -1, M, -1, 0},
+              {"a row of V gone", "0001011", -1, V, -1, 0},       {"a row of C gone", "0000000", -1, C, -1, 0},
+              {"a row of R gone", "0000100", -1, R, -1, 0},       {"another tag in V", "0011000", -1, -1, V, 48},
+              {"another id in R", "0000110", -1, -1, R, 16},      {"another id in V", "0000110", -1, -1, V, 16},
+              {"another rest in M", "0000000", -1, -1, M, 60},    {"one twice and one gone", "1000100", M, R, -1, 0}};
+  for (size_t i = 0; i < sizeof made / sizeof made[0]; i++) {
+    memcpy(store, kept, store_length);
+    if (made[i].again >= 0) again(made[i].again);
+    if (made[i].gone >= 0) gone(made[i].gone);
+    if (made[i].changed >= 0) changed(made[i].changed, made[i].byte);
+    check(made[i].what, made[i].numbers, 0);
+  }
+  memcpy(store, kept, store_length);
+  /* C and S of the older store: the next insert goes to the address of B */
+  memcpy(store + HEADER + 6 * 110, older + HEADER + 6 * 110, 6 * (61 + 45));
+  check("tables of two days", "0000000", 0);
+  insert("at an address in use", HUE, 0, "C", 2);
+  check("two entries at one address", "1000000", 0);
+  store[HEADER + 61] = 2;
+  check("a mark", "", -11);
+  store[0] = 1;
+  check("version 1", "", -10);
+  free(older), free(kept), free(store);
+}
+
 int main(void) {
   key = block("0123456789abcdef0123456789abcdef", 0, 32);
   make(1, 4, 4, 4, 4);
@@ -453,6 +545,7 @@ int main(void) {
   find("G8", SIZE, "G");
   count("G8", HUE, 6);
   count("G8", SIZE, 1);
+  check("G8", "0000000", 0);
   int64_t damage = -(13 + 256 * (3 * 4294967296 + 5));
   expect("13's anchors", mazhkuri_anchors(damage), 3);
   expect("13's counters", mazhkuri_counters(damage), 5);
@@ -464,11 +557,13 @@ int main(void) {
   rows();
   tallied();
   jointly();
+  seen();
   free(key);
   expect("counts made", counts >= 40 && refused_counts >= 24, 1);
   expect("tests and joint finds made", tests_made >= 6 && joint_finds >= 14, 1);
+  expect("checks made", checks >= 40 && refused_checks >= 20, 1);
   if (!failed)
-    printf("G1 to G8, ids with several entries, rows in byte order, %d counts, %d of them refused, %d tests and %d joint finds, over "
-           "the archive: as the papers say\n", counts, refused_counts, tests_made, joint_finds);
+    printf("G1 to G8, ids with several entries, rows in byte order, %d counts, %d of them refused, %d tests, %d joint finds and %d checks, "
+           "%d of them refused, over the archive: as the papers say\n", counts, refused_counts, tests_made, joint_finds, checks, refused_checks);
   return failed;
 }

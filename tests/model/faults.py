@@ -163,6 +163,7 @@ KINDS = tuple("number %d alone" % n for n in range(1, 8)) + tuple("number %d amo
     "all 0, with rows", "all 0, ids with several entries", "all 0, V's tags not in order", "no used row", "every tag alike", "every id alike",
     "M full", "V full", "C full", "R full", "M empty alone", "V empty alone", "R empty alone",
     "two tags of M apart in the last byte alone", "two tags of C apart in the last byte alone", "two tags of M apart in the first byte alone",
+    "three tags of M begin with the same two bytes", "a lacking tag of V begins with the same two bytes as one of M",
     "a tag of V apart from one of M in the last byte alone", "an id of R apart from one of V in the last byte alone",
     "a tag of M three times", "equal rows of M", "equal rows of C", "a tag of M twice in rows that differ", "a tag of C twice in rows that differ",
     "a repeat in the first two rows of M", "a repeat in the last two rows of M", "a repeat in the first two rows of C",
@@ -209,6 +210,8 @@ def kinds(store, answer):
         "two tags of M apart in the last byte alone": near(entries, entries, 31),
         "two tags of C apart in the last byte alone": near(counters, counters, 31),
         "two tags of M apart in the first byte alone": near(entries, entries, 0),
+        "three tags of M begin with the same two bytes": any(n > 2 for n in Counter(x[:2] for x in set(entries)).values()),
+        "a lacking tag of V begins with the same two bytes as one of M": {x[:2] for x in lack_tags} & {x[:2] for x in entries},
         "a tag of V apart from one of M in the last byte alone": near(lack_tags, entries, 31),
         "an id of R apart from one of V in the last byte alone": near(lack_ids, ids, 15),
         "a tag of M three times": any(n > 2 for n in Counter(entries).values()),
@@ -283,7 +286,7 @@ class Stores:
         rows = {name: list(of) for name, of in rows.items()}
         for _ in range(r.choice((0, 1, 1, 1, 1, 2, 2, 3))):
             r.choice((self.twice, self.tag_again, self.gone, self.gone, self.changed, self.changed, self.near, self.one_end, self.one_end,
-                      self.new, self.new, self.alike, self.emptied, self.many, self.older))(rows, before)
+                      self.new, self.new, self.alike, self.alike, self.emptied, self.many, self.older))(rows, before)
         spare = [r.choice((0, 0, 1, 4)) for _ in range(4)]
         store = bytearray(holding(rows, p, spare))
         if r.random() < 0.06:
@@ -359,15 +362,15 @@ class Stores:
         rows[name].extend([b"\1" + made] * r.choice((1, 1, 2)))
 
     def alike(self, rows, before):
-        """Every tag of M and V is one, or every id."""
-        if self.r.random() < 0.5:
-            tag = self.r.randbytes(32)
-            rows["M"][:] = [b"\1" + tag + x[33:] for x in rows["M"]]
-            rows["V"][:] = [x[:17] + tag for x in rows["V"]]
+        """Every tag of M and V is one, or every id; or they begin alike."""
+        n, start = self.r.choice((2, 2, 8, 31, 32)), self.r.choice((bytes(32), b"\xff" * 32, self.r.randbytes(32)))
+        if self.r.random() < 0.7:
+            rows["M"][:] = [b"\1" + start[:n] + x[1 + n:] for x in rows["M"]]
+            rows["V"][:] = [x[:17] + start[:n] + x[17 + n:] for x in rows["V"]]
         else:
-            id = self.r.randbytes(16)
+            n = min(n, 16)
             for name in "VR":
-                rows[name][:] = [b"\1" + id + x[17:] for x in rows[name]]
+                rows[name][:] = [b"\1" + start[:n] + x[1 + n:] for x in rows[name]]
 
     def emptied(self, rows, before):
         rows[self.r.choice("MVCR")].clear()
