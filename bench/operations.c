@@ -182,11 +182,13 @@ static void bench_form(const char *name) {
   line(name, ours, theirs, 0);
 }
 
-/* A store of 4,096 rows with a row in all of them: as many inserts of one id, of so many fields. */
-static void fill_all(unsigned fields) {
+/* A store of 4,096 rows a table, so many of them used in each: as many inserts of one id, of so many fields. */
+static void fill_rows(unsigned rows, unsigned fields) {
   fresh(0, 4096);
-  for (unsigned i = 0; i < 4096; i++) add(i % fields, 0, 0, 1);
+  for (unsigned i = 0; i < rows; i++) add(i % fields, 0, 0, 1);
 }
+
+static void fill_all(unsigned fields) { fill_rows(4096, fields); }
 
 /* The rows of each table in any order. */
 static void shuffle(uint8_t *store) {
@@ -227,6 +229,52 @@ static void bench_forms(void) {
   bench_order("order of a full store in form", 5 * 4096);
   shuffle(base);
   bench_order("order of a full store in random order", 5 * 4096);
+}
+
+/* A check; and the check of form alone, which it begins with, by an insert with a token of another p. */
+static void bench_check(const char *name, int64_t wanted) {
+  uint64_t one[7] = {0}, two[7] = {0};
+  uint8_t token[TOKEN], id[16] = {1}, nonces[36] = {1};
+  double ours = 1e18, theirs = 1e18, form = 1e18;
+  int64_t a = 0, b = 0, c = 0;
+  insert_token(7, base[1] + 1u, 0, token);
+  for (int r = 0; r < 4 * rounds; r++) {
+    MEASURE(ours, a = mazhkuri_check(base, size, one));
+    MEASURE(theirs, b = reference_check(base, size, two));
+    MEASURE(form, c = mazhkuri_insert(base, size, id, 16, nonces, 36, token, TOKEN));
+    check(a == b && a == wanted && c == -12 && memcmp(one, two, sizeof one) == 0, name);
+  }
+  line(name, ours, theirs, 0);
+  printf("%-48s %10.1f us; the whole check is %.2f times as long\n", "  the check of form alone", form, ours / form);
+  fflush(stdout);
+}
+
+/* Every used row of M, V and C gets a tag that begins with the same bytes, so many of them, or of V and R an id; in form again. */
+static void alike(int ids, size_t n) {
+  static const size_t width[5] = {61, 49, 61, 45, 61}, tag[5] = {1, 17, 1, 0, 0}, id[5] = {0, 1, 0, 0, 1};
+  uint8_t *at = base + 10;
+  for (int t = 0; t < 5; t++)
+    for (size_t i = 0, from = (ids ? id : tag)[t]; i < 4096; i++, at += width[t])
+      if (from && at[0]) memset(at + from, 7, n);
+  check(mazhkuri_order(base, size) > 0, "set up");
+}
+
+/* Of a full store, of one half full, and of full ones whose tags and ids differ late or not at all. */
+static void bench_checks(void) {
+  fresh(0, 4096);
+  bench_check("check, all rows free", 0);
+  fill_rows(2048, 64);
+  bench_check("check, all tables half full", 0);
+  fill_all(64);
+  bench_check("check, all rows used", 0);
+  alike(0, 2);
+  bench_check("check, all used, tags alike in 2 bytes", 0);
+  alike(0, 24);
+  bench_check("check, all used, tags alike in 24 bytes", 0);
+  alike(0, 32);
+  bench_check("check, all used, tags alike", 2 * 4095);
+  alike(1, 16);
+  bench_check("check, all used, tags and ids alike", 2 * 4095);
 }
 
 static void bench_compact(const char *name, double floor) {
@@ -430,6 +478,7 @@ int main(int count, char **arguments) {
   bench_token();
   bench_prepared();
   bench_forms();
+  bench_checks();
   for (int full = 0; full < 3; full++) {
     static const char *title[3][2] = {{"insert of 1, empty", "insert of 64, empty"},
                                       {"insert of 1, half full", "insert of 64, half full"},

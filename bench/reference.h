@@ -18,4 +18,5 @@ int64_t reference_compact(uint8_t *store, size_t n, const uint8_t *nonces, size_
 int64_t reference_order(uint8_t *store, size_t n);
 int64_t reference_test(uint8_t *store, size_t n, const uint8_t id[16], const uint8_t token[32]);
 int64_t reference_joint_find(uint8_t *store, size_t n, const uint8_t *parts, size_t part_bytes, uint8_t *output, size_t room);
+int64_t reference_check(uint8_t *store, size_t n, uint64_t numbers[7]);
 #endif
