@@ -1,12 +1,12 @@
 """The records and lines of the program crates/scenario: document 01's worked list G1 to G8, then
 every refusal at both sides of its limit, damage, forged and hostile stores, ids with several entries, tables in form and
-out of it, the rows that a count looks at, tests and joint finds, stores of version 1. The lines come from the model of this
+out of it, the rows that a count looks at, tests and joint finds, checks, stores of version 1. The lines come from the model of this
 folder, which was written from the papers, and never from our own program.
 
   scenario.py            compares crates/scenario/stdin and stdout with what is derived here
   scenario.py --write    writes them
 
-After each call the line has the start of the store's hash, so the bytes of every row are
+After every seventh call comes a check [check:1 check:10]. After each call the line has the start of the store's hash, so the bytes of every row are
 compared too: a table's rows fix them [02:W2.5].
 
 A record is its kind, one byte, then numbers of 4 bytes and byte strings, as crates/records reads them, mostly in the order of
@@ -19,20 +19,23 @@ the call's arguments. The records of tests and joint finds:
   BY_PARTS           the parts, up to 1,200 bytes, and the output
   MAKE_MARK_TOKEN    key, name, value
   MAKE_PART_TOKEN    key, name, value
-A test's line is that of an erase, a joint find's that of a find. An insert's nonces are up to 1,600 bytes.
+A test's line is that of an erase, a joint find's that of a find. An insert's nonces are up to 1,600 bytes. An order and a check
+take nothing but the store; the line of a check has its seven numbers.
 """
 import hashlib
 import pathlib
 import random
 import sys
 
+import compare
 import examples
+import faults
 import form
 import looked
 import placing
 import scheme
 import version1
-from calls import Compact, Count, Done, Erase, Find, Insert, JointFind, Order, Part, Refused, Test, compared, nonce_bytes
+from calls import Check, Compact, Count, Done, Erase, Find, Insert, JointFind, Order, Part, Refused, Test, compared, nonce_bytes
 from examples import GREATEST, HUE, KEY, NONCE, SIZE, id_of
 from primitives import Real
 
@@ -44,8 +47,9 @@ PROGRAM = TESTS.parent / "crates" / "scenario"
 (TITLE, MAKE, SET, RESIZE, INSERT, ERASE, FIND, COUNT, COMPACT, BY_INSERT_TOKEN, BY_FIND_TOKEN,
  BY_COUNT_TOKEN, BY_COMPACT_TOKEN, MAKE_INSERT_TOKEN, MAKE_FIND_TOKEN, MAKE_COUNT_TOKEN,
  MAKE_COMPACT_TOKEN, TAGS, HASH, ORDER, TEST, JOINT_FIND, BY_MARK_TOKEN, BY_PARTS, MAKE_MARK_TOKEN,
- MAKE_PART_TOKEN) = range(26)
+ MAKE_PART_TOKEN, CHECK) = range(27)
 LENT = 165
+EACH = 7
 GREATEST_STORE = scheme.length_of(4096, 4096, 4096, 4096)
 ROOM = GREATEST_STORE + 16
 
@@ -78,6 +82,7 @@ class Scenario:
         self.buffer = bytearray(ROOM)
         self.length = 0
         self.records, self.lines = [], []
+        self.calls, self.checks = 0, 0
 
     @property
     def store(self):
@@ -99,6 +104,9 @@ class Scenario:
         digest = hashlib.sha256(store).hexdigest()[:8] if len(store) <= 65536 else "long"
         tail = "" if output is None else "; output " + bytes(output).hex()
         self.tell("%s; store %s%s" % (shown(answer), digest, tail))
+        self.calls += 1
+        if self.calls % EACH == 0:
+            self.check("check after call %d" % self.calls)
         return answer
 
     def change(self, act):
@@ -135,8 +143,8 @@ class Scenario:
             self.record(FIND, call.key, call.name, call.value, call.output)
         elif isinstance(call, Count):
             self.record(COUNT, call.key, call.name, call.value)
-        elif isinstance(call, Order):
-            self.record(ORDER)
+        elif isinstance(call, (Order, Check)):
+            self.record(ORDER if isinstance(call, Order) else CHECK)
         elif isinstance(call, Test):
             self.record(TEST, *call)
         elif isinstance(call, JointFind):
@@ -177,6 +185,10 @@ class Scenario:
         self.record(BY_PARTS, parts, output)
         output = bytearray(output)
         return self.told(self.model.joint_find(self.store, parts, output), output)
+
+    def check(self, title):
+        self.checks += 1
+        return self.call(title, Check())
 
     def compact(self, title, token, nonces):
         self.title(title)
@@ -299,6 +311,7 @@ def listed(s, title, p, sizes, calls):
     for name, call, wanted in calls:
         answer = s.call("%s %s" % (name, type(call).__name__.lower()), call)
         assert compared(call, answer) == wanted[0], name
+    assert s.check("%s check" % name) == Done(faults.NONE), name
 
 
 def worked(s):
@@ -416,7 +429,8 @@ def call_inputs(s):
 
 
 def each(s, title):
-    """The eight operations with right arguments; the last puts the store in form [02:W2.6]."""
+    """The nine operations with right arguments; the last puts the store in form [02:W2.6]."""
+    s.check(title + ", check")
     s.insert(title + ", insert", s.insert_token(), id_of("A"), bytes(36))
     s.call(title + ", erase", Erase(id_of("Z")))
     s.find(title + ", find", s.model.find_token(KEY, *HUE), bytes([LENT]) * 40)
@@ -642,7 +656,7 @@ def forms(s):
         return bytes(at) + bytes([byte]) + bytes(w - 1 - at)
 
     def tried(title, name, rows, before=None):
-        """The eight calls on a store with these rows of a table."""
+        """The nine calls on a store with these rows of a table."""
         s.make("a store", 1, 4, 4, 4, 4)
         s.table_is(name, rows)
         met.store(bytes(s.store))
@@ -898,6 +912,51 @@ def joint_finds(s):
         s.test("after it", rl, a)
 
 
+def checks(s):
+    """Checks of stores with each kind of fault, written by hand with their numbers, of drawn ones and of lists of calls; of a store in
+    which an insert was repeated at an address in use; every refusal [check:1 check:2 check:3 check:4 check:5 check:6 check:7 check:8
+    check:10]."""
+    met = faults.Faults()
+
+    def tried(title, store):
+        s.make("a store", 1, 1, 1, 1, 1)
+        s.resize(len(store))
+        s.becomes(store)
+        answer = s.check(title)
+        assert s.store == store and not faults.fault_of(store, answer), title
+        met.store(store, answer)
+        return answer
+
+    for title, store, numbers in faults.by_hand():
+        assert tried(title, store) == Done(numbers), title
+    joined, call = faults.address_in_use(s.model)
+    assert tried("an older C and S", joined) == Done(faults.NONE)
+    assert s.call("an insert at an address in use", call) == Done((2,))
+    assert s.check("two entries at one address") == Done((1, 0, 0, 0, 0, 0, 0))
+    s.call("a find of it", Find(faults.KEY, *faults.FIELDS[0], bytes(48)))
+    s.call("an erase of one of them", Erase(id_of("C")))
+    assert s.check("after it") == Done((0, 0, 1, 0, 0, 0, 0))
+    for number, store in enumerate((joined, faults.holding(dict.fromkeys(faults.ORDER, [])))):
+        for at, (broken, wanted) in enumerate(faults.refusals(store)):
+            assert tried("refused or not, %d %d" % (number, at), broken) == (Refused(wanted, ()) if wanted else Done(faults.NONE))
+    drawn = faults.Stores(5, Real)
+    for turn in range(120):
+        tried("drawn %d" % turn, drawn.draw())
+    assert all(met.tally["number %d alone" % (n + 1)] for n in range(7)) and all(met.tally["refused by %d" % n] for n in (10, 11, 20))
+    for turn in range(6):
+        lists = compare.Lists(turn, 40)
+        list_of_calls(s, "list %d" % turn, lists, lists.draw())
+
+
+def list_of_calls(s, title, lists, drawn):
+    """A list of calls with its checks, as far as the program has room for their arguments."""
+    s.make(title, lists.p, *lists.sizes)
+    for at, call in enumerate(drawn):
+        if len(getattr(call, "output", b"")) <= 1100:
+            answer = s.call("%s, call %d" % (title, at), call)
+            assert not isinstance(call, Check) or answer == Done(faults.NONE)
+
+
 def hostile(s):
     """Any bytes behind a good header and good marks; mostly put in form, so that more than 20 is told."""
     pick, told = random.Random(1), set()
@@ -933,6 +992,7 @@ def hostile(s):
                                       bytes(pick.choice([0, 16, 64]))),
                  lambda: s.compact(title + ", compaction", s.model.compact_token(KEY), pick.randbytes(48)),
                  lambda: s.call(title + ", order", Order())]
+        s.check(title + ", check")
         pick.shuffle(order)
         for act in order:
             answer = act()
@@ -943,7 +1003,7 @@ def hostile(s):
 def main():
     s = Scenario()
     for part in (worked, token_makings, makings, call_inputs, states, damage, limits, compactions, rows, repeats, forms,
-                 any_place, looked_at, joint_finds, version_one, hostile):
+                 any_place, looked_at, joint_finds, checks, version_one, hostile):
         before = len(s.records)
         part(s)
         print("%s: %d records" % (part.__name__.replace("_", " "), len(s.records) - before), flush=True)

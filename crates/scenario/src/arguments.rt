@@ -170,6 +170,15 @@ pub fn order(store: &mut [u8])
     write::end(store);
 }
 
+// Rows that do not go together. [check:1]
+pub fn check(store: &[u8])
+    ensures { λ r. ⌜ r ≡ tt ⌝ }
+{
+    let r = calls::check(store);
+    write::inspected(r);
+    write::end(store);
+}
+
 pub fn insert_by(store: &mut [u8])
     ensures { λ _. ⌜ InsertedBy (now (store .entry)) (now (store .exit)) ⌝ }
 {

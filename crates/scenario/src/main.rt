@@ -85,6 +85,7 @@ fn look(kind: u64, store: &[u8])
         21 => arguments::joint_find(store),
         22 => arguments::test_by(store),
         23 => arguments::joint_find_by(store),
+        26 => arguments::check(store),
         _ => (),
     }
 }
@@ -132,7 +133,7 @@ fn record(room: &mut [u8], n: usize) -> usize
             n
         }
         3 => resize(room.len()),
-        4..=12 | 19..=23 => {
+        4..=12 | 19..=23 | 26 => {
             call(kind, &mut room[..n]);
             n
         }

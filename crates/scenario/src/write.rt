@@ -1,6 +1,8 @@
 // The lines: an answer by the paper's number and values, bytes in hexadecimal.
 use answer::Completion;
 use answer::Counted;
+use answer::Faults;
+use answer::Inspected;
 use answer::Refusal;
 use answer::Tallied;
 use compact::Compaction;
@@ -68,6 +70,31 @@ pub fn tallied(r: Tallied)
             count(rows);
         }
         Tallied::Refused(why) => refusal(why),
+    }
+}
+
+fn faults(f: Faults)
+    ensures { λ r. ⌜ r ≡ tt ⌝ }
+{
+    count(f.mm);
+    count(f.cc);
+    count(f.vm);
+    count(f.mv);
+    count(f.vr);
+    count(f.rv);
+    count(f.excess);
+}
+
+// The seven numbers of a check. [check:2 check:3 check:4 check:5 check:6 check:7 check:8]
+pub fn inspected(r: Inspected)
+    ensures { λ r. ⌜ r ≡ tt ⌝ }
+{
+    match r {
+        Inspected::Numbers(f) => {
+            text(b": done");
+            faults(f);
+        }
+        Inspected::Refused(why) => refusal(why),
     }
 }
 

@@ -8,7 +8,7 @@ use Rattle.scenario.proofs.record.Tie as tie
 
 slice-aggregate-call : tie.Need-slice-aggregate-call
 slice-aggregate-call c =
-    let s = c .before .before .before .before .before .before in
+    let s = c .before .before .before .before in
     sym (length-take-le (s .args .n) (s .args .room .now) (s .pre))
 
 returns : tie.Need-returns
@@ -21,13 +21,13 @@ returns-3 : tie.Need-returns-3
 returns-3 c = let e = c .resize .ensures in (e .0, resized (e .1))
 
 returns-4 : tie.Need-returns-4
-returns-4 c = (search needs, called (c .before .before .call .ensures))
+returns-4 c = (search needs, told)
 
 returns-5 : tie.Need-returns-5
-returns-5 c = (search needs, told)
+returns-5 c = (search needs, called (c .before .before .call .ensures))
 
 pub record-spec : {M : Type 1} → statement M
 record-spec =
     tie.close
-    (tie.spec (λ c κs. search needs) (λ c κs. search needs) (λ c κs. search needs) (λ c κs. search needs) (λ c. search needs) slice-aggregate-call (λ c κs. search needs)
-    (λ c κs. search needs) (λ c. search needs) returns (λ c. search needs) returns-2 returns-3 (λ c. search needs) returns-4 returns-5)
+    (tie.spec (λ c κs. search needs) (λ c κs. search needs) (λ c κs. search needs) (λ c κs. search needs) (λ c κs. search needs) (λ c. search needs) slice-aggregate-call
+    (λ c κs. search needs) (λ c. search needs) returns (λ c. search needs) returns-2 returns-3 returns-4 (λ c. search needs) returns-5)
