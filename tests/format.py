@@ -73,6 +73,8 @@ def by_library(library, lines, inserted, compacted):
          (2**32 + 1, compacted))
     # A table of one row is in form whatever the row, and an order keeps it [02:W2.6 W2.8].
     same("order", library.order(inserted), (5, inserted))
+    # Its rows go together [check:10 check:14].
+    same("check", archive.checked(library, inserted), (0, (0,) * 7))
     same("order after the compaction", library.order(compacted), (4, compacted))
     for name, table in scheme.tables(inserted).items():
         left = bytearray(compacted if name == "S" else store_without(inserted, table))
