@@ -1,4 +1,4 @@
--- What lines ask for, read off: a count's last word, a find's fields, a new store's sizes.
+-- What lines ask for, read off: a count's last word, a find's fields, a new store's sizes, a check.
 use Prim.Native.Nat.{ℕ, zero, suc}
 use mathlib.Core.Path.{_≡_, refl}
 use mathlib.Core.Bool.{true, false}
@@ -6,10 +6,10 @@ use mathlib.Core.List.{List, [], _∷_, _++_}
 use Rattle.text.specs.Ascii.{ascii}
 use Rattle.words.specs.Decimal.{further, decimalOf}
 use Rattle.words.specs.Line.{wordLength, fromWord, wordAt, wordCount}
-use Rattle.words.specs.declared.Command.the-variants.{New as New₀, Find as Find₀, Count as Count₀}
+use Rattle.words.specs.declared.Command.the-variants.{New as New₀, Find as Find₀, Count as Count₀, Check as Check₀}
 use Rattle.request.specs.Request.{newOf, findOf, countOf, requestOf}
 use Rattle.request.specs.declared.Request.{Request}
-use Rattle.request.specs.declared.Request.the-variants.{Misused, New, Find, FindBy, Count, CountBy}
+use Rattle.request.specs.declared.Request.the-variants.{Misused, New, Find, FindBy, Count, CountBy, Check}
 
 -- each word ends with a 0
 lineOf : List (List ℕ) → List ℕ
@@ -84,3 +84,12 @@ sizes = refl
 no-labels : requestOf (lineOf (ascii "new" ∷ ascii "s" ∷ ascii "0" ∷ ascii "1" ∷ ascii "2" ∷ ascii "3" ∷ [])) ≡ Misused New₀
 unfolding wordLength fromWord wordAt wordCount newOf requestOf lineOf
 no-labels = refl
+
+-- a store and nothing else [check:12]
+check : requestOf (lineOf (ascii "check" ∷ ascii "s" ∷ [])) ≡ Check
+unfolding wordLength fromWord wordAt wordCount requestOf lineOf
+check = refl
+
+check-with-key : requestOf (lineOf (ascii "check" ∷ ascii "s" ∷ ascii "k" ∷ [])) ≡ Misused Check₀
+unfolding wordLength fromWord wordAt wordCount requestOf lineOf
+check-with-key = refl

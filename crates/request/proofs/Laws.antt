@@ -22,7 +22,7 @@ use Rattle.words.specs.Decimal.{decimalOf}
 use Rattle.words.specs.declared.Parsed.{Parsed}
 use Rattle.words.specs.declared.Parsed.the-variants.{Number, Bad}
 use Rattle.words.specs.declared.Command.{Command}
-use Rattle.words.specs.declared.Command.the-variants.{New as New₀, Key as Key₀, Insert as Insert₀, Find as Find₀, Count as Count₀, Erase as Erase₀, Compact as Compact₀, Order as Order₀, Token as Token₀, Show as Show₀, Help as Help₀, Unknown}
+use Rattle.words.specs.declared.Command.the-variants.{New as New₀, Key as Key₀, Insert as Insert₀, Find as Find₀, Count as Count₀, Erase as Erase₀, Compact as Compact₀, Order as Order₀, Token as Token₀, Show as Show₀, Check as Check₀, Help as Help₀, Unknown}
 use Rattle.request.specs.Ids.{idOf, idsOf}
 use Rattle.request.specs.Token.{tokenOf}
 use Rattle.request.specs.Request.{withNumber, withIds, idsFrom, firstBad, idsGiven, newOf, insertOf, insertByOf, findOf, countOf, eraseOf, insertTokenOf, makingBy, makingOf, pickRequest, hasToken, requestBy, requestWith, requestOf, Bounded}
@@ -121,6 +121,7 @@ bounded-making Compact₀ n line = bounded-pick (eqb n 3) CompactionToken (Misus
 bounded-making Order₀ n line = tt
 bounded-making Token₀ n line = tt
 bounded-making Show₀ n line = tt
+bounded-making Check₀ n line = tt
 bounded-making Help₀ n line = tt
 bounded-making Unknown n line = tt
 
@@ -158,6 +159,7 @@ bounded-by Compact₀ b line = bounded-pick b CompactBy Compact tt tt
 bounded-by Order₀ b line = tt
 bounded-by Token₀ b line = bounded-making (commandOf (wordAt 1 line)) (wordCount line) line
 bounded-by Show₀ b line = tt
+bounded-by Check₀ b line = tt
 bounded-by Help₀ b line = tt
 bounded-by Unknown b line = tt
 

@@ -12,9 +12,9 @@ use Rattle.words.specs.Line.{wordAt, wordCount}
 use Rattle.words.specs.declared.Parsed.{Parsed}
 use Rattle.words.specs.declared.Parsed.the-variants.{Number, Bad}
 use Rattle.words.specs.declared.Command.{Command}
-use Rattle.words.specs.declared.Command.the-variants.{New as New₀, Key as Key₀, Insert as Insert₀, Find as Find₀, Count as Count₀, Erase as Erase₀, Compact as Compact₀, Order as Order₀, Token as Token₀, Show as Show₀, Help as Help₀, Unknown}
+use Rattle.words.specs.declared.Command.the-variants.{New as New₀, Key as Key₀, Insert as Insert₀, Find as Find₀, Count as Count₀, Erase as Erase₀, Compact as Compact₀, Order as Order₀, Token as Token₀, Show as Show₀, Check as Check₀, Help as Help₀, Unknown}
 use Rattle.request.specs.declared.Request.{Request}
-use Rattle.request.specs.declared.Request.the-variants.{Help, Misused, NotNumber, NotId, New, Key, Insert, Find, Count, Erase, Compact, Order, Show, InsertToken, FindToken, CountToken, CompactionToken, InsertBy, FindBy, CountBy, CompactBy}
+use Rattle.request.specs.declared.Request.the-variants.{Help, Misused, NotNumber, NotId, New, Key, Insert, Find, Count, Erase, Compact, Order, Show, Check, InsertToken, FindToken, CountToken, CompactionToken, InsertBy, FindBy, CountBy, CompactBy}
 
 abbrev pub pickRequest : Bool → Request → Request → Request
 pickRequest true a b = a
@@ -90,6 +90,7 @@ makingBy Compact₀ n line = pickRequest (eqb n 3) CompactionToken (Misused Toke
 makingBy Order₀ n line = Misused Token₀
 makingBy Token₀ n line = Misused Token₀
 makingBy Show₀ n line = Misused Token₀
+makingBy Check₀ n line = Misused Token₀
 makingBy Help₀ n line = Misused Token₀
 makingBy Unknown n line = Misused Token₀
 
@@ -108,6 +109,7 @@ requestBy Compact₀ b line = pickRequest b CompactBy Compact
 requestBy Order₀ b line = Order
 requestBy Token₀ b line = makingOf line
 requestBy Show₀ b line = Show
+requestBy Check₀ b line = Check
 requestBy Help₀ b line = Help (commandOf (wordAt 1 line))
 requestBy Unknown b line = Misused Unknown
 
@@ -136,6 +138,7 @@ Bounded Erase = Unit {0}
 Bounded Compact = Unit {0}
 Bounded Order = Unit {0}
 Bounded Show = Unit {0}
+Bounded Check = Unit {0}
 Bounded (InsertToken p u) = Unit {0}
 Bounded FindToken = Unit {0}
 Bounded CountToken = Unit {0}

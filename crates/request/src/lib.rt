@@ -48,6 +48,8 @@ pub enum Request {
     Compact,
     Order,
     Show,
+    // What can be seen of a store without a key. [check:12]
+    Check,
     // The making of a token: of an insert's for shares 0 to p, at share u.
     InsertToken {
         p: u64,
@@ -270,6 +272,7 @@ fn making(line: &[u8]) -> Request
         Command::Order => misused,
         Command::Token => misused,
         Command::Show => misused,
+        Command::Check => misused,
         Command::Help => misused,
         Command::Unknown => misused,
     }
@@ -294,6 +297,7 @@ fn by_command(c: Command, token: bool, line: &[u8]) -> Request
         Command::Order => Request::Order,
         Command::Token => making(line),
         Command::Show => Request::Show,
+        Command::Check => Request::Check,
         Command::Help => Request::Help(words::command_of(line::word(line, 1))),
         Command::Unknown => Request::Misused(c),
     }

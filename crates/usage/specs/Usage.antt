@@ -3,7 +3,7 @@ use Prim.Native.Nat.{ℕ}
 use mathlib.Core.List.{List, _++_}
 use Rattle.text.specs.Ascii.{ascii}
 use Rattle.words.specs.declared.Command.{Command}
-use Rattle.words.specs.declared.Command.the-variants.{New, Key, Insert, Find, Count, Erase, Compact, Order, Token, Show, Help, Unknown}
+use Rattle.words.specs.declared.Command.the-variants.{New, Key, Insert, Find, Count, Erase, Compact, Order, Token, Show, Check, Help, Unknown}
 
 unfoldable pub usageLine : Command → List ℕ
 usageLine New = ascii "mazhkuri new STORE P M C S R: makes a store for shares 0 to P (at most 15) with M entries, C counters, S log rows and R labels (1 to 4096 each)\n"
@@ -16,12 +16,17 @@ usageLine Compact = ascii "mazhkuri compact STORE KEYFILE, or compact STORE --to
 usageLine Order = ascii "mazhkuri order STORE: puts the rows of a store in byte order, as 20 asks for; prints how many rows are used; takes no key\n"
 usageLine Token = ascii "mazhkuri token insert KEYFILE FIELD VALUE P SHARE, token find KEYFILE FIELD VALUE, token count KEYFILE FIELD VALUE, token compact KEYFILE: prints a TOKEN; @FILE stands for what a file holds\n"
 usageLine Show = ascii "mazhkuri show STORE: prints the sizes of a store and how full it is; takes no key\n"
+usageLine Check = ascii "mazhkuri check STORE: counts the rows of a store that do not go together, in seven lines, and says what to do where there are any; takes no key\n"
 usageLine Help = ascii "mazhkuri help [COMMAND]: prints what a command takes\n"
-usageLine Unknown = ascii "a command of: new key insert find count erase compact order token show help\n"
+usageLine Unknown = ascii "a command of: new key insert find count erase compact order token show check help\n"
 
 -- the commands that make files, those that take a field, and erase
 unfoldable pub firstLines : List ℕ
 firstLines = usageLine New ++ (usageLine Key ++ (usageLine Insert ++ (usageLine Find ++ (usageLine Count ++ usageLine Erase))))
+
+-- compact, order, token, show and check
+unfoldable pub laterLines : List ℕ
+laterLines = usageLine Compact ++ (usageLine Order ++ (usageLine Token ++ (usageLine Show ++ usageLine Check)))
 
 -- a command's line; every command's where none is named
 unfoldable pub helpText : Command → List ℕ
@@ -35,6 +40,7 @@ helpText Compact = usageLine Compact
 helpText Order = usageLine Order
 helpText Token = usageLine Token
 helpText Show = usageLine Show
+helpText Check = usageLine Check
 helpText Help = usageLine Help
 helpText Unknown =
-    firstLines ++ (usageLine Compact ++ (usageLine Order ++ (usageLine Token ++ (usageLine Show ++ (usageLine Help ++ ascii "a command that is not done prints `refused` and a rule's number, `misused` or `failed` to standard output, and what to do to standard error\n")))))
+    firstLines ++ (laterLines ++ (usageLine Help ++ ascii "a command that is not done prints `refused` and a rule's number, `misused` or `failed` to standard output, and what to do to standard error\n"))

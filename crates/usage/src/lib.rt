@@ -4,7 +4,7 @@ use words::Command;
 ghost use Prim.Native.Nat.{_+_, _≤_};
 ghost use lib.ListN.{length};
 ghost use Rattle.buffer.specs.Put.{Put};
-ghost use Rattle.usage.specs.Usage.{usageLine, firstLines, helpText};
+ghost use Rattle.usage.specs.Usage.{usageLine, firstLines, laterLines, helpText};
 
 const NEW: [u8; 144] =
     *b"mazhkuri new STORE P M C S R: makes a store for shares 0 to P (at most 15) with M entries, C counters, S log rows and R labels (1 to 4096 each)\n";
@@ -36,10 +36,13 @@ const TOKEN: [u8; 190] =
 const SHOW: [u8; 82] =
     *b"mazhkuri show STORE: prints the sizes of a store and how full it is; takes no key\n";
 
+const CHECK: [u8; 144] =
+    *b"mazhkuri check STORE: counts the rows of a store that do not go together, in seven lines, and says what to do where there are any; takes no key\n";
+
 const HELP: [u8; 53] = *b"mazhkuri help [COMMAND]: prints what a command takes\n";
 
-const UNKNOWN: [u8; 76] =
-    *b"a command of: new key insert find count erase compact order token show help\n";
+const UNKNOWN: [u8; 82] =
+    *b"a command of: new key insert find count erase compact order token show check help\n";
 
 const REFUSED: [u8; 140] =
     *b"a command that is not done prints `refused` and a rule's number, `misused` or `failed` to standard output, and what to do to standard error\n";
@@ -60,6 +63,7 @@ pub fn put_usage(to: &mut [u8], at: usize, c: Command) -> usize
         Command::Order => put(to, at, &ORDER),
         Command::Token => put(to, at, &TOKEN),
         Command::Show => put(to, at, &SHOW),
+        Command::Check => put(to, at, &CHECK),
         Command::Help => put(to, at, &HELP),
         Command::Unknown => put(to, at, &UNKNOWN),
     }
@@ -78,23 +82,32 @@ fn put_first(to: &mut [u8]) -> usize
     put(to, e, &ERASE)
 }
 
+// What compact, order, token, show and check take.
+fn put_later(to: &mut [u8], at: usize) -> usize
+    requires { ⌜ at + 680 ≤ length (now to) ⌝ }
+    ensures { λ r. ⌜ (Put (now (to .entry)) at laterLines (now (to .exit)) r) × (r ≤ at + 680) ⌝ }
+{
+    let a = put(to, at, &COMPACT);
+    let b = put(to, a, &ORDER);
+    let c = put(to, b, &TOKEN);
+    let d = put(to, c, &SHOW);
+    put(to, d, &CHECK)
+}
+
 // What every command takes.
 fn put_all(to: &mut [u8]) -> usize
-    requires { ⌜ 1600 ≤ length (now to) ⌝ }
+    requires { ⌜ 1800 ≤ length (now to) ⌝ }
     ensures { λ r. ⌜ Put (now (to .entry)) 0 (helpText Command.Unknown) (now (to .exit)) r ⌝ }
 {
     let a = put_first(to);
-    let b = put(to, a, &COMPACT);
-    let c = put(to, b, &ORDER);
-    let d = put(to, c, &TOKEN);
-    let e = put(to, d, &SHOW);
-    let f = put(to, e, &HELP);
-    put(to, f, &REFUSED)
+    let b = put_later(to, a);
+    let c = put(to, b, &HELP);
+    put(to, c, &REFUSED)
 }
 
 // What `help` prints of a command; of none, every command.
 pub fn put_help(to: &mut [u8], c: Command) -> usize
-    requires { ⌜ 1600 ≤ length (now to) ⌝ }
+    requires { ⌜ 1800 ≤ length (now to) ⌝ }
     ensures { λ r. ⌜ Put (now (to .entry)) 0 (helpText c) (now (to .exit)) r ⌝ }
 {
     if let Command::Unknown = c {

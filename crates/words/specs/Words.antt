@@ -6,7 +6,7 @@ use lib.Dec.{eqb, leb}
 use Rattle.octets.specs.Compare.{same}
 use Rattle.text.specs.Ascii.{ascii}
 use Rattle.words.specs.declared.Command.{Command}
-use Rattle.words.specs.declared.Command.the-variants.{New, Key, Insert, Find, Count, Erase, Compact, Order, Token, Show, Help, Unknown}
+use Rattle.words.specs.declared.Command.the-variants.{New, Key, Insert, Find, Count, Erase, Compact, Order, Token, Show, Check, Help, Unknown}
 
 abbrev pub pickCommand : Bool → Command → Command → Command
 pickCommand true a b = a
@@ -18,7 +18,8 @@ readerOf w =
     pickCommand (same w (ascii "find")) Find
     (pickCommand (same w (ascii "count")) Count
     (pickCommand (same w (ascii "token")) Token
-    (pickCommand (same w (ascii "show")) Show (pickCommand (same w (ascii "help")) Help Unknown))))
+    (pickCommand (same w (ascii "show")) Show
+    (pickCommand (same w (ascii "check")) Check (pickCommand (same w (ascii "help")) Help Unknown)))))
 
 -- by the name
 abbrev pub commandOf : List ℕ → Command
@@ -30,7 +31,7 @@ commandOf w =
     (pickCommand (same w (ascii "compact")) Compact (pickCommand (same w (ascii "order")) Order (readerOf w))))))
 
 -- new takes STORE P M C S R, key KEYFILE, insert STORE KEYFILE FIELD VALUE SHARE and the ids, find and count STORE KEYFILE FIELD
--- VALUE, erase STORE ID, compact STORE KEYFILE, order and show STORE; insert, find, count and compact with a token take STORE --token TOKEN
+-- VALUE, erase STORE ID, compact STORE KEYFILE, order, show and check STORE; insert, find, count and compact with a token take STORE --token TOKEN
 -- in place of what comes before the ids; token takes a command and KEYFILE at least; what may follow a find's or a count's words is said by its request
 abbrev pub wordsFit : Command → Bool → ℕ → Bool
 wordsFit New b n = eqb n 7
@@ -43,5 +44,6 @@ wordsFit Compact b n = cond b (eqb n 4) (eqb n 3)
 wordsFit Order b n = eqb n 2
 wordsFit Token b n = leb 3 n
 wordsFit Show b n = eqb n 2
+wordsFit Check b n = eqb n 2
 wordsFit Help b n = true
 wordsFit Unknown b n = false

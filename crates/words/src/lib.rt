@@ -24,6 +24,7 @@ pub enum Command {
     Order,
     Token,
     Show,
+    Check,
     Help,
     Unknown,
 }
@@ -89,6 +90,9 @@ fn reader_of(word: &[u8]) -> Command
     if is(word, b"show") {
         return Command::Show;
     }
+    if is(word, b"check") {
+        return Command::Check;
+    }
     if is(word, b"help") {
         return Command::Help;
     }
@@ -135,6 +139,7 @@ pub fn fit(c: Command, token: bool, n: usize) -> bool
         Command::Order => n == 2,
         Command::Token => 3 <= n,
         Command::Show => n == 2,
+        Command::Check => n == 2,
         Command::Help => true,
         Command::Unknown => false,
     }

@@ -61,12 +61,15 @@ returns-14 : tie.Need-returns-14
 returns-14 c = arm (c .before .before .before .args .line .now) (c .before .before .before .args .token) (c .enum-told10 .given .1) refl
 
 returns-15 : tie.Need-returns-15
-returns-15 c = arm (c .before .before .before .before .before .args .line .now) (c .before .before .before .before .before .args .token) (c .before .before .enum-told11 .given .1) (ap Help (c .command-of .ensures ∙ ap commandOf (c .before .word .ensures)))
+returns-15 c = arm (c .before .before .before .args .line .now) (c .before .before .before .args .token) (c .enum-told11 .given .1) refl
 
 returns-16 : tie.Need-returns-16
-returns-16 c = arm (c .before .before .before .args .line .now) (c .before .before .before .args .token) (c .enum-told12 .given .1) (ap Misused (c .enum-told12 .given .1))
+returns-16 c = arm (c .before .before .before .before .before .args .line .now) (c .before .before .before .before .before .args .token) (c .before .before .enum-told12 .given .1) (ap Help (c .command-of .ensures ∙ ap commandOf (c .before .word .ensures)))
+
+returns-17 : tie.Need-returns-17
+returns-17 c = arm (c .before .before .before .args .line .now) (c .before .before .before .args .token) (c .enum-told13 .given .1) (ap Misused (c .enum-told13 .given .1))
 
 pub by-command-spec : {M : Type 1} → statement M
 by-command-spec =
     tie.close
-    (tie.spec (λ c. search needs) (λ c κs. search needs) (λ c. search needs) (λ c. search needs) (λ c κs. search needs) (λ c κs. search needs) (λ c. search needs) (λ c κs. search needs) (λ c. search needs) (λ c κs. search needs) (λ c κs. search needs) (λ c. search needs) (λ c κs. search needs) (λ c. search needs) (λ c. search needs) (λ c. search needs) (λ c κs. search needs) (λ c. search needs) (λ c. search needs) (λ c κs. search needs) (λ c κs. search needs) (λ c. search needs) returns returns-2 returns-3 returns-4 returns-5 returns-6 returns-7 returns-8 returns-9 returns-10 returns-11 returns-12 returns-13 returns-14 returns-15 returns-16)
+    (tie.spec (λ c. search needs) (λ c κs. search needs) (λ c. search needs) (λ c. search needs) (λ c κs. search needs) (λ c κs. search needs) (λ c. search needs) (λ c κs. search needs) (λ c. search needs) (λ c κs. search needs) (λ c κs. search needs) (λ c. search needs) (λ c κs. search needs) (λ c. search needs) (λ c. search needs) (λ c. search needs) (λ c κs. search needs) (λ c. search needs) (λ c. search needs) (λ c. search needs) (λ c κs. search needs) (λ c κs. search needs) (λ c. search needs) returns returns-2 returns-3 returns-4 returns-5 returns-6 returns-7 returns-8 returns-9 returns-10 returns-11 returns-12 returns-13 returns-14 returns-15 returns-16 returns-17)

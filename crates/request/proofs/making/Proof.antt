@@ -55,7 +55,10 @@ returns-15 c = making-of (c .before .before .before .before .before .before .arg
 returns-16 : tie.Need-returns-16
 returns-16 c = making-of (c .before .before .before .before .before .before .args .line .now) _ _ (c .before .before .before .before .count .result) _ (c .before .before .command-of .ensures ∙ ap commandOf (c .before .before .before .word .ensures)) (c .before .before .before .before .count .ensures) (c .enum-told12 .given .1) refl
 
+returns-17 : tie.Need-returns-17
+returns-17 c = making-of (c .before .before .before .before .before .before .args .line .now) _ _ (c .before .before .before .before .count .result) _ (c .before .before .command-of .ensures ∙ ap commandOf (c .before .before .before .word .ensures)) (c .before .before .before .before .count .ensures) (c .enum-told13 .given .1) refl
+
 pub making-spec : {M : Type 1} → statement M
 making-spec =
     tie.close
-    (tie.spec (λ c κs. search needs) (λ c κs. search needs) (λ c κs. search needs) (λ c. search needs) (λ c. search needs) (λ c. search needs) (λ c κs. search needs) (λ c. search needs) (λ c. search needs) (λ c. search needs) (λ c. search needs) (λ c. search needs) (λ c. search needs) (λ c. search needs) (λ c. search needs) (λ c. search needs) returns returns-2 returns-3 returns-4 returns-5 returns-6 returns-7 returns-8 returns-9 returns-10 returns-11 returns-12 returns-13 returns-14 returns-15 returns-16)
+    (tie.spec (λ c κs. search needs) (λ c κs. search needs) (λ c κs. search needs) (λ c. search needs) (λ c. search needs) (λ c. search needs) (λ c κs. search needs) (λ c. search needs) (λ c. search needs) (λ c. search needs) (λ c. search needs) (λ c. search needs) (λ c. search needs) (λ c. search needs) (λ c. search needs) (λ c. search needs) (λ c. search needs) returns returns-2 returns-3 returns-4 returns-5 returns-6 returns-7 returns-8 returns-9 returns-10 returns-11 returns-12 returns-13 returns-14 returns-15 returns-16 returns-17)

@@ -53,7 +53,10 @@ returns-15 c = sym (ap (λ x. wordsFit x (c .before .before .args .token) (c .be
 returns-16 : tie.Need-returns-16
 returns-16 c = sym (ap (λ x. wordsFit x (c .before .before .args .token) (c .before .before .args .n)) (c .enum-told12 .given .1))
 
+returns-17 : tie.Need-returns-17
+returns-17 c = sym (ap (λ x. wordsFit x (c .before .before .args .token) (c .before .before .args .n)) (c .enum-told13 .given .1))
+
 pub fit-spec : {M : Type 1} → statement M
 fit-spec =
     tie.close
-    (tie.spec (λ c. search needs) (λ c. search needs) (λ c. search needs) (λ c. search needs) (λ c. search needs) (λ c. search needs) (λ c. search needs) (λ c. search needs) (λ c. search needs) (λ c. search needs) (λ c. search needs) (λ c. search needs) returns returns-2 returns-3 returns-4 returns-5 returns-6 returns-7 returns-8 returns-9 returns-10 returns-11 returns-12 returns-13 returns-14 returns-15 returns-16)
+    (tie.spec (λ c. search needs) (λ c. search needs) (λ c. search needs) (λ c. search needs) (λ c. search needs) (λ c. search needs) (λ c. search needs) (λ c. search needs) (λ c. search needs) (λ c. search needs) (λ c. search needs) (λ c. search needs) (λ c. search needs) returns returns-2 returns-3 returns-4 returns-5 returns-6 returns-7 returns-8 returns-9 returns-10 returns-11 returns-12 returns-13 returns-14 returns-15 returns-16 returns-17)

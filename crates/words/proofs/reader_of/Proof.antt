@@ -21,9 +21,12 @@ returns-5 : tie.Need-returns-5
 returns-5 c = passed _ _ _ _ (sym (c .before .before .before .before .before .before .before .before .before .before .before .before .before .is .ensures) ∙ c .before .before .before .before .before .before .before .before .before .before .before .before .if1 .left) (passed _ _ _ _ (sym (c .before .before .before .before .before .before .before .before .before .before .is2 .ensures) ∙ c .before .before .before .before .before .before .before .before .before .if2 .left) (passed _ _ _ _ (sym (c .before .before .before .before .before .before .before .is3 .ensures) ∙ c .before .before .before .before .before .before .if3 .left) (passed _ _ _ _ (sym (c .before .before .before .before .is4 .ensures) ∙ c .before .before .before .if4 .left) (chosen _ _ _ (sym (c .before .is5 .ensures) ∙ c .if5 .taken)))))
 
 returns-6 : tie.Need-returns-6
-returns-6 c = passed _ _ _ _ (sym (c .before .before .before .before .before .before .before .before .before .before .before .before .before .is .ensures) ∙ c .before .before .before .before .before .before .before .before .before .before .before .before .if1 .left) (passed _ _ _ _ (sym (c .before .before .before .before .before .before .before .before .before .before .is2 .ensures) ∙ c .before .before .before .before .before .before .before .before .before .if2 .left) (passed _ _ _ _ (sym (c .before .before .before .before .before .before .before .is3 .ensures) ∙ c .before .before .before .before .before .before .if3 .left) (passed _ _ _ _ (sym (c .before .before .before .before .is4 .ensures) ∙ c .before .before .before .if4 .left) (passed _ _ _ _ (sym (c .before .is5 .ensures) ∙ c .if5 .left) (refl)))))
+returns-6 c = passed _ _ _ _ (sym (c .before .before .before .before .before .before .before .before .before .before .before .before .before .before .before .before .is .ensures) ∙ c .before .before .before .before .before .before .before .before .before .before .before .before .before .before .before .if1 .left) (passed _ _ _ _ (sym (c .before .before .before .before .before .before .before .before .before .before .before .before .before .is2 .ensures) ∙ c .before .before .before .before .before .before .before .before .before .before .before .before .if2 .left) (passed _ _ _ _ (sym (c .before .before .before .before .before .before .before .before .before .before .is3 .ensures) ∙ c .before .before .before .before .before .before .before .before .before .if3 .left) (passed _ _ _ _ (sym (c .before .before .before .before .before .before .before .is4 .ensures) ∙ c .before .before .before .before .before .before .if4 .left) (passed _ _ _ _ (sym (c .before .before .before .before .is5 .ensures) ∙ c .before .before .before .if5 .left) (chosen _ _ _ (sym (c .before .is6 .ensures) ∙ c .if6 .taken))))))
+
+returns-7 : tie.Need-returns-7
+returns-7 c = passed _ _ _ _ (sym (c .before .before .before .before .before .before .before .before .before .before .before .before .before .before .before .before .is .ensures) ∙ c .before .before .before .before .before .before .before .before .before .before .before .before .before .before .before .if1 .left) (passed _ _ _ _ (sym (c .before .before .before .before .before .before .before .before .before .before .before .before .before .is2 .ensures) ∙ c .before .before .before .before .before .before .before .before .before .before .before .before .if2 .left) (passed _ _ _ _ (sym (c .before .before .before .before .before .before .before .before .before .before .is3 .ensures) ∙ c .before .before .before .before .before .before .before .before .before .if3 .left) (passed _ _ _ _ (sym (c .before .before .before .before .before .before .before .is4 .ensures) ∙ c .before .before .before .before .before .before .if4 .left) (passed _ _ _ _ (sym (c .before .before .before .before .is5 .ensures) ∙ c .before .before .before .if5 .left) (passed _ _ _ _ (sym (c .before .is6 .ensures) ∙ c .if6 .left) (refl))))))
 
 pub reader-of-spec : {M : Type 1} → statement M
 reader-of-spec =
     tie.close
-    (tie.spec (λ c. search needs) (λ c κs. search needs) returns (λ c. search needs) (λ c κs. search needs) returns-2 (λ c. search needs) (λ c κs. search needs) returns-3 (λ c. search needs) (λ c κs. search needs) returns-4 (λ c. search needs) (λ c κs. search needs) returns-5 returns-6)
+    (tie.spec (λ c. search needs) (λ c κs. search needs) returns (λ c. search needs) (λ c κs. search needs) returns-2 (λ c. search needs) (λ c κs. search needs) returns-3 (λ c. search needs) (λ c κs. search needs) returns-4 (λ c. search needs) (λ c κs. search needs) returns-5 (λ c. search needs) (λ c κs. search needs) returns-6 returns-7)
