@@ -4,9 +4,9 @@ use mathlib.Core.Bool.{Bool, true, false}
 use mathlib.Core.List.{List}
 use Rattle.advice.specs.Advise.{lengthOf, roomOf}
 use Rattle.request.specs.declared.Request.{Request}
-use Rattle.request.specs.declared.Request.the-variants.{Help, Misused, NotNumber, NotId, New, Key, Insert, Find, Count, Erase, Compact, Order, Show, InsertToken, FindToken, CountToken, CompactionToken, InsertBy, FindBy, CountBy, CompactBy}
+use Rattle.request.specs.declared.Request.the-variants.{Help, Misused, NotNumber, NotId, New, Key, Insert, Find, Count, Erase, Compact, Order, Show, Check, InsertToken, FindToken, CountToken, CompactionToken, InsertBy, FindBy, CountBy, CompactBy}
 use Rattle.outcome.specs.declared.Outcome.{Outcome}
-use Rattle.outcome.specs.declared.Outcome.the-variants.{Number, Counted, Compacted, Damaged, WrongKey, Refused, Done, BadWords}
+use Rattle.outcome.specs.declared.Outcome.the-variants.{Number, Counted, Inspected, Compacted, Damaged, WrongKey, Refused, Done, BadWords}
 use Rattle.demand.specs.declared.Needs.{Needs}
 use Rattle.demand.specs.declared.Needs.the-variants.{Words, KeyFile, KeyAlone, Store, Lock, NewStore}
 
@@ -24,6 +24,7 @@ needsOf Erase = Lock
 needsOf Compact = Lock
 needsOf Order = Lock
 needsOf Show = Store
+needsOf Check = Store
 needsOf (InsertToken p u) = KeyAlone
 needsOf FindToken = KeyAlone
 needsOf CountToken = KeyAlone
@@ -47,6 +48,7 @@ takesKey Erase = false
 takesKey Compact = true
 takesKey Order = false
 takesKey Show = false
+takesKey Check = false
 takesKey (InsertToken p u) = true
 takesKey FindToken = true
 takesKey CountToken = true
@@ -71,6 +73,7 @@ takesToken Erase = false
 takesToken Compact = false
 takesToken Order = false
 takesToken Show = false
+takesToken Check = false
 takesToken (InsertToken p u) = false
 takesToken FindToken = false
 takesToken CountToken = false
@@ -96,6 +99,7 @@ randomOf Erase before = 0
 randomOf Compact before = 12 * roomOf before .logged
 randomOf Order before = 0
 randomOf Show before = 0
+randomOf Check before = 0
 randomOf (InsertToken p u) before = 12
 randomOf FindToken before = 0
 randomOf CountToken before = 0
@@ -109,6 +113,7 @@ randomOf CompactBy before = 12 * roomOf before .logged
 abbrev pub made : Outcome → Bool
 made (Number n) = true
 made (Counted n rows) = true
+made (Inspected f) = true
 made (Compacted t) = true
 made (Damaged t) = true
 made (WrongKey t) = false
@@ -131,6 +136,7 @@ changes Erase o = made o
 changes Compact o = made o
 changes Order o = made o
 changes Show o = false
+changes Check o = false
 changes (InsertToken p u) o = false
 changes FindToken o = false
 changes CountToken o = false

@@ -21,7 +21,7 @@ fn put_refused(to: &mut [u8], number: u64) -> usize
     put_counted(to, e, number, b"\n")
 }
 
-// What standard output gets of an outcome.
+// What standard output gets of an outcome; what a check counted is told by crates/diagnosis.
 pub fn answer(o: Outcome, to: &mut [u8]) -> usize
     requires { ⌜ 256 ≤ length (now to) ⌝ }
     ensures { λ r. ⌜ Put (now (to .entry)) 0 (answerLine o) (now (to .exit)) r ⌝ }
@@ -29,6 +29,7 @@ pub fn answer(o: Outcome, to: &mut [u8]) -> usize
     match o {
         Outcome::Number(n) => put_counted(to, 0, n, b"\n"),
         Outcome::Counted { n, rows: _ } => put_counted(to, 0, n, b"\n"),
+        Outcome::Inspected(_) => 0,
         Outcome::Compacted(t) => put_tally(to, 0, t),
         Outcome::Damaged(_) => put_refused(to, 13),
         Outcome::WrongKey(_) => put(to, 0, b"refused\n"),

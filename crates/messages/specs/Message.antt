@@ -9,7 +9,7 @@ use Rattle.advice.specs.Advise.{adviceOf}
 use Rattle.advice.specs.declared.Advice.{Advice}
 use Rattle.advice.specs.declared.Advice.the-variants.{Key, Field, Share, Shares, Ids, Token, Sizes, NoStore, Old, Marks, Order, TokenShares, Damage, Count, Entries, Compact, Larger, Log, Labels, Output, Fault}
 use Rattle.outcome.specs.declared.Outcome.{Outcome}
-use Rattle.outcome.specs.declared.Outcome.the-variants.{Number, Counted, Compacted, Damaged, WrongKey, Refused, Done, BadWords}
+use Rattle.outcome.specs.declared.Outcome.the-variants.{Number, Counted, Inspected, Compacted, Damaged, WrongKey, Refused, Done, BadWords}
 use Rattle.buffer.specs.Decimal.{counted}
 use Rattle.tally.specs.Line.{tallyLine}
 
@@ -54,6 +54,7 @@ sentenceOf Fault given = ascii "the tool made a wrong call: please report this\n
 unfoldable pub messageLine : Outcome → ℕ → List ℕ
 messageLine (Number n) given = []
 messageLine (Counted n rows) given = []
+messageLine (Inspected f) given = []
 messageLine (Compacted t) given = []
 messageLine (Damaged t) given =
     ascii "13: a counter in the file does not hold what was written: it was damaged; anchors written and counters freed before it: "

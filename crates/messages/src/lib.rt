@@ -182,6 +182,7 @@ pub fn message(o: Outcome, given: u64, to: &mut [u8]) -> usize
     match o {
         Outcome::Number(_) => 0,
         Outcome::Counted { n: _, rows: _ } => 0,
+        Outcome::Inspected(_) => 0,
         Outcome::Compacted(_) => 0,
         Outcome::Damaged(t) => put_damaged(to, t),
         Outcome::WrongKey(_) => put(to, 0, &WRONG_KEY),

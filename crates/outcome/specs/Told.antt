@@ -4,17 +4,18 @@ use mathlib.Core.Path.{_≡_}
 use mathlib.Core.Bool.{Bool, true, false, cond}
 use mathlib.Core.List.{List, [], _∷_}
 use lib.Dec.{ltb}
-use Rattle.answer.specs.Answer.{Answer, done, refused, refusal}
+use Rattle.answer.specs.Answer.{Answer, done, refused, refusal, faultsOf}
 use Rattle.advice.specs.Advise.{roomOf}
 use Rattle.compact.specs.declared.Tally.{Tally}
 use Rattle.advice.specs.declared.Room.{Room}
 use Rattle.outcome.specs.declared.Outcome.{Outcome}
-use Rattle.outcome.specs.declared.Outcome.the-variants.{Number, Counted, Compacted, Damaged, WrongKey, Refused, Done, BadWords}
+use Rattle.outcome.specs.declared.Outcome.the-variants.{Number, Counted, Inspected, Compacted, Damaged, WrongKey, Refused, Done, BadWords}
 
 -- the answer that an outcome tells; words that ask for nothing have no answer of a call, and 0 is no rule's number
 abbrev pub told : Outcome → Answer
 told (Number n) = done (n ∷ [])
 told (Counted n rows) = done (n ∷ rows ∷ [])
+told (Inspected f) = done (faultsOf f)
 told (Compacted t) = done (t .anchors ∷ t .counters ∷ [])
 told (WrongKey t) = done (t .anchors ∷ t .counters ∷ [])
 told (Damaged t) = refused 13 (t .anchors ∷ t .counters ∷ [])
@@ -38,6 +39,7 @@ compacted logged t = pickOutcome (isWrongKey logged (t .anchors)) (WrongKey t) (
 abbrev pub withRoom : Room → Outcome → Outcome
 withRoom x (Number n) = Number n
 withRoom x (Counted n rows) = Counted n rows
+withRoom x (Inspected f) = Inspected f
 withRoom x (Compacted t) = compacted (x .logged) t
 withRoom x (WrongKey t) = compacted (x .logged) t
 withRoom x (Damaged t) = Damaged t

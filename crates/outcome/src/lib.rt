@@ -1,12 +1,14 @@
 // What became of a command of the tool, made of the library's answers: a refusal goes with the room that the store had,
 // and a compaction may have been made with another key than the store's.
 ghost use mathlib.Core.Path.{_≡_};
-ghost use Rattle.answer.specs.Answer.{counted, tallied, completion};
+ghost use Rattle.answer.specs.Answer.{counted, tallied, inspected, completion};
 ghost use Rattle.compact.specs.Outcome.{compactionAnswer};
 ghost use Rattle.outcome.specs.Told.{told, isWrongKey, compacted, withRoom};
 use advice::Room;
 use answer::Completion;
 use answer::Counted;
+use answer::Faults;
+use answer::Inspected;
 use answer::Refusal;
 use answer::Tallied;
 use compact::Compaction;
@@ -17,6 +19,8 @@ pub enum Outcome {
     Number(u64),
     // A count, and the rows that were looked at for it. [02:W3.8]
     Counted { n: u64, rows: u64 },
+    // What a check counted. [check:12]
+    Inspected(Faults),
     Compacted(Tally),
     // 13 in a compaction, with what had been done.
     Damaged(Tally),
@@ -46,6 +50,16 @@ pub fn of_tallied(r: Tallied, room: Room) -> Outcome
     match r {
         Tallied::Number { n, rows } => Outcome::Counted { n, rows },
         Tallied::Refused(why) => Outcome::Refused(why, room),
+    }
+}
+
+pub fn of_inspected(r: Inspected, room: Room) -> Outcome
+    ensures { λ o. ⌜ told o ≡ inspected r ⌝ }
+    ensures { λ o. ⌜ o ≡ withRoom room o ⌝ }
+{
+    match r {
+        Inspected::Numbers(f) => Outcome::Inspected(f),
+        Inspected::Refused(why) => Outcome::Refused(why, room),
     }
 }
 

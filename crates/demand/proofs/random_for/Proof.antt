@@ -81,20 +81,23 @@ returns-17 : tie.Need-returns-17
 returns-17 c = (sym (ap (λ (z : Request). randomOf z (c .before .before .before .args .store .now)) (c .enum-told16 .given .1)), omega arith)
 
 returns-18 : tie.Need-returns-18
-returns-18 c =
-    let h = subst Bounded (c .before .q2 .given .1) (c .before .before .before .before .pre) in
-    (sym (ap (λ (z : Request). randomOf z (c .before .before .before .before .args .store .now)) (c .before .q2 .given .1)), omega arith)
+returns-18 c = (sym (ap (λ (z : Request). randomOf z (c .before .before .before .args .store .now)) (c .enum-told17 .given .1)), omega arith)
 
 returns-19 : tie.Need-returns-19
-returns-19 c = (sym (ap (λ (z : Request). randomOf z (c .before .before .before .args .store .now)) (c .enum-told17 .given .1)), omega arith)
+returns-19 c =
+    let h = subst Bounded (c .before .q2 .given .1) (c .before .before .before .before .pre) in
+    (sym (ap (λ (z : Request). randomOf z (c .before .before .before .before .args .store .now)) (c .before .q2 .given .1)), omega arith)
 
 returns-20 : tie.Need-returns-20
 returns-20 c = (sym (ap (λ (z : Request). randomOf z (c .before .before .before .args .store .now)) (c .enum-told18 .given .1)), omega arith)
 
 returns-21 : tie.Need-returns-21
-returns-21 c = (ap (λ z. 12 * z .logged) (c .before .room-in2 .ensures .0) ∙ sym (ap (λ (z : Request). randomOf z (c .before .before .before .before .before .args .store .now)) (c .before .before .enum-told19 .given .1)), omega (arith, c .before .room-in2 .ensures .1))
+returns-21 c = (sym (ap (λ (z : Request). randomOf z (c .before .before .before .args .store .now)) (c .enum-told19 .given .1)), omega arith)
+
+returns-22 : tie.Need-returns-22
+returns-22 c = (ap (λ z. 12 * z .logged) (c .before .room-in2 .ensures .0) ∙ sym (ap (λ (z : Request). randomOf z (c .before .before .before .before .before .args .store .now)) (c .before .before .enum-told20 .given .1)), omega (arith, c .before .room-in2 .ensures .1))
 
 pub random-for-spec : {M : Type 1} → statement M
 random-for-spec =
     tie.close
-    (tie.spec (λ c. search needs) (λ c. search needs) (λ c. search needs) (λ c. search needs) (λ c. search needs) (λ c. search needs) (λ c. search needs) mul-result add-result mul-result-2 (λ c. search needs) (λ c. search needs) (λ c. search needs) (λ c. search needs) (λ c κs. search needs) (λ c. search needs) (λ c. search needs) (λ c. search needs) (λ c. search needs) (λ c. search needs) (λ c. search needs) (λ c. search needs) (λ c. search needs) mul-result-4 add-result-2 mul-result-5 (λ c. search needs) (λ c. search needs) (λ c. search needs) (λ c κs. search needs) (λ c. search needs) returns returns-2 returns-3 returns-4 returns-5 returns-6 returns-7 returns-8 returns-9 returns-10 returns-11 returns-12 returns-13 returns-14 returns-15 returns-16 returns-17 returns-18 returns-19 returns-20 returns-21)
+    (tie.spec (λ c. search needs) (λ c. search needs) (λ c. search needs) (λ c. search needs) (λ c. search needs) (λ c. search needs) (λ c. search needs) mul-result add-result mul-result-2 (λ c. search needs) (λ c. search needs) (λ c. search needs) (λ c. search needs) (λ c κs. search needs) (λ c. search needs) (λ c. search needs) (λ c. search needs) (λ c. search needs) (λ c. search needs) (λ c. search needs) (λ c. search needs) (λ c. search needs) (λ c. search needs) mul-result-4 add-result-2 mul-result-5 (λ c. search needs) (λ c. search needs) (λ c. search needs) (λ c κs. search needs) (λ c. search needs) returns returns-2 returns-3 returns-4 returns-5 returns-6 returns-7 returns-8 returns-9 returns-10 returns-11 returns-12 returns-13 returns-14 returns-15 returns-16 returns-17 returns-18 returns-19 returns-20 returns-21 returns-22)
