@@ -10,16 +10,16 @@ use Rattle.text.specs.Ascii.{ascii}
 use Rattle.words.specs.Line.{wordAt}
 use Rattle.words.specs.declared.Command.{Command}
 use Rattle.request.specs.declared.Request.{Request}
-use Rattle.request.specs.declared.Request.the-variants.{Help, Misused, NotNumber, NotId, Find, Count, Erase, Order, Show, InsertToken, FindToken, CountToken, CompactionToken, FindBy, CountBy}
+use Rattle.request.specs.declared.Request.the-variants.{Help, Misused, NotNumber, NotId, Find, Count, Erase, Order, Show, Check, InsertToken, FindToken, CountToken, CompactionToken, FindBy, CountBy}
 use Rattle.outcome.proofs.Outcome.{the-type as outcome}
 use Rattle.outcome.specs.declared.Outcome.{Outcome}
-use Rattle.outcome.specs.declared.Outcome.the-variants.{Number, Counted, Compacted, Damaged, WrongKey, Refused, Done, BadWords}
+use Rattle.outcome.specs.declared.Outcome.the-variants.{Number, Counted, Inspected, Compacted, Damaged, WrongKey, Refused, Done, BadWords}
 use Rattle.buffer.specs.Put.{Put}
 use Rattle.buffer.proofs.Laws.{nothing}
 use Rattle.lines.specs.Answer.{answerLine}
 use Rattle.usage.specs.Usage.{usageLine, helpText}
 use Rattle.report.specs.declared.Ran.{Ran}
-use Rattle.report.specs.Run.{lent, Performed, foundText, countText, badWord, outText, errText, Ends}
+use Rattle.report.specs.Run.{lent, Performed, foundText, countText, checkText, badWord, outText, errText, Ends}
 
 -- the same outcome, where the result holds it
 pub ended : (q : Request) (line before key random after : List ℕ) {out err outAfter errAfter : List ℕ} (o : Outcome) (r : Ran) → r .outcome ≡ o
@@ -65,6 +65,9 @@ module _ {line before key out err after outAfter errAfter : List ℕ} {r : Ran} 
 
   pub shown-any : Ends Show [] before [] [] out err r after outAfter errAfter → Ends Show line before key random out err r after outAfter errAfter
   shown-any x = record { performed = x .performed; output = x .output; errors = x .errors }
+
+  pub checked-any : Ends Check [] before [] [] out err r after outAfter errAfter → Ends Check line before key random out err r after outAfter errAfter
+  checked-any x = record { performed = x .performed; output = x .output; errors = x .errors }
 
 -- a token's making has no store
 module _ {line key out err outAfter errAfter : List ℕ} {r : Ran} (before : List ℕ) where
@@ -113,9 +116,10 @@ lent-length = of 65536
     of n = length-replicate n 0
 
 -- every outcome of a find but a number is told by its line
-pub unnumbered : (o : Outcome) (ids : List ℕ) → OneOf (1 ∷ 2 ∷ 3 ∷ 4 ∷ 5 ∷ 6 ∷ 7 ∷ []) (tagOf outcome o) → answerLine o ≡ foundText o ids
-unnumbered (Number n) ids h = absurd (miss (1 ∷ 2 ∷ 3 ∷ 4 ∷ 5 ∷ 6 ∷ 7 ∷ []) 0 tt h)
+pub unnumbered : (o : Outcome) (ids : List ℕ) → OneOf (1 ∷ 2 ∷ 3 ∷ 4 ∷ 5 ∷ 6 ∷ 7 ∷ 8 ∷ []) (tagOf outcome o) → answerLine o ≡ foundText o ids
+unnumbered (Number n) ids h = absurd (miss (1 ∷ 2 ∷ 3 ∷ 4 ∷ 5 ∷ 6 ∷ 7 ∷ 8 ∷ []) 0 tt h)
 unnumbered (Counted n rows) ids h = refl
+unnumbered (Inspected f) ids h = refl
 unnumbered (Compacted t) ids h = refl
 unnumbered (Damaged t) ids h = refl
 unnumbered (WrongKey t) ids h = refl
@@ -124,13 +128,26 @@ unnumbered Done ids h = refl
 unnumbered BadWords ids h = refl
 
 -- every outcome of a count but one with rows is told by its line, whatever is asked for
-pub unrowed : (rows : Bool) (o : Outcome) → OneOf (0 ∷ 2 ∷ 3 ∷ 4 ∷ 5 ∷ 6 ∷ 7 ∷ []) (tagOf outcome o) → answerLine o ≡ countText rows o
+pub unrowed : (rows : Bool) (o : Outcome) → OneOf (0 ∷ 2 ∷ 3 ∷ 4 ∷ 5 ∷ 6 ∷ 7 ∷ 8 ∷ []) (tagOf outcome o) → answerLine o ≡ countText rows o
 unrowed false o h = refl
 unrowed true (Number n) h = refl
-unrowed true (Counted n rows) h = absurd (miss (0 ∷ 2 ∷ 3 ∷ 4 ∷ 5 ∷ 6 ∷ 7 ∷ []) 1 tt h)
+unrowed true (Counted n rows) h = absurd (miss (0 ∷ 2 ∷ 3 ∷ 4 ∷ 5 ∷ 6 ∷ 7 ∷ 8 ∷ []) 1 tt h)
+unrowed true (Inspected f) h = refl
 unrowed true (Compacted t) h = refl
 unrowed true (Damaged t) h = refl
 unrowed true (WrongKey t) h = refl
 unrowed true (Refused r room) h = refl
 unrowed true Done h = refl
 unrowed true BadWords h = refl
+
+-- every outcome of a check but its numbers is told by its line
+pub uncounted : (o : Outcome) → OneOf (0 ∷ 1 ∷ 3 ∷ 4 ∷ 5 ∷ 6 ∷ 7 ∷ 8 ∷ []) (tagOf outcome o) → answerLine o ≡ checkText o
+uncounted (Number n) h = refl
+uncounted (Counted n rows) h = refl
+uncounted (Inspected f) h = absurd (miss (0 ∷ 1 ∷ 3 ∷ 4 ∷ 5 ∷ 6 ∷ 7 ∷ 8 ∷ []) 2 tt h)
+uncounted (Compacted t) h = refl
+uncounted (Damaged t) h = refl
+uncounted (WrongKey t) h = refl
+uncounted (Refused r room) h = refl
+uncounted Done h = refl
+uncounted BadWords h = refl

@@ -22,7 +22,7 @@ use Rattle.suite.specs.Program.{program}
 use Rattle.parts.specs.Parts.{partsTests, partsBytes}
 use Rattle.outcome.specs.Told.{told}
 use Rattle.outcome.specs.declared.Outcome.{Outcome}
-use Rattle.outcome.specs.declared.Outcome.the-variants.{Number, Counted, Compacted, Damaged, WrongKey, Refused, Done, BadWords}
+use Rattle.outcome.specs.declared.Outcome.the-variants.{Number, Counted, Inspected, Compacted, Damaged, WrongKey, Refused, Done, BadWords}
 use Rattle.report.specs.Run.{Holds}
 
 -- no refusal is an answer
@@ -79,6 +79,7 @@ call-room before parts output n e = go (verdict (partsTests parts)) refl e
 pub holds : (o : Outcome) (room : ℕ) → ((n : ℕ) → told o ≡ done (n ∷ []) → 16 * n ≤ room) → Holds o room
 holds (Number n) room h = h n refl
 holds (Counted n rows) room h = tt
+holds (Inspected f) room h = tt
 holds (Compacted t) room h = tt
 holds (Damaged t) room h = tt
 holds (WrongKey t) room h = tt

@@ -14,6 +14,7 @@ use Rattle.scheme.specs.Insert
 use Rattle.scheme.specs.Find
 use Rattle.scheme.specs.Count
 use Rattle.scheme.specs.Compaction
+use Rattle.scheme.specs.Check.{check}
 use Rattle.suite.specs.Program.{program}
 use Rattle.client.specs.Making.{fieldOf, makingAnswer}
 use Rattle.store.specs.Check.{checkedOf}
@@ -24,19 +25,20 @@ use Rattle.words.specs.Line.{wordAt}
 use Rattle.request.specs.Ids.{idOf, idsOf}
 use Rattle.request.specs.Token.{tokenOf, tokenText}
 use Rattle.request.specs.declared.Request.{Request}
-use Rattle.request.specs.declared.Request.the-variants.{Help, Misused, NotNumber, NotId, New, Key, Insert, Find, Count, Erase, Compact, Order, Show, InsertToken, FindToken, CountToken, CompactionToken, InsertBy, FindBy, CountBy, CompactBy}
+use Rattle.request.specs.declared.Request.the-variants.{Help, Misused, NotNumber, NotId, New, Key, Insert, Find, Count, Erase, Compact, Order, Show, Check, InsertToken, FindToken, CountToken, CompactionToken, InsertBy, FindBy, CountBy, CompactBy}
 use Rattle.advice.specs.Advise.{noRoom, roomFor, roomOf}
 use Rattle.advice.specs.declared.Room.{Room}
 use Rattle.outcome.specs.Told.{told, withRoom, Roomed}
 use Rattle.parts.specs.Parts.{partsOf}
 use Rattle.commands.specs.Insert.{insertResult}
 use Rattle.outcome.specs.declared.Outcome.{Outcome}
-use Rattle.outcome.specs.declared.Outcome.the-variants.{Number, Counted, Compacted, Damaged, WrongKey, Refused, Done, BadWords}
+use Rattle.outcome.specs.declared.Outcome.the-variants.{Number, Counted, Inspected, Compacted, Damaged, WrongKey, Refused, Done, BadWords}
 use Rattle.buffer.specs.Put.{Put}
 use Rattle.lines.specs.Answer.{answerLine, countLines}
 use Rattle.lines.specs.Ids.{hexLine, idLines}
 use Rattle.messages.specs.Message.{messageLine}
 use Rattle.show.specs.Show.{shapeLines}
+use Rattle.diagnosis.specs.Diagnosis.{totalOf, faultLines}
 use Rattle.usage.specs.Usage.{usageLine, helpText}
 use Rattle.report.specs.declared.Ran.{Ran}
 
@@ -89,6 +91,7 @@ module _ (line before key random : List ℕ) where
   Performed Order o after =
       (told o ≡ perform program Call.order before .answer) × ((after ≡ perform program Call.order before .store) × Roomed before o)
   Performed Show o after = (o ≡ showOf before) × (after ≡ before)
+  Performed Check o after = (told o ≡ check before .answer) × ((after ≡ before) × Roomed before o)
   Performed (InsertToken p u) o after =
       (told o ≡ makingAnswer (insertTokenTests key (fieldIn line) p u random)) × ((o ≡ withRoom (roomFor p) o) × (after ≡ before))
   Performed FindToken o after =
@@ -111,6 +114,7 @@ module _ (line before key random : List ℕ) where
 abbrev pub foundText : Outcome → List ℕ → List ℕ
 foundText (Number n) ids = idLines n ids
 foundText (Counted n rows) ids = answerLine (Counted n rows)
+foundText (Inspected f) ids = answerLine (Inspected f)
 foundText (Compacted t) ids = answerLine (Compacted t)
 foundText (Damaged t) ids = answerLine (Damaged t)
 foundText (WrongKey t) ids = answerLine (WrongKey t)
@@ -122,6 +126,7 @@ foundText BadWords ids = answerLine BadWords
 abbrev pub rowsText : Outcome → List ℕ
 rowsText (Number n) = answerLine (Number n)
 rowsText (Counted n rows) = countLines n rows
+rowsText (Inspected f) = answerLine (Inspected f)
 rowsText (Compacted t) = answerLine (Compacted t)
 rowsText (Damaged t) = answerLine (Damaged t)
 rowsText (WrongKey t) = answerLine (WrongKey t)
@@ -138,6 +143,7 @@ countText false o = answerLine o
 abbrev pub Holds : Outcome → ℕ → Type 0
 Holds (Number n) room = 16 * n ≤ room
 Holds (Counted n rows) room = Unit {0}
+Holds (Inspected f) room = Unit {0}
 Holds (Compacted t) room = Unit {0}
 Holds (Damaged t) room = Unit {0}
 Holds (WrongKey t) room = Unit {0}
@@ -149,6 +155,7 @@ Holds BadWords room = Unit {0}
 abbrev pub madeText : Outcome → List ℕ → List ℕ
 madeText (Number n) token = answerLine (Number n)
 madeText (Counted n rows) token = answerLine (Counted n rows)
+madeText (Inspected f) token = answerLine (Inspected f)
 madeText (Compacted t) token = answerLine (Compacted t)
 madeText (Damaged t) token = answerLine (Damaged t)
 madeText (WrongKey t) token = answerLine (WrongKey t)
@@ -160,6 +167,30 @@ madeText BadWords token = answerLine BadWords
 abbrev pub shownText : Checked → Outcome → List ℕ
 shownText (Fit x) o = shapeLines x
 shownText (Refused₀ r) o = answerLine o
+
+-- the lines of what a check counted; or its refusal [check:12]
+abbrev pub checkText : Outcome → List ℕ
+checkText (Number n) = answerLine (Number n)
+checkText (Counted n rows) = answerLine (Counted n rows)
+checkText (Inspected f) = faultLines f
+checkText (Compacted t) = answerLine (Compacted t)
+checkText (Damaged t) = answerLine (Damaged t)
+checkText (WrongKey t) = answerLine (WrongKey t)
+checkText (Refused r room) = answerLine (Refused r room)
+checkText Done = answerLine Done
+checkText BadWords = answerLine BadWords
+
+-- each of a check's seven numbers is at most the rows of a table
+abbrev pub Few : Outcome → Type 0
+Few (Number n) = Unit {0}
+Few (Counted n rows) = Unit {0}
+Few (Inspected f) = totalOf f ≤ 28672
+Few (Compacted t) = Unit {0}
+Few (Damaged t) = Unit {0}
+Few (WrongKey t) = Unit {0}
+Few (Refused r room) = Unit {0}
+Few Done = Unit {0}
+Few BadWords = Unit {0}
 
 -- what standard output gets
 abbrev pub outText : Request → List ℕ → List ℕ → List ℕ → List ℕ → Outcome → List ℕ
@@ -176,6 +207,7 @@ outText Erase line before key random o = answerLine o
 outText Compact line before key random o = answerLine o
 outText Order line before key random o = answerLine o
 outText Show line before key random o = shownText (checkedOf before) o
+outText Check line before key random o = checkText o
 outText (InsertToken p u) line before key random o = madeText o (insertToken program key (fieldIn line) p u random)
 outText FindToken line before key random o = madeText o (findToken program key (fieldIn line))
 outText CountToken line before key random o = madeText o (countToken program key (fieldIn line))
@@ -204,6 +236,7 @@ errText Erase line o = messageLine o 0
 errText Compact line o = messageLine o 0
 errText Order line o = messageLine o 0
 errText Show line o = messageLine o 0
+errText Check line o = messageLine o 0
 errText (InsertToken p u) line o = messageLine o 0
 errText FindToken line o = messageLine o 0
 errText CountToken line o = messageLine o 0

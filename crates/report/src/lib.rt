@@ -7,7 +7,7 @@ ghost use lib.ListN.{length};
 ghost use Rattle.buffer.specs.Put.{Put};
 ghost use Rattle.lines.specs.Answer.{answerLine};
 ghost use Rattle.messages.specs.Message.{messageLine};
-ghost use Rattle.report.specs.Run.{lent, foundText, countText, Holds};
+ghost use Rattle.report.specs.Run.{lent, foundText, countText, checkText, Holds, Few};
 
 // The outcome, and how many bytes each lent slice holds of what is printed.
 pub struct Ran {
@@ -72,6 +72,24 @@ pub fn told_ids(o: Outcome, ids: &[u8], out: &mut [u8], err: &mut [u8]) -> Ran
         return answered(o, 0, out, err);
     };
     let k = lines::ids(ids, n as usize, out);
+    Ran {
+        outcome: o,
+        out: k,
+        err: 0,
+    }
+}
+
+// What a check counted, in lines; or its refusal. [check:12]
+pub fn told_faults(o: Outcome, out: &mut [u8], err: &mut [u8]) -> Ran
+    requires { ⌜ (Few o) × ((4096 ≤ length (now out)) × (256 ≤ length (now err))) ⌝ }
+    ensures { λ r. ⌜ r .outcome ≡ o ⌝ }
+    ensures { λ r. ⌜ Put (now (out .entry)) 0 (checkText o) (now (out .exit)) (r .out) ⌝ }
+    ensures { λ r. ⌜ Put (now (err .entry)) 0 (messageLine o 0) (now (err .exit)) (r .err) ⌝ }
+{
+    let Outcome::Inspected(f) = o else {
+        return answered(o, 0, out, err);
+    };
+    let k = diagnosis::faults(f, out);
     Ran {
         outcome: o,
         out: k,
