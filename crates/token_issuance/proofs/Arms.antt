@@ -12,21 +12,22 @@ use Rattle.client.specs.Making.{makingAnswer, makingToken}
 use Rattle.outcome.specs.Told.{told}
 use Rattle.outcome.proofs.Outcome.{the-type as outcome}
 use Rattle.outcome.specs.declared.Outcome.{Outcome}
-use Rattle.outcome.specs.declared.Outcome.the-variants.{Number, Counted, Compacted, Damaged, WrongKey, Refused, Done, BadWords}
+use Rattle.outcome.specs.declared.Outcome.the-variants.{Number, Counted, Inspected, Compacted, Damaged, WrongKey, Refused, Done, BadWords}
 use Rattle.lines.specs.Answer.{answerLine}
 use Rattle.lines.specs.Ids.{hexLine}
 use Rattle.report.proofs.Found.{never-done}
 use Rattle.report.specs.Run.{madeText}
 
 -- every outcome of a token's making but that it was made is told by its line
-pub unmade : (o : Outcome) (token : List ℕ) → OneOf (0 ∷ 1 ∷ 2 ∷ 3 ∷ 4 ∷ 5 ∷ 7 ∷ []) (tagOf outcome o) → answerLine o ≡ madeText o token
+pub unmade : (o : Outcome) (token : List ℕ) → OneOf (0 ∷ 1 ∷ 2 ∷ 3 ∷ 4 ∷ 5 ∷ 6 ∷ 8 ∷ []) (tagOf outcome o) → answerLine o ≡ madeText o token
 unmade (Number n) token h = refl
 unmade (Counted n rows) token h = refl
+unmade (Inspected f) token h = refl
 unmade (Compacted t) token h = refl
 unmade (Damaged t) token h = refl
 unmade (WrongKey t) token h = refl
 unmade (Refused r room) token h = refl
-unmade Done token h = absurd (miss (0 ∷ 1 ∷ 2 ∷ 3 ∷ 4 ∷ 5 ∷ 7 ∷ []) 6 tt h)
+unmade Done token h = absurd (miss (0 ∷ 1 ∷ 2 ∷ 3 ∷ 4 ∷ 5 ∷ 6 ∷ 8 ∷ []) 7 tt h)
 unmade BadWords token h = refl
 
 -- what a making told stands for the token that was written; its length is the array's
@@ -34,6 +35,7 @@ module _ (tests : List Test) (token given after : List ℕ) (e : after ≡ makin
   pub made-text : (o : Outcome) → told o ≡ makingAnswer tests → madeText o after ≡ madeText o token
   made-text (Number n) h = refl
   made-text (Counted n rows) h = refl
+  made-text (Inspected f) h = refl
   made-text (Compacted t) h = refl
   made-text (Damaged t) h = refl
   made-text (WrongKey t) h = refl
