@@ -5,7 +5,7 @@
   tool.py --kills N       with as many interrupted runs (default 1000; 300 where they take more than a minute)
   tool.py --only NAME     one test, by the name that its last line has
 
-Tests: the worked list of document 01 ('A day in the ledger'), ids with several entries, the rows a count looks at, finds by several fields, rows in byte order, bad words, office and server
+Tests: the worked list of document 01 ('A day in the ledger'), ids with several entries, the rows a count looks at, finds by several fields, rows in byte order, faults that a check counts, bad words, office and server
 apart, files that are no store, stores of version 1, refusals from the state, the largest store on a small stack, a disk that is full, a folder that cannot
 be written, no randomness, links, owner and mode, what a lock says, several tools at once, each call of the
 system failing or never reached, every state that a power cut may leave, and runs interrupted by kill -9. What
@@ -328,7 +328,7 @@ def old_stores(b):
     for name, store in version1.stores().items():
         b.store.write_bytes(store)
         for words in (["insert", "store", "key", "hue", "red", 0, ident(1)], ["find", "store", "key", "hue", "red"], ["find", "store", "key", "hue", "red", "size", "L"],
-                      ["count", "store", "key", "hue", "red"], ["erase", "store", ident(1)], ["compact", "store", "key"], ["order", "store"], ["show", "store"]):
+                      ["count", "store", "key", "hue", "red"], ["erase", "store", ident(1)], ["compact", "store", "key"], ["order", "store"], ["show", "store"], ["check", "store"]):
             b.refused(words, "refused 10", "10: this is a store of version 1, which an earlier mazhkuri made: make a new one with mazhkuri new, and insert the ids again\n")
 
 
@@ -427,7 +427,7 @@ def in_order(b):
 
     def others(share=0):
         return [["insert", "store", "key", "hue", "red", share, ident(1)], ["find", "store", "key", "hue", "red"],
-                ["count", "store", "key", "hue", "red"], ["erase", "store", ident(1)], ["compact", "store", "key"], ["show", "store"]]
+                ["count", "store", "key", "hue", "red"], ["erase", "store", ident(1)], ["compact", "store", "key"], ["show", "store"], ["check", "store"]]
 
     def mode():
         return stat.S_IMODE(b.store.stat().st_mode)
@@ -494,6 +494,180 @@ def in_order(b):
             b.refused(words, "refused 11", "11: ")
 
 
+# What a check prints of each kind of fault: its line, and under it what follows where there are any.
+FAULTS = (("entries (M) whose tag an earlier entry has", "a find gives only the first entry of a tag, so a document may be missing from it, and an erase of one takes the others too"),
+          ("counters (C) whose tag an earlier counter has", "make no insert: only the first counter of a tag is read, so a count may be wrong, and an insert may take an address in use and hide a document from finds"),
+          ("reverse rows (V) whose tag no entry has", "a find does not give these entries, though an erase of their ids still counts them"),
+          ("entries (M) whose tag no reverse row has", "no erase takes these entries, so a find may give a document that was erased"),
+          ("reverse rows (V) whose id no label has", "a find by several fields leaves these documents out, and a test of them says no"),
+          ("labels (R) whose id no reverse row has", "a test may say yes of a document that has no entry, and an erase of its id frees these labels and answers 0"),
+          ("labels (R) more than reverse rows (V)", "an id has more labels than entries: a find by several fields may give it under a field that it is not under, and 21 may refuse inserts early"))
+SOUND = (0,) * 7
+
+
+def check_lines(*numbers):
+    """What a check prints that counts so many of each kind."""
+    lines = []
+    for (what, means), n in zip(FAULTS, numbers, strict=True):
+        lines.append(f"{what}: {n}")
+        lines += [f"  {means}: restore a copy in which check counts none, then make the later inserts and erases again"] * (n > 0)
+    return "".join(line + "\n" for line in lines) + f"faults: {sum(numbers)}\n"
+
+
+def rows_in(store):
+    """The used rows of each table."""
+    return {name: [scheme.row(store, t, i) for i in scheme.used(store, t)] for name, t in scheme.tables(store).items()}
+
+
+def with_tables(store, **tables):
+    """The store with these used rows in some of its tables, in form."""
+    store = bytearray(store)
+    for name, rows in tables.items():
+        t = scheme.tables(store)[name]
+        form.written(store, t, sorted(rows) + [bytes(t.width)] * (t.rows - len(rows)))
+    expect(form.in_form(store), "the rows made by hand are not in form")
+    return bytes(store)
+
+
+def numbers_of(store):
+    """What a check has to count, row by row."""
+    rows = rows_in(store)
+    M, C, tags = [r[1:33] for r in rows["M"]], [r[1:33] for r in rows["C"]], [r[17:49] for r in rows["V"]]
+    V, R = [r[1:17] for r in rows["V"]], [r[1:17] for r in rows["R"]]
+
+    def lacking(these, those):
+        return sum(x not in set(those) for x in these)
+
+    return (len(M) - len(set(M)), len(C) - len(set(C)), lacking(tags, M), lacking(M, tags), lacking(V, R), lacking(R, V), max(0, len(R) - len(V)))
+
+
+class Checker:
+    """A bench whose store is checked: by the program, which leaves every file as it was, and through the front, for its exit status."""
+
+    def __init__(self, b):
+        self.b = b
+
+    def status(self, *words):
+        run = subprocess.run(["sh", HERE.parent / "front" / "mazhkuri", *words], cwd=self.b.folder, capture_output=True, text=True,
+                             env={**os.environ, "MAZHKURI_PROGRAM": str(self.b.program)}, timeout=60)
+        expect((run.stdout, run.stderr) == self.b.run(*words), f"{words}: the front prints something else: {run}")
+        return run.returncode
+
+    def counts(self, what, *numbers):
+        b, state = self.b, (self.b.files(), self.b.store.stat().st_mtime_ns, self.b.store.stat().st_ino)
+        expect(numbers_of(b.store.read_bytes()) == numbers, f"{what}: the test counts {numbers_of(b.store.read_bytes())}, expected {numbers}")
+        expect(b.answer("check", "store") == check_lines(*numbers), f"{what}: a check prints {b.answer('check', 'store')!r}")
+        expect(self.status("check", "store") == (1 if any(numbers) else 0), f"{what}: the status of a check")
+        expect((b.files(), b.store.stat().st_mtime_ns, b.store.stat().st_ino) == state, f"{what}: a check changed a file, or left one")
+
+    def counts_of(self, what, store, *numbers):
+        self.b.store.write_bytes(store)
+        self.counts(what, *numbers)
+
+
+def checked(b):
+    """A check prints how many rows of each kind do not go together, under each kind that is there what it means, and last how many
+    there are; the front makes a status of that. None are there after any list of commands. Each kind made by hand alone, several
+    at once, tags and ids that differ in their last byte, the last rows of full tables; each sentence is tried, and an insert at an
+    address in use is seen."""
+    c, r = Checker(b), random.Random(11)
+    A, B, C, X = (ident(n) for n in range(4))
+    size, both = ("size", "L"), [("size", "L")] * 2
+    c.counts("a fresh store", *SOUND)
+    for words in (["insert", "store", "key", "hue", "red", 0, A, B, A], ["insert", "store", "key", *size, 1, B, C], ["insert", "store", "key", "hue", "red", 0, X],
+                  ["erase", "store", X], ["compact", "store", "key"], ["insert", "store", "key", "hue", "red", 1, X, X], ["erase", "store", X]):
+        b.answer(*words)
+        c.counts(f"after {words}", *SOUND)
+    good = b.store.read_bytes()
+    M, V, K, R = (rows_in(good)[name] for name in "MVCR")
+
+    def of(id, rows):
+        return [row for row in rows if row[1:17].hex() == id]
+
+    def but(rows, gone):
+        return [row for row in rows if row not in gone]
+
+    # each kind alone; then what its sentence says
+    twin = M[2][:33] + r.randbytes(28)
+    c.counts_of("an entry's tag twice", with_tables(good, M=M + [twin]), 1, 0, 0, 0, 0, 0, 0)
+    c.counts_of("an entry's tag three times", with_tables(good, M=M + [twin, twin]), 2, 0, 0, 0, 0, 0, 0)
+    c.counts_of("a counter's tag twice", with_tables(good, C=K + [K[0][:33] + r.randbytes(28)]), 0, 1, 0, 0, 0, 0, 0)
+    tag = of(C, V)[0][17:49]
+    bare = [row for row in M if row[1:33] != tag]
+    c.counts_of("a reverse row without its entry", with_tables(good, M=bare), 0, 0, 1, 0, 0, 0, 0)
+    expect(b.found(*size) == [B] and b.answer("erase", "store", C) == "1\n", "a find gives an entry that is gone, or an erase does not count it")
+    c.counts_of("an entry without its reverse row", with_tables(good, V=but(V, of(C, V)), R=but(R, of(C, R))), 0, 0, 0, 1, 0, 0, 0)
+    expect(b.answer("erase", "store", C) == "0\n" and b.found(*size) == [B, C], "an erase takes an entry without a reverse row")
+    c.counts_of("a reverse row without its label", with_tables(good, R=but(R, of(C, R))), 0, 0, 0, 0, 1, 0, 0)
+    expect(b.found(*size) == [B, C] and b.found_by(*both) == [B], "a find by several fields gives an id without a label")
+    c.counts_of("a label of no document", with_tables(good, R=but(R, of(A, R)[:1]) + [b"\1" + bytes.fromhex(X) + of(A, R)[0][17:]]), 0, 0, 0, 0, 0, 1, 0)
+    expect(b.answer("erase", "store", X) == "0\n", "an erase counts a label")
+    c.counts("a label of no document, erased", *SOUND)
+    c.counts_of("a label too many", with_tables(good, R=R + [of(A, R)[0][:17] + r.randbytes(44)]), 0, 0, 0, 0, 0, 0, 1)
+    c.counts_of("a reverse row gone", with_tables(good, V=but(V, of(C, V))), 0, 0, 0, 1, 0, 1, 1)
+    c.counts_of("all entries gone", with_tables(good, M=[]), 0, 0, 5, 0, 0, 0, 0)
+    c.counts_of("all labels gone", with_tables(good, R=[]), 0, 0, 0, 0, 5, 0, 0)
+    c.counts_of("entries and labels alone", with_tables(good, V=[]), 0, 0, 0, 5, 0, 5, 5)
+
+    # tags, or ids, that differ in their last byte are two; so are those that differ in the first
+    def near(row, at):
+        return row[:at] + bytes([row[at] ^ 1]) + row[at + 1:]
+
+    for at in (1, 32):
+        c.counts_of("two counters' tags near", with_tables(good, C=K + [near(K[0], at)]), *SOUND)
+        c.counts_of("two entries' tags near", with_tables(good, M=M + [near(M[0], at)]), 0, 0, 0, 1, 0, 0, 0)
+    for at in (17, 48):
+        c.counts_of("two reverse rows' tags near", with_tables(good, V=V + [near(V[0], at)]), 0, 0, 1, 0, 0, 0, 0)
+    for at in (1, 16):
+        c.counts_of("two reverse rows' ids near", with_tables(good, V=V + [near(V[0], at)]), 0, 0, 0, 0, 1, 0, 0)
+        c.counts_of("two labels' ids near", with_tables(good, R=R[1:] + [near(R[0], at)]), *numbers_of(with_tables(good, R=R[1:] + [near(R[0], at)])))
+
+    # several at once, in tables that are empty, full, or in between: the last row is looked at too
+    met = [0] * 7
+    for _ in range(120):
+        few = [b"".join(r.choices((b"\0", b"\x7f", b"\x80", b"\xff"), k=2)) for _ in range(r.randint(1, 6))]
+        tags, ids = [x * 16 for x in few] + [x * 15 + b"\0\1" for x in few], [x * 8 for x in few] + [x * 7 + b"\0\1" for x in few]
+        store = with_tables(good, **{name: [b"\1" + make() for _ in range(r.choice((0, t.rows, r.randint(0, t.rows))))] for name, t, make in (
+            ("M", scheme.tables(good)["M"], lambda: r.choice(tags) + r.randbytes(28)), ("V", scheme.tables(good)["V"], lambda: r.choice(ids) + r.choice(tags)),
+            ("C", scheme.tables(good)["C"], lambda: r.choice(tags) + r.randbytes(28)), ("R", scheme.tables(good)["R"], lambda: r.choice(ids) + r.randbytes(44)))})
+        b.store.write_bytes(store)
+        numbers = numbers_of(store)
+        expect(b.answer("check", "store") == check_lines(*numbers), f"rows by chance: expected {numbers}, printed {b.answer('check', 'store')!r}")
+        met = [m + (n > 0) for m, n in zip(met, numbers)]
+    expect(min(met) > 20, f"rows by chance met the kinds only {met} times")
+
+    # counters and log of an older copy: nothing is seen yet, but the next insert takes an address in use
+    b.store.write_bytes(good)
+    D, E = ident(5), ident(6)
+    b.answer("insert", "store", "key", "hue", "red", 0, D)
+    new = b.store.read_bytes()
+    c.counts_of("tables of two copies", with_tables(new, C=rows_in(good)["C"], S=rows_in(good)["S"]), *SOUND)
+    expect(b.answer("insert", "store", "key", "hue", "red", 0, E) == "5\n", "an insert at an address in use")
+    c.counts("an insert at an address in use", 1, 0, 0, 0, 0, 0, 0)
+    found = b.found()
+    expect((D in found) != (E in found) and len(found) == 3, f"a find gives {found} of an address with two entries")
+    for id, other in ((D, E), (E, D)):
+        left = b.store.read_bytes()
+        expect(b.answer("erase", "store", id) == "1\n" and other not in b.found(), "an erase leaves the other entry of an address")
+        c.counts("one of two entries at an address erased", 0, 0, 1, 0, 0, 0, 0)
+        b.store.write_bytes(left)
+
+    # no lock is made, and none is heeded; nothing but the store is opened, and it alone is read
+    b.store.write_bytes(good)
+    (b.folder / "store.lock").write_text("1 elsewhere\n")
+    c.counts("a store that is locked", *SOUND)
+    (b.folder / "store.lock").unlink()
+    if shim:
+        calls = [[call.name for call in b.watched([command, "store"])[3]] for command in ("check", "show")]
+        expect(calls[0] == calls[1], f"a check makes the calls {calls[0]}, a show {calls[1]}")
+    # refused, bad words, a failure: the statuses
+    for content, number in ((good[:-1], 10), (good[:10] + b"\2" + good[11:], 11), (out_of_form(good), 20)):
+        b.store.write_bytes(content)
+        b.refused(["check", "store"], f"refused {number}", f"{number}: ")
+        expect(c.status("check", "store") == 1, f"the status of a check that is refused by {number}")
+    expect(c.status("check") == 2 and c.status("check", "store", "key") == 2 and c.status("check", "nowhere") == 3, "the status of a check that is not done")
+
+
 def bad_words(b):
     a = ident(1)
     b.refused([], "misused", "expected: a command of: new")
@@ -505,6 +679,9 @@ def bad_words(b):
     for words in (["order"], ["order", "store", "key"], ["order", "store", a], ["order", "store", "--token", a]):
         b.refused(words, "misused", "expected: mazhkuri order STORE")
     expect("mazhkuri order STORE" in b.answer("help", "order"), "help of order")
+    for words in (["check"], ["check", "store", "key"], ["check", "store", "--token", a], ["check", "store", "--rows"]):
+        b.refused(words, "misused", "expected: mazhkuri check STORE: ")
+    expect(b.answer("help", "check").startswith("mazhkuri check STORE: "), "help of check")
     b.refused(["insert", "store", "key", "hue", "red", 0], "refused 5", "5: an insert takes 1 to 64 ids")
     b.refused(["insert", "store", "key", "hue", "red", 0] + [a] * 65, "refused 5", "5: ")
     b.refused(["insert", "store", "key", "hue", "red", 2, a], "refused 3", "3: SHARE must be 0 to 1")
@@ -521,7 +698,7 @@ def bad_words(b):
     b.refused(["count", "store", "key", "hue", "v" * 70000], "failed", "\n")
     expect(b.answer("count", "store", "key", "f" * 255, "v" * 1024) == "0\n", "the longest field")
     for path in ("s" * n for n in (4090, 4096, 4097)):
-        for words in (["show", path], ["find", "store", path, "hue", "red"], ["erase", path, a], ["order", path], ["insert", path, "key", "hue", "red", 0, a],
+        for words in (["show", path], ["check", path], ["find", "store", path, "hue", "red"], ["erase", path, a], ["order", path], ["insert", path, "key", "hue", "red", 0, a],
                       ["compact", path, "key"], ["new", path, 1, 4, 4, 4, 4], ["key", path]):
             b.refused(words, "failed", "File name too long")
     b.refused(["new", "store", 1, 4, 4, 4, 4], "failed", "there already")
@@ -629,7 +806,7 @@ def no_stores(b):
     """Files that are no store: refused by 10 or 11, and left as they are [01:RS2 RS3]."""
     good = b.store.read_bytes()
     commands = [["insert", "store", "key", "hue", "red", 0, ident(1)], ["find", "store", "key", "hue", "red"],
-                ["count", "store", "key", "hue", "red"], ["erase", "store", ident(1)], ["compact", "store", "key"], ["order", "store"], ["show", "store"],
+                ["count", "store", "key", "hue", "red"], ["erase", "store", ident(1)], ["compact", "store", "key"], ["order", "store"], ["show", "store"], ["check", "store"],
                 ["find", "store", "key", "hue", "red", "size", "L"]]
     foreign = random.Random(1).randbytes(len(good))
     for content in (b"", good[:1], good[:8], good[:9], good[:10], good[:-1], good + b"\0", b"\0" + good[1:], b"\3" + good[1:], b"\2\20" + good[2:], good[:8] + b"\0\0" + good[10:],
@@ -739,6 +916,7 @@ def small_stack(b):
     b.store.write_bytes(full)
     expect(b.run("count", "store", "key", "hue", "red", **limit)[0] == "refused 20\n", "20 on a full store")
     expect(b.run("order", "store", **limit) == ("20480\n", "") and b.store.read_bytes() == wanted, "an order of a full store with a small stack")
+    expect(b.run("check", "store", **limit) == (check_lines(0, 0, 4096, 4096, 4096, 4096, 0), ""), "a check of a full store with a small stack")
     b.store.write_bytes(fresh)
     # counts that sum to either side of the rows of the largest table: a find then keeps another number of ids
     fresh, model, key = b.store.read_bytes(), scheme.Scheme(Real), b.key.read_bytes()
@@ -1309,7 +1487,7 @@ def main():
     global shim
     if not BUILT.exists():
         sys.exit("tests/tool.py: there is no target/bin/mazhkuri: run `rt check mazhkuri` first")
-    tests = [("the worked list", worked_list, [1, 4, 4, 4, 4]), ("ids with several entries", each_once, [1, 150, 20, 20, 150]), ("finds by several fields", several_fields, [1, 20, 12, 12, 12]), ("counts with rows", with_rows, [1, 64, 24, 64, 64]), ("rows in byte order", in_order, [1, 8, 8, 8, 8]), ("bad words", bad_words, [1, 4, 4, 4, 4]), ("office and server", halves, [1, 8, 8, 8, 8]), ("files that are no store", no_stores, [1, 4, 4, 4, 4]),
+    tests = [("the worked list", worked_list, [1, 4, 4, 4, 4]), ("ids with several entries", each_once, [1, 150, 20, 20, 150]), ("finds by several fields", several_fields, [1, 20, 12, 12, 12]), ("counts with rows", with_rows, [1, 64, 24, 64, 64]), ("rows in byte order", in_order, [1, 8, 8, 8, 8]), ("a check", checked, [1, 12, 8, 8, 12]), ("bad words", bad_words, [1, 4, 4, 4, 4]), ("office and server", halves, [1, 8, 8, 8, 8]), ("files that are no store", no_stores, [1, 4, 4, 4, 4]),
              ("stores of version 1", old_stores, [1, 4, 4, 4, 4]),
              ("refusals from the state", states, [0, 8, 4, 2, 8]), ("the largest store", small_stack, [15, 4096, 4096, 4096, 4096]),
              ("writes that fail", lambda b: (b.answer("insert", "store", "key", "hue", "red", 0, ident(1)), no_room(b)), [1, 8, 8, 8, 8]),
