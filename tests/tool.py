@@ -501,7 +501,7 @@ FAULTS = (("entries (M) whose tag an earlier entry has", "a find gives only the 
           ("entries (M) whose tag no reverse row has", "no erase takes these entries, so a find may give a document that was erased"),
           ("reverse rows (V) whose id no label has", "a find by several fields leaves these documents out, and a test of them says no"),
           ("labels (R) whose id no reverse row has", "a test may say yes of a document that has no entry, and an erase of its id frees these labels and answers 0"),
-          ("labels (R) more than reverse rows (V)", "an id has more labels than entries: a find by several fields may give it under a field that it is not under, and 21 may refuse inserts early"))
+          ("labels (R) more than reverse rows (V)", "an id has more labels than reverse rows: a find by several fields may give it under a field that it is not under, and 21 may refuse inserts early"))
 SOUND = (0,) * 7
 
 

@@ -40,7 +40,7 @@ labelLines f =
     ++ (faultLine (ascii "labels (R) whose id no reverse row has: ") (f .rv)
     (ascii "  a test may say yes of a document that has no entry, and an erase of its id frees these labels and answers 0")
     ++ faultLine (ascii "labels (R) more than reverse rows (V): ") (f .excess)
-    (ascii "  an id has more labels than entries: a find by several fields may give it under a field that it is not under, and 21 may refuse inserts early"))
+    (ascii "  an id has more labels than reverse rows: a find by several fields may give it under a field that it is not under, and 21 may refuse inserts early"))
 
 -- how many there are, of all kinds
 abbrev pub totalOf : Faults → ℕ

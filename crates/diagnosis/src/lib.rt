@@ -27,8 +27,8 @@ const NO_LABEL: [u8; 81] =
 const NO_DOCUMENT: [u8; 109] =
     *b"  a test may say yes of a document that has no entry, and an erase of its id frees these labels and answers 0";
 
-const EXCESS: [u8; 142] =
-    *b"  an id has more labels than entries: a find by several fields may give it under a field that it is not under, and 21 may refuse inserts early";
+const EXCESS: [u8; 147] =
+    *b"  an id has more labels than reverse rows: a find by several fields may give it under a field that it is not under, and 21 may refuse inserts early";
 
 const RESTORE: [u8; 90] =
     *b": restore a copy in which check counts none, then make the later inserts and erases again\n";
