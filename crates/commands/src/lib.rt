@@ -22,6 +22,7 @@ use outcome::Outcome;
 use outcome::of_compaction;
 use outcome::of_completion;
 use outcome::of_counted;
+use outcome::of_inspected;
 use outcome::of_tallied;
 use store::Checked;
 
@@ -150,4 +151,13 @@ pub fn order(store: &mut [u8]) -> Outcome
 {
     let room = advice::room_in(store);
     of_counted(calls::order(store), room)
+}
+
+// Counts the rows of a store that do not go together. [check:1]
+pub fn check(store: &[u8]) -> Outcome
+    ensures { λ o. ⌜ told o ≡ perform program Call.check (now (store .entry)) .answer ⌝ }
+    ensures { λ o. ⌜ Roomed (now (store .entry)) o ⌝ }
+{
+    let room = advice::room_in(store);
+    of_inspected(calls::check(store), room)
 }

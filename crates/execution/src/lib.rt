@@ -5,6 +5,7 @@ use report::Ran;
 use report::answered;
 use report::blank;
 use report::told_count;
+use report::told_faults;
 use report::told_ids;
 use request::Request;
 use store::Checked;
@@ -125,4 +126,13 @@ pub fn show(store: &[u8], out: &mut [u8], err: &mut [u8]) -> Ran
             }
         }
     }
+}
+
+// What can be seen of a store without a key. [check:12]
+pub fn check(store: &[u8], out: &mut [u8], err: &mut [u8]) -> Ran
+    requires { ⌜ (4096 ≤ length (now out)) × (256 ≤ length (now err)) ⌝ }
+    ensures { λ r. ⌜ Ends Request.Check [] (now (store .entry)) [] [] (now (out .entry)) (now (err .entry)) r (now (store .entry)) (now (out .exit)) (now (err .exit)) ⌝ }
+{
+    let o = commands::check(store);
+    told_faults(o, out, err)
 }

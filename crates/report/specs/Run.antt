@@ -14,7 +14,6 @@ use Rattle.scheme.specs.Insert
 use Rattle.scheme.specs.Find
 use Rattle.scheme.specs.Count
 use Rattle.scheme.specs.Compaction
-use Rattle.scheme.specs.Check.{check}
 use Rattle.suite.specs.Program.{program}
 use Rattle.client.specs.Making.{fieldOf, makingAnswer}
 use Rattle.store.specs.Check.{checkedOf}
@@ -91,7 +90,7 @@ module _ (line before key random : List ℕ) where
   Performed Order o after =
       (told o ≡ perform program Call.order before .answer) × ((after ≡ perform program Call.order before .store) × Roomed before o)
   Performed Show o after = (o ≡ showOf before) × (after ≡ before)
-  Performed Check o after = (told o ≡ check before .answer) × ((after ≡ before) × Roomed before o)
+  Performed Check o after = (told o ≡ perform program Call.check before .answer) × ((after ≡ before) × Roomed before o)
   Performed (InsertToken p u) o after =
       (told o ≡ makingAnswer (insertTokenTests key (fieldIn line) p u random)) × ((o ≡ withRoom (roomFor p) o) × (after ≡ before))
   Performed FindToken o after =
