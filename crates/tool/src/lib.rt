@@ -21,7 +21,7 @@ ghost use Rattle.report.specs.Run.{badWord, Ends};
 
 // What `help` prints.
 fn help(c: Command, out: &mut [u8]) -> Ran
-    requires { ⌜ 1600 ≤ length (now out) ⌝ }
+    requires { ⌜ 1800 ≤ length (now out) ⌝ }
     ensures { λ r. ⌜ (r .outcome ≡ Outcome.Done) × (r .err ≡ 0) ⌝ }
     ensures { λ r. ⌜ Put (now (out .entry)) 0 (helpText c) (now (out .exit)) (r .out) ⌝ }
 {
@@ -111,6 +111,7 @@ pub fn run(
         Request::Compact => { report::answered(commands::compact(store, key, random), 0, out, err) }
         Request::Order => execution::order(store, out, err),
         Request::Show => execution::show(store, out, err),
+        Request::Check => execution::check(store, out, err),
         Request::InsertToken { p, u } => token_issuance::insert_token(
             line,
             p,

@@ -6,7 +6,7 @@ use Rattle.words.proofs.Lines.{word-short}
 use Rattle.request.specs.Request.{Bounded}
 use Rattle.request.specs.declared.Request.the-variants.{New, Key, Compact}
 use Rattle.outcome.specs.declared.Outcome.the-variants.{Done}
-use Rattle.report.proofs.Arms.{arm, ended, helped, complained, no-number, no-id, found-any, counted-any, erased-any, ordered-any, shown-any, found-by-any, counted-by-any, insert-token-any, find-token-any, count-token-any, compaction-token-any}
+use Rattle.report.proofs.Arms.{arm, ended, helped, complained, no-number, no-id, found-any, counted-any, erased-any, ordered-any, shown-any, checked-any, found-by-any, counted-by-any, insert-token-any, find-token-any, count-token-any, compaction-token-any}
 use borrow.Author.Needs.{needs}
 use Rattle.tool.proofs.run.Statement.{statement}
 use Rattle.tool.proofs.run.Tie as tie
@@ -66,30 +66,33 @@ returns-13 : tie.Need-returns-13
 returns-13 c = arm (sym (c .before .before .before .before .before .before .before .before .before .before .read .ensures .0) ∙ c .before .before .before .before .before .before .before .before .enum-told5 .given .1) (shown-any (c .before .before .before .before .before .before .before .before .before .before .before .before .before .before .before .before .before .args .random .now) (c .before .before .before .before .show .ensures))
 
 returns-14 : tie.Need-returns-14
-returns-14 c = arm (sym (c .before .before .before .before .before .before .before .before .before .before .read .ensures .0) ∙ c .before .before .before .before .before .before .before .before .q9 .given .1) (insert-token-any (c .before .before .before .before .before .before .before .before .before .before .before .before .before .before .before .before .before .args .store .now) (c .before .before .before .before .insert-token .ensures))
+returns-14 c = arm (sym (c .before .before .before .before .before .before .before .before .before .before .read .ensures .0) ∙ c .before .before .before .before .before .before .before .before .enum-told6 .given .1) (checked-any (c .before .before .before .before .before .before .before .before .before .before .before .before .before .before .before .before .before .args .random .now) (c .before .before .before .before .check .ensures))
 
 returns-15 : tie.Need-returns-15
-returns-15 c = arm (sym (c .before .before .before .before .before .before .before .before .before .read .ensures .0) ∙ c .before .before .before .before .before .before .before .enum-told6 .given .1) (find-token-any (c .before .before .before .before .before .before .before .before .before .before .before .before .before .before .before .before .args .store .now) (c .before .before .before .before .before .before .before .before .before .before .before .before .before .before .before .before .args .random .now) (c .before .before .before .before .find-token .ensures))
+returns-15 c = arm (sym (c .before .before .before .before .before .before .before .before .before .before .read .ensures .0) ∙ c .before .before .before .before .before .before .before .before .q9 .given .1) (insert-token-any (c .before .before .before .before .before .before .before .before .before .before .before .before .before .before .before .before .before .args .store .now) (c .before .before .before .before .insert-token .ensures))
 
 returns-16 : tie.Need-returns-16
-returns-16 c = arm (sym (c .before .before .before .before .before .before .before .before .before .read .ensures .0) ∙ c .before .before .before .before .before .before .before .enum-told7 .given .1) (count-token-any (c .before .before .before .before .before .before .before .before .before .before .before .before .before .before .before .before .args .store .now) (c .before .before .before .before .before .before .before .before .before .before .before .before .before .before .before .before .args .random .now) (c .before .before .before .before .count-token .ensures))
+returns-16 c = arm (sym (c .before .before .before .before .before .before .before .before .before .read .ensures .0) ∙ c .before .before .before .before .before .before .before .enum-told7 .given .1) (find-token-any (c .before .before .before .before .before .before .before .before .before .before .before .before .before .before .before .before .args .store .now) (c .before .before .before .before .before .before .before .before .before .before .before .before .before .before .before .before .args .random .now) (c .before .before .before .before .find-token .ensures))
 
 returns-17 : tie.Need-returns-17
-returns-17 c = arm (sym (c .before .before .before .before .before .before .before .before .before .read .ensures .0) ∙ c .before .before .before .before .before .before .before .enum-told8 .given .1) (compaction-token-any (c .before .before .before .before .before .before .before .before .before .before .before .before .before .before .before .before .args .store .now) (c .before .before .before .before .before .before .before .before .before .before .before .before .before .before .before .before .args .random .now) (c .before .before .before .before .compaction-token .ensures))
+returns-17 c = arm (sym (c .before .before .before .before .before .before .before .before .before .read .ensures .0) ∙ c .before .before .before .before .before .before .before .enum-told8 .given .1) (count-token-any (c .before .before .before .before .before .before .before .before .before .before .before .before .before .before .before .before .args .store .now) (c .before .before .before .before .before .before .before .before .before .before .before .before .before .before .before .before .args .random .now) (c .before .before .before .before .count-token .ensures))
 
 returns-18 : tie.Need-returns-18
-returns-18 c = arm (sym (c .before .before .before .before .before .before .before .before .before .before .before .before .before .read .ensures .0) ∙ c .before .before .before .before .before .before .before .before .before .before .before .q10 .given .1) (c .before .before .before .before .before .before .insert-by .ensures)
+returns-18 c = arm (sym (c .before .before .before .before .before .before .before .before .before .read .ensures .0) ∙ c .before .before .before .before .before .before .before .enum-told9 .given .1) (compaction-token-any (c .before .before .before .before .before .before .before .before .before .before .before .before .before .before .before .before .args .store .now) (c .before .before .before .before .before .before .before .before .before .before .before .before .before .before .before .before .args .random .now) (c .before .before .before .before .compaction-token .ensures))
 
 returns-19 : tie.Need-returns-19
-returns-19 c = arm (sym (c .before .before .before .before .before .before .before .before .before .before .read .ensures .0) ∙ c .before .before .before .before .before .before .before .before .enum-told9 .given .1) (found-by-any (c .before .before .before .before .before .before .before .before .before .before .before .before .before .before .before .before .before .args .random .now) (c .before .before .before .before .find-by .ensures))
+returns-19 c = arm (sym (c .before .before .before .before .before .before .before .before .before .before .before .before .before .read .ensures .0) ∙ c .before .before .before .before .before .before .before .before .before .before .before .q10 .given .1) (c .before .before .before .before .before .before .insert-by .ensures)
 
 returns-20 : tie.Need-returns-20
-returns-20 c = arm (sym (c .before .before .before .before .before .before .before .before .before .before .before .read .ensures .0) ∙ c .before .before .before .before .before .before .before .before .before .q11 .given .1) (counted-by-any (c .before .before .before .before .before .before .before .before .before .before .before .before .before .before .before .before .before .before .args .random .now) (c .before .before .before .before .count-by .ensures))
+returns-20 c = arm (sym (c .before .before .before .before .before .before .before .before .before .before .read .ensures .0) ∙ c .before .before .before .before .before .before .before .before .enum-told10 .given .1) (found-by-any (c .before .before .before .before .before .before .before .before .before .before .before .before .before .before .before .before .before .args .random .now) (c .before .before .before .before .find-by .ensures))
 
 returns-21 : tie.Need-returns-21
-returns-21 c = arm (sym (c .before .before .before .before .before .before .before .before .before .before .before .before .read .ensures .0) ∙ c .before .before .before .before .before .before .before .before .before .before .enum-told10 .given .1) (c .before .before .before .before .before .before .compact-by .ensures)
+returns-21 c = arm (sym (c .before .before .before .before .before .before .before .before .before .before .before .read .ensures .0) ∙ c .before .before .before .before .before .before .before .before .before .q11 .given .1) (counted-by-any (c .before .before .before .before .before .before .before .before .before .before .before .before .before .before .before .before .before .before .args .random .now) (c .before .before .before .before .count-by .ensures))
+
+returns-22 : tie.Need-returns-22
+returns-22 c = arm (sym (c .before .before .before .before .before .before .before .before .before .before .before .before .read .ensures .0) ∙ c .before .before .before .before .before .before .before .before .before .before .enum-told11 .given .1) (c .before .before .before .before .before .before .compact-by .ensures)
 
 pub run-spec : {M : Type 1} → statement M
 run-spec =
     tie.close
-    (tie.spec (λ c κs. search needs) (λ c. search needs) (λ c κs. search needs) (λ c. search needs) (λ c κs. search needs) (λ c. search needs) (λ c. search needs) (λ c κs. search needs) bad-word-requires (λ c. search needs) (λ c. search needs) (λ c κs. search needs) bad-word-requires-2 (λ c. search needs) (λ c κs. search needs) (λ c κs. search needs) (λ c. search needs) (λ c κs. search needs) (λ c. search needs) insert-requires (λ c. search needs) find-requires (λ c. search needs) (λ c κs. search needs) (λ c. search needs) (λ c κs. search needs) (λ c. search needs) (λ c κs. search needs) (λ c κs. search needs) (λ c. search needs) (λ c κs. search needs) (λ c. search needs) (λ c κs. search needs) (λ c. search needs) (λ c κs. search needs) (λ c. search needs) (λ c κs. search needs) (λ c. search needs) (λ c κs. search needs) (λ c. search needs) (λ c κs. search needs) (λ c. search needs) insert-by-requires (λ c. search needs) (λ c κs. search needs) (λ c. search needs) (λ c κs. search needs) (λ c. search needs) (λ c κs. search needs) (λ c. search needs) returns (λ c. search needs) (λ c. search needs) returns-2 (λ c. search needs) (λ c. search needs) returns-3 (λ c. search needs) (λ c. search needs) returns-4 (λ c. search needs) (λ c. search needs) (λ c. search needs) returns-5 (λ c. search needs) (λ c. search needs) returns-6 (λ c. search needs) (λ c. search needs) (λ c. search needs) returns-7 (λ c. search needs) (λ c. search needs) (λ c. search needs) returns-8 (λ c. search needs) (λ c. search needs) (λ c. search needs) returns-9 (λ c. search needs) (λ c. search needs) (λ c. search needs) returns-10 (λ c. search needs) (λ c. search needs) (λ c. search needs) returns-11 (λ c. search needs) (λ c. search needs) (λ c. search needs) returns-12 (λ c. search needs) (λ c. search needs) (λ c. search needs) returns-13 (λ c. search needs) (λ c. search needs) returns-14 (λ c. search needs) (λ c. search needs) returns-15 (λ c. search needs) (λ c. search needs) returns-16 (λ c. search needs) (λ c. search needs) returns-17 (λ c. search needs) (λ c. search needs) (λ c. search needs) returns-18 (λ c. search needs) (λ c. search needs) (λ c. search needs) returns-19 (λ c. search needs) (λ c. search needs) (λ c. search needs) returns-20 (λ c. search needs) (λ c. search needs) (λ c. search needs) returns-21)
+    (tie.spec (λ c κs. search needs) (λ c. search needs) (λ c κs. search needs) (λ c. search needs) (λ c κs. search needs) (λ c. search needs) (λ c. search needs) (λ c κs. search needs) bad-word-requires (λ c. search needs) (λ c. search needs) (λ c κs. search needs) bad-word-requires-2 (λ c. search needs) (λ c κs. search needs) (λ c κs. search needs) (λ c. search needs) (λ c κs. search needs) (λ c. search needs) insert-requires (λ c. search needs) find-requires (λ c. search needs) (λ c κs. search needs) (λ c. search needs) (λ c κs. search needs) (λ c. search needs) (λ c κs. search needs) (λ c κs. search needs) (λ c. search needs) (λ c κs. search needs) (λ c. search needs) (λ c κs. search needs) (λ c. search needs) (λ c κs. search needs) (λ c. search needs) (λ c κs. search needs) (λ c. search needs) (λ c κs. search needs) (λ c. search needs) (λ c κs. search needs) (λ c. search needs) (λ c κs. search needs) (λ c. search needs) insert-by-requires (λ c. search needs) (λ c κs. search needs) (λ c. search needs) (λ c κs. search needs) (λ c. search needs) (λ c κs. search needs) (λ c. search needs) returns (λ c. search needs) (λ c. search needs) returns-2 (λ c. search needs) (λ c. search needs) returns-3 (λ c. search needs) (λ c. search needs) returns-4 (λ c. search needs) (λ c. search needs) (λ c. search needs) returns-5 (λ c. search needs) (λ c. search needs) returns-6 (λ c. search needs) (λ c. search needs) (λ c. search needs) returns-7 (λ c. search needs) (λ c. search needs) (λ c. search needs) returns-8 (λ c. search needs) (λ c. search needs) (λ c. search needs) returns-9 (λ c. search needs) (λ c. search needs) (λ c. search needs) returns-10 (λ c. search needs) (λ c. search needs) (λ c. search needs) returns-11 (λ c. search needs) (λ c. search needs) (λ c. search needs) returns-12 (λ c. search needs) (λ c. search needs) (λ c. search needs) returns-13 (λ c. search needs) (λ c. search needs) (λ c. search needs) returns-14 (λ c. search needs) (λ c. search needs) returns-15 (λ c. search needs) (λ c. search needs) returns-16 (λ c. search needs) (λ c. search needs) returns-17 (λ c. search needs) (λ c. search needs) returns-18 (λ c. search needs) (λ c. search needs) (λ c. search needs) returns-19 (λ c. search needs) (λ c. search needs) (λ c. search needs) returns-20 (λ c. search needs) (λ c. search needs) (λ c. search needs) returns-21 (λ c. search needs) (λ c. search needs) (λ c. search needs) returns-22)
