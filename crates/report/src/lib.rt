@@ -89,10 +89,11 @@ pub fn told_faults(o: Outcome, out: &mut [u8], err: &mut [u8]) -> Ran
     let Outcome::Inspected(f) = o else {
         return answered(o, 0, out, err);
     };
-    let k = diagnosis::faults(f, out);
+    let n = diagnosis::faults(f, out);
+    let m = messages::message(o, 0, err);
     Ran {
         outcome: o,
-        out: k,
-        err: 0,
+        out: n,
+        err: m,
     }
 }

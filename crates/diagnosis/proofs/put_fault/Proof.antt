@@ -6,8 +6,6 @@ use mathlib.Core.List.{List, [], _++_, append-nil}
 use native.Mathlib.Omega.{arith}
 use lib.Dec.{eqb}
 use borrow.Author.Tests.{eq-eqb, ne-eqb}
-use Rattle.text.specs.Ascii.{ascii}
-use Rattle.buffer.specs.Decimal.{counted}
 use Rattle.buffer.proofs.Laws.{then, said}
 use Rattle.diagnosis.specs.Diagnosis.{faultLine}
 use borrow.Author.Needs.{needs}

@@ -1,5 +1,4 @@
 -- Each sum is at most the whole.
-use mathlib.Core.Path.{refl}
 use native.Mathlib.Omega.{arith}
 use borrow.Author.Needs.{needs}
 use Rattle.diagnosis.proofs.total.Statement.{statement}

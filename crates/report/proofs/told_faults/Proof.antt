@@ -1,7 +1,7 @@
 -- Numbers are told by their lines.
-use mathlib.Core.Path.{refl, sym, ap, subst}
+use mathlib.Core.Path.{sym, ap, subst}
 use Rattle.outcome.specs.declared.Outcome.{Outcome}
-use Rattle.buffer.proofs.Laws.{said, nothing}
+use Rattle.buffer.proofs.Laws.{said}
 use Rattle.messages.specs.Message.{messageLine}
 use Rattle.report.specs.Run.{checkText, Few}
 use Rattle.report.proofs.Arms.{uncounted}
@@ -21,12 +21,11 @@ faults-requires c κs =
     (subst Few (c .before .before .o .given .1) (p .0), search needs)
 
 returns-2 : tie.Need-returns-2
-unfolding messageLine
 returns-2 c =
-    let e = c .before .before .before .before .before .o .given .1 in
-    (sym e, (said (sym (ap checkText e)) (c .before .before .faults .ensures), said (sym (ap (λ (z : Outcome). messageLine z 0) e)) (nothing _)))
+    let e = c .before .before .before .before .before .before .before .before .before .o .given .1 in
+    (sym e, (said (sym (ap checkText e)) (c .before .before .before .before .before .before .faults .ensures), said (sym (ap (λ (z : Outcome). messageLine z 0) e)) (c .before .before .message .ensures)))
 
 pub told-faults-spec : {M : Type 1} → statement M
 told-faults-spec =
     tie.close
-    (tie.spec (λ c. search needs) (λ c κs. search needs) (λ c. search needs) (λ c. search needs) returns faults-requires (λ c. search needs) returns-2)
+    (tie.spec (λ c. search needs) (λ c κs. search needs) (λ c. search needs) (λ c. search needs) returns faults-requires (λ c κs. search needs) (λ c. search needs) (λ c. search needs) returns-2)
