@@ -8,10 +8,10 @@ use mathlib.Core.Bool.{Bool, true, false, cond, not, _&&_}
 use mathlib.Core.Option.{Option, none, some}
 use mathlib.Core.List.{List, [], _∷_, _++_, map}
 use lib.Dec.{T, ltb, eqb, lit<, eqb→eq}
-use lib.ListN.{length, take, drop, length-append, length-map}
+use lib.ListN.{length, drop, length-append, length-map}
 use Rattle.answer.specs.Answer.{Answer, done, refused, withoutRows}
 use Rattle.answer.specs.Verdict.{Test, _⇒_, _⇒_carrying_, verdict, answerOr}
-use Rattle.table.specs.Lists.{bit, same, anyOf, allOf, select, sum, upTo, repeatsAfter, repeats, lacking}
+use Rattle.table.specs.Lists.{anyOf, allOf, select, sum, upTo}
 use Rattle.table.specs.Table.{Table, used, lookup}
 use Rattle.table.proofs.Counting.{count-length, count-le, count-select}
 use Rattle.table.proofs.Distinct.{distinct-few}
@@ -23,7 +23,7 @@ use Rattle.chacha20.specs.Call.{cipherTests, cipherAnswer}
 use Rattle.client.specs.Making.{makingAnswer}
 use Rattle.scheme.specs.Labels.{Field}
 use Rattle.scheme.specs.Keys.{insertTokenLength, findTokenLength, countTokenLength, compactionTokenLength, markTokenLength, tokenCL, findCL, partFind}
-use Rattle.scheme.specs.Store.{Sizes, Which, tableM, tableV, tableC, tableS, tableR, widthOf, rowsOf, startOf, makeTests, make, cut, sizesOf, headerBad, markTests, stateTests, entryTag, clIn, reverseTag, reverseId, labelId}
+use Rattle.scheme.specs.Store.{Sizes, Which, tableM, tableV, tableC, tableS, tableR, widthOf, rowsOf, startOf, makeTests, make, cut, sizesOf, headerBad, markTests, stateTests, entryTag, clIn}
 use Rattle.scheme.specs.Reading.{Reading, damage, counter, limit, countOf, damaged, reading}
 use Rattle.scheme.specs.Refusals.{tokenTests, partTests, partsIn, idTests, insertInputTests, compactionInputTests, insertTokenTests, fieldTokenTests, keyTests}
 use Rattle.scheme.specs.Insert.{insertReading, newCount, insertStateTests, insertVerdict, insert}
@@ -34,7 +34,8 @@ use Rattle.scheme.specs.JointFind.{without, partDamaged, partIds, partTest, cho
 use Rattle.scheme.specs.Count.{countVerdict, sumOfCounts, fullCount, count}
 use Rattle.scheme.specs.Compaction.{Treated, byReading, treatAll, logOf, logged, compactVerdict, treated, compact}
 use Rattle.scheme.specs.Order.{usedInAll, orderVerdict, order}
-use Rattle.scheme.specs.Check.{tagsIn, reverseTags, reverseIds, labelIds, repeatedEntries, repeatedCounters, reversesWithoutEntry, entriesWithoutReverse, reversesWithoutLabel, labelsWithoutReverse, labelsInExcess, faults, checkVerdict, check}
+use Rattle.scheme.specs.Check.{faults, checkVerdict, check}
+use Rattle.consistency.proofs.Few.{faults-few}
 use Rattle.scheme.proofs.RowsRead.{full-count}
 use Rattle.suite.specs.Program.{program}
 use Rattle.store.proofs.Laws.{good-header}
@@ -256,46 +257,6 @@ order-fits before =
           gives = one;
         },
       ),
-    )
-
--- no more repeats than rows, nor more that lack
-bit-few : (b : Bool) → bit b ≤ 1
-bit-few true = omega arith
-bit-few false = omega arith
-
-repeats-few : (seen xs : List (List ℕ)) → repeatsAfter seen xs ≤ length xs
-repeats-few seen [] = omega arith
-repeats-few seen (x ∷ xs) = omega (arith, bit-few (anyOf (same x) seen), repeats-few (x ∷ seen) xs)
-
-lacking-few : (xs ys : List (List ℕ)) → lacking xs ys ≤ length xs
-unfolding lacking
-lacking-few xs ys = count-le (λ x. not (anyOf (same x) ys)) xs
-
-faults-few : (before : List ℕ) → headerBad before ≡ false → sum (faults (cut before)) ≤ 7 * 4096
-unfolding faults repeatedEntries repeatedCounters reversesWithoutEntry entriesWithoutReverse reversesWithoutLabel labelsWithoutReverse labelsInExcess repeats
-faults-few before h =
-    let t = cut before .table in
-    let z = good-header before h .range in
-    omega (
-      arith,
-      z .m-most,
-      z .c-most,
-      z .r-most,
-      used-most before tableM,
-      used-most before tableV,
-      used-most before tableC,
-      used-most before tableR,
-      length-map (used (t tableM)) (take 32),
-      length-map (used (t tableC)) (take 32),
-      length-map (used (t tableV)) reverseTag,
-      length-map (used (t tableV)) reverseId,
-      length-map (used (t tableR)) labelId,
-      repeats-few [] (tagsIn (t tableM)),
-      repeats-few [] (tagsIn (t tableC)),
-      lacking-few (reverseTags (t tableV)) (tagsIn (t tableM)),
-      lacking-few (tagsIn (t tableM)) (reverseTags (t tableV)),
-      lacking-few (reverseIds (t tableV)) (labelIds (t tableR)),
-      lacking-few (labelIds (t tableR)) (reverseIds (t tableV)),
     )
 
 -- a refusal stays as it is
