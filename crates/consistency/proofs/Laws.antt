@@ -1,19 +1,18 @@
 -- The tables of a store that passed the checks, and each number as the definition has it.
-use Prim.Native.Nat.{ℕ, _-_, _≤_}
-use mathlib.Core.Path.{_≡_, refl, sym, ap, ap₂, _∙_}
+use Prim.Native.Nat.{ℕ, _-_}
+use mathlib.Core.Path.{_≡_, sym, ap, ap₂, _∙_}
 use mathlib.Core.List.{List, [], _∷_, map, append-nil}
-use lib.ListN.{length, take, drop}
+use lib.ListN.{length, take}
 use Rattle.table.specs.Lists.{repeats, lacking}
 use Rattle.table.specs.Table.{Table, used}
-use Rattle.table.specs.Order.{usedRows}
 use Rattle.table.proofs.Order.{used-rows-length}
-use Rattle.answer.specs.Answer.{Answer, done, refusal, faultsOf, inspected}
-use Rattle.answer.specs.Verdict.{Test, verdict, answerOr}
+use Rattle.answer.specs.Answer.{done, refusal, faultsOf}
+use Rattle.answer.specs.Verdict.{verdict, answerOr}
 use Rattle.answer.specs.declared.Refusal.{Refusal}
 use Rattle.answer.specs.declared.Faults.{Faults}
-use Rattle.scheme.specs.Store.{Which, Store, tableM, tableV, tableC, tableR, widthOf, greatestMark, cut, stateTests, reverseId, reverseTag, labelId}
+use Rattle.scheme.specs.Store.{Which, tableM, tableV, tableC, tableR, widthOf, greatestMark, cut, stateTests, reverseId, labelId}
 use Rattle.scheme.specs.Check
-use Rattle.scheme.specs.Check.{tagsIn, reverseTags, reverseIds, labelIds, repeatedEntries, repeatedCounters, reversesWithoutEntry, entriesWithoutReverse, reversesWithoutLabel, labelsWithoutReverse, labelsInExcess, faults, checkVerdict}
+use Rattle.scheme.specs.Check.{tagsIn, reverseTags, repeatedEntries, repeatedCounters, reversesWithoutEntry, entriesWithoutReverse, reversesWithoutLabel, labelsWithoutReverse, labelsInExcess, faults, checkVerdict}
 use Rattle.store.specs.declared.Shape.{Shape}
 use Rattle.store.specs.declared.Checked.the-variants.{Fit, Refused}
 use Rattle.store.specs.Check.{checkedOf, partIn}

@@ -10,7 +10,7 @@ use native.Mathlib.Omega.{arith}
 use lib.Dec.{eqb, ltb}
 use lib.ListN.{length, getD, take, drop, drop-of-length-le, set, replicate, length-set, length-replicate, length-drop, getD-replicate}
 use lib.Seq.{getD-set-same, getD-set-other, length-take-le, drop-cons}
-use borrow.Author.Tests.{ltb-true, ltb-false, lt-ltb}
+use borrow.Author.Tests.{ltb-true, ltb-false}
 use Rattle.table.specs.Lists.{bit, same, count, first, anyOf, isSome, All, lacking}
 use Rattle.table.specs.Table.{Table, body, used, hasTag, lookup, holds, placeOf}
 use Rattle.table.specs.Order.{Searchable}
@@ -18,7 +18,7 @@ use Rattle.table.proofs.Counting.{same-true, same-sym, same-refl, count-map, co
 use Rattle.table.proofs.Rows.{all-at}
 use Rattle.table.proofs.Walk.{place-holds}
 use Rattle.matching.specs.Matching.{bucketOf, hinted, reached, unflagged}
-use Rattle.matching.proofs.Keys.{all-from, used-length, keys-length, place-has, place-le, getD-map, body-at, few, bit-le}
+use Rattle.matching.proofs.Keys.{all-from, used-length, place-has, place-le, getD-map, body-at, few, bit-le}
 
 -- a tag is one of a table's just where it has a place
 any-first : (x : List ℕ) (l : List (List ℕ)) → anyOf (same x) (map (take 32) l) ≡ isSome (first (hasTag x) l)

@@ -1,22 +1,22 @@
 -- The keys of a table's used rows, as a list: where each stands in the bytes, that they ascend, and where a tag first stands.
 use Prim.Native.Nat.{ℕ, zero, suc, _+_, _*_, _-_, _≤_, _<_}
 use mathlib.Core.Path.{_≡_, refl, sym, ap, ap₂, _∙_}
-use mathlib.Core.Bool.{Bool, true, false, cond, not, _&&_, _||_, true≢false}
+use mathlib.Core.Bool.{Bool, true, false, not, _&&_, true≢false}
 use mathlib.Core.Logic.{_⊎_, inl, inr}
-use mathlib.Core.Option.{Option, none, some}
+use mathlib.Core.Option.{none}
 use mathlib.Core.List.{List, [], _∷_, map}
 use native.Mathlib.Nat.{not-suc-le-zero, le-of-suc-le-suc, mul-suc}
 use native.Mathlib.Omega.{arith}
-use lib.Dec.{eqb, ltb}
+use lib.Dec.{eqb}
 use lib.ListN.{length, getD, take, drop, length-map, length-drop}
 use lib.Seq.{length-take-le}
-use borrow.Author.Tests.{eq-eqb, eqb-true, lt-ltb, le-ltb, ltb-true, ltb-false}
-use Rattle.table.specs.Lists.{bit, same, anyOf, first, isSome, All}
-use Rattle.table.specs.Table.{Row, Table, rows, isFree, body, used, hasTag, lookup, holds, placeOf}
+use borrow.Author.Tests.{eq-eqb, eqb-true}
+use Rattle.table.specs.Lists.{bit, same, All}
+use Rattle.table.specs.Table.{Table, rows, body, used, placeOf}
 use Rattle.table.specs.Order.{precedes, usedRows, Searchable}
-use Rattle.table.proofs.Counting.{same-true, same-refl, same-eq, ne-same, same-sym}
+use Rattle.table.proofs.Counting.{same-true, same-refl, same-eq, ne-same}
 use Rattle.table.proofs.Rows.{index-holds, rows-length}
-use Rattle.table.proofs.Order.{InForm, form-true, neither-before, not-before-trans, used-is, used-rows-length, rows-counted}
+use Rattle.table.proofs.Order.{InForm, form-true, neither-before, used-is, used-rows-length, rows-counted}
 use Rattle.table.proofs.Search.{startsWith, used-at, used-row, parts-ascend, index-is, index-le, place-starts}
 use Rattle.table.proofs.Walk.{row-end, body-field, body-tail}
 

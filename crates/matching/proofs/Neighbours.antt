@@ -1,5 +1,5 @@
 -- In a list that ascends, an element equals an earlier one just where it equals the one before it.
-use Prim.Native.Nat.{ℕ, zero, suc, _+_, _-_, _≤_, _<_}
+use Prim.Native.Nat.{ℕ, suc, _+_, _-_, _≤_, _<_}
 use mathlib.Core.Path.{_≡_, refl, sym, ap, ap₂, _∙_}
 use mathlib.Core.Bool.{Bool, true, false, _||_, true≢false}
 use mathlib.Core.List.{List, [], _∷_}
@@ -10,7 +10,7 @@ use lib.ListN.{length, getD, drop, drop-of-length-le}
 use lib.Seq.{drop-cons}
 use Rattle.table.specs.Lists.{bit, same, anyOf, All, repeatsAfter, repeats}
 use Rattle.table.specs.Order.{precedes}
-use Rattle.table.proofs.Counting.{same-true, same-sym, ne-same, same-eq, all-map}
+use Rattle.table.proofs.Counting.{same-sym, ne-same, same-eq, all-map}
 use Rattle.table.proofs.Order.{neither-before, not-before-trans, all-none}
 use Rattle.matching.proofs.Keys.{Rising}
 

@@ -1,9 +1,8 @@
 -- A walk through two lists that ascend: what it has passed in the second is not above what is left of the first, so an element of the first
 -- that comes before all that is left is in the second just where the element before is it.
 use Prim.Native.Nat.{ℕ, zero, suc, _+_, _-_, _≤_, _<_}
-use mathlib.Core.Path.{_≡_, refl, sym, ap, ap₂, _∙_}
-use mathlib.Core.Bool.{Bool, true, false, not, _&&_, _||_, true≢false, or-true}
-use mathlib.Core.Logic.{_⊎_, inl, inr}
+use mathlib.Core.Path.{_≡_, refl, sym, ap, _∙_}
+use mathlib.Core.Bool.{Bool, true, false, not, true≢false, or-true}
 use mathlib.Core.List.{List, [], _∷_}
 use native.Mathlib.Nat.{add-zero, zero-add, not-suc-le-zero}
 use native.Mathlib.Numerals.{add-one}
@@ -12,14 +11,14 @@ use lib.Dec.{ltb}
 use lib.ListN.{length, getD, drop, drop-of-length-le}
 use lib.Seq.{drop-cons}
 use borrow.Author.Tests.{ltb-true, ltb-false, lt-ltb, le-ltb}
-use Rattle.table.specs.Lists.{bit, same, count, anyOf, All, lacking}
+use Rattle.table.specs.Lists.{bit, same, count, anyOf, lacking}
 use Rattle.table.specs.Order.{precedes}
-use Rattle.table.proofs.Counting.{same-true, same-sym, ne-same, same-eq}
+use Rattle.table.proofs.Counting.{same-true, ne-same, same-eq}
 use Rattle.table.proofs.Order.{neither-before, not-before-trans, precedes-not, all-none}
 use Rattle.matching.specs.Matching.{metBefore, meetingOf, pickMeeting}
 use Rattle.matching.specs.declared.Meeting.{Meeting}
 use Rattle.matching.specs.declared.Meeting.the-variants.{Same, Before, Past}
-use Rattle.matching.proofs.Keys.{Rising, all-from, between, bit-le}
+use Rattle.matching.proofs.Keys.{Rising, all-from, bit-le}
 
 pub any-at : (p : List ℕ → Bool) (l : List (List ℕ)) (i : ℕ) → i < length l → p (getD l i []) ≡ true → anyOf p l ≡ true
 any-at p [] i h e = absurd (not-suc-le-zero h)

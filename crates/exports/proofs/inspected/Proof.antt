@@ -1,6 +1,5 @@
 -- Each case is its own number, and the numbers are written in the one alone.
 use Prim.Native.Nat.{ℕ, _^_, _<_}
-use native.Mathlib.Omega.{arith}
 use mathlib.Core.Path.{sym, ap, subst, _∙_}
 use lib.IntN.{pos}
 use Rattle.answer.specs.Answer.{inspected}

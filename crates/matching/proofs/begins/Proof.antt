@@ -1,17 +1,16 @@
 -- The row has the tag, and the one before it has not.
 use Prim.Native.Nat.{ℕ, _+_, _*_, _-_, _≤_, _<_}
 use mathlib.Core.Path.{_≡_, sym, ap, ap₂, _∙_}
-use mathlib.Core.Bool.{Bool, true, not, _&&_}
-use mathlib.Core.List.{List, [], map}
+use mathlib.Core.Bool.{Bool, true, _&&_}
+use mathlib.Core.List.{[], map}
 use native.Mathlib.Omega.{arith}
 use lib.Dec.{eqb, ltb}
-use lib.ListN.{length, getD, take, drop}
+use lib.ListN.{length, getD, take}
 use lib.Seq.{take-all}
 use borrow.Author.Tests.{lt-ltb, le-ltb, not-true, not-false}
 use Rattle.table.specs.Lists.{same}
 use Rattle.table.specs.Table.{rows, used, placeOf}
 use Rattle.matching.proofs.Keys.{row-reach, inside, key-text, key-before, begins-not, begins-first, begins-by}
-use borrow.Author.Needs.{needs}
 use Rattle.matching.proofs.begins.Statement.{statement}
 use Rattle.matching.proofs.begins.Tie as tie
 

@@ -1,15 +1,14 @@
 -- Equal tags stand together.
-use Prim.Native.Nat.{ℕ, _+_, _*_, _-_, _≤_, _<_}
+use Prim.Native.Nat.{ℕ, _+_, _*_, _-_, _≤_}
 use mathlib.Core.Path.{_≡_, sym, ap, ap₂, _∙_}
 use mathlib.Core.Logic.{⊎-elim}
 use mathlib.Core.List.{List, [], map}
 use native.Mathlib.Omega.{arith}
-use lib.ListN.{length, getD, take, drop}
+use lib.ListN.{length, getD, take}
 use Rattle.table.specs.Lists.{same}
 use Rattle.table.specs.Table.{Table, rows, used, placeOf}
 use Rattle.table.proofs.Counting.{same-true}
 use Rattle.matching.proofs.Keys.{row-reach, inside, key-text, key-before, key-long, place-same, place-first}
-use borrow.Author.Needs.{needs}
 use Rattle.matching.proofs.start.Statement.{statement}
 use Rattle.matching.proofs.start.Tie as tie
 

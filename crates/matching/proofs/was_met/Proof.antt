@@ -1,17 +1,14 @@
 -- The row before, where there is one.
 use Prim.Native.Nat.{ℕ, _+_, _*_, _-_, _≤_, _<_}
 use mathlib.Core.Path.{_≡_, refl, sym, ap, _∙_}
-use mathlib.Core.Bool.{Bool, false, _&&_}
-use mathlib.Core.List.{List, [], map}
+use mathlib.Core.Bool.{Bool, false}
+use mathlib.Core.List.{List, []}
 use native.Mathlib.Omega.{arith}
-use lib.Dec.{ltb}
 use lib.ListN.{length, getD, take, drop}
 use borrow.Author.Tests.{lt-ltb, le-ltb}
 use Rattle.table.specs.Lists.{same}
-use Rattle.table.specs.Table.{rows, used}
 use Rattle.matching.specs.Matching.{metBefore}
 use Rattle.matching.proofs.Keys.{row-before, row-reach, inside, key-text}
-use borrow.Author.Needs.{needs}
 use Rattle.matching.proofs.was_met.Statement.{statement}
 use Rattle.matching.proofs.was_met.Tie as tie
 
