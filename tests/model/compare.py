@@ -405,34 +405,29 @@ def hostile_stores(given):
     return 0
 
 
-def counts(given):
-    """Counts on stores made for them: the rows looked at, their bound, every kind of lookup."""
-    for suite, number in ((Cheap, given.counts), (Real, given.counts // 10)):
-        met = looked.check(given.seed, number, suite)
+def made_stores(what, checker, wanted, often, given):
+    """Stores made for a call: what `checker` says of them, and that each kind was met, at least once in so many."""
+    for suite, number in ((Cheap, wanted), (Real, wanted // 10)):
+        met = checker(given.seed, number, suite)
         if isinstance(met, str):
-            print("counts: %s" % met)
+            print("%s: %s" % (what, met))
             return 1
-        print("counts, %s suite: %d stores, %s" % (suite.name, number, met), flush=True)
-        seldom = met.too_seldom(number // 200)
+        print("%s, %s suite: %d stores, %s" % (what, suite.name, number, met), flush=True)
+        seldom = met.too_seldom(number // often)
         if number >= 1000 and seldom:
-            print("NOT TRIED OFTEN ENOUGH, %d times: %s" % (number // 200, seldom))
+            print("NOT TRIED OFTEN ENOUGH, %d times: %s" % (number // often, seldom))
             return 1
     return 0
+
+
+def counts(given):
+    """Counts on stores made for them: the rows looked at, their bound, every kind of lookup."""
+    return made_stores("counts", looked.check, given.counts, 200, given)
 
 
 def checks(given):
     """Checks of stores with faults: the numbers are those of counting, and every kind of store was met."""
-    for suite, number in ((Cheap, given.faults), (Real, given.faults // 10)):
-        met = faults.check(given.seed, number, suite)
-        if isinstance(met, str):
-            print("checks: %s" % met)
-            return 1
-        print("checks, %s suite: %d stores, %s" % (suite.name, number, met), flush=True)
-        seldom = met.too_seldom(number // 500)
-        if number >= 1000 and seldom:
-            print("NOT TRIED OFTEN ENOUGH, %d times: %s" % (number // 500, seldom))
-            return 1
-    return 0
+    return made_stores("checks", faults.check, given.faults, 500, given)
 
 
 def other_stores(given):

@@ -1,25 +1,22 @@
 -- Each number of a check is at most the rows of a table, so their sum is small.
 use Prim.Native.Nat.{ℕ, _*_, _≤_}
 use mathlib.Core.Path.{_≡_}
-use mathlib.Core.Bool.{Bool, true, false, not}
+use mathlib.Core.Bool.{false, not}
 use mathlib.Core.List.{List, [], _∷_, map}
 use native.Mathlib.Omega.{arith}
 use lib.ListN.{length, take, drop, length-map}
-use Rattle.table.specs.Lists.{bit, same, anyOf, sum, repeatsAfter, repeats, lacking}
+use Rattle.table.specs.Lists.{same, anyOf, sum, repeatsAfter, repeats, lacking}
 use Rattle.table.specs.Table.{used}
 use Rattle.table.proofs.Counting.{count-le}
 use Rattle.table.proofs.Rows.{rows-length, free-used}
 use Rattle.scheme.specs.Store.{Which, tableM, tableV, tableC, tableR, widthOf, rowsOf, startOf, cut, sizesOf, headerBad, reverseId, reverseTag, labelId}
 use Rattle.scheme.specs.Check.{tagsIn, reverseTags, reverseIds, labelIds, repeatedEntries, repeatedCounters, reversesWithoutEntry, entriesWithoutReverse, reversesWithoutLabel, labelsWithoutReverse, labelsInExcess, faults}
+use Rattle.matching.proofs.Keys.{bit-le}
 use Rattle.store.proofs.Laws.{good-header}
-
-bit-most : (b : Bool) → bit b ≤ 1
-bit-most true = omega arith
-bit-most false = omega arith
 
 after-most : (seen xs : List (List ℕ)) → repeatsAfter seen xs ≤ length xs
 after-most seen [] = omega arith
-after-most seen (x ∷ xs) = omega (arith, bit-most (anyOf (same x) seen), after-most (x ∷ seen) xs)
+after-most seen (x ∷ xs) = omega (arith, bit-le (anyOf (same x) seen), after-most (x ∷ seen) xs)
 
 module _ (before : List ℕ) where
   used-most : (k : Which) → length (used (cut before .table k)) ≤ rowsOf (sizesOf before) k

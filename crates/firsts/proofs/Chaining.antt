@@ -14,6 +14,7 @@ use Rattle.table.specs.Lists.{same}
 use Rattle.table.specs.Table.{Table, Row, indexOf}
 use Rattle.table.proofs.Counting.{both, same-true, same-refl, same-eq}
 use Rattle.table.proofs.Rows.{index-holds}
+use Rattle.table.proofs.Search.{index-le}
 use Rattle.firsts.specs.Firsts.{firstIn, firsts, bucketOf, inChain, lastIn, Chained, headsAfter, linksAfter}
 
 -- a row's bytes
@@ -23,15 +24,6 @@ part-wide log n i h k =
     rw e (length-take-le 32 (drop (32 * i) log) (omega (arith, length-drop (32 * i) log)))
 
 -- ---- the first of a kind
-
-index-le : (q : Row → Bool) (l : Table) (i : ℕ) → i < length l → q (getD l i []) ≡ true → indexOf q l ≤ i
-index-le q [] i h e = absurd (omega arith)
-index-le q (r ∷ rs) zero h e = rw e (omega arith)
-index-le q (r ∷ rs) (suc i) h e = go (q r) (index-le q rs i (omega arith) e)
-  where
-    go : (b : Bool) → indexOf q rs ≤ i → cond b zero (suc (indexOf q rs)) ≤ suc i
-    go true k = omega arith
-    go false k = omega arith
 
 module _ (l : Table) where
   pub first-le : (i : ℕ) → i < length l → firstIn l (getD l i []) ≤ i
