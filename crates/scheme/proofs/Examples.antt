@@ -1,11 +1,12 @@
--- The examples hold: the checker computes both sides. Where a suite has to compute, it is a small one: F a sum of multiples, E a mirroring.
-use Prim.Native.Nat.{ℕ, _+_, _*_, _-_, _%_}
+-- The examples hold: the checker computes both sides. Where a suite has to compute, it is a small one: F a number of the key and then the
+-- message, E a mirroring.
+use Prim.Native.Nat.{ℕ, zero, suc, _+_, _*_, _-_, _%_, _/_}
 use mathlib.Core.Path.{_≡_, refl}
 use mathlib.Core.Bool.{Bool, true, false, cond}
 use mathlib.Core.List.{List, [], _∷_, map}
 use native.Mathlib.Omega.{arith}
 use lib.Dec.{ltb}
-use lib.ListN.{length-map}
+use lib.ListN.{length, length-map}
 use borrow.Author.Tests.{ltb-false, le-ltb}
 use Rattle.table.specs.Lists.{All, repeats, lacking}
 use Rattle.table.specs.Table.{lookup, holds, placeOf}
@@ -39,7 +40,6 @@ use Rattle.scheme.specs.Run.{insertCall, findCall, countCall, compactCal
 use Rattle.scheme.specs.Example.{Holds}
 use Rattle.scheme.specs.Examples.{examples}
 use Rattle.octets.specs.Number.{bytes, continued}
-use Rattle.octets.proofs.Numbers.{length-bytes}
 
 -- mirrored at a number that key and nonce give; what is above that number stays
 abbrev mirrored : ℕ → ℕ → ℕ
@@ -56,12 +56,27 @@ pub all-mirrored-twice : (s : ℕ) (t : List ℕ) → map (mirrored s) (map (mir
 all-mirrored-twice s [] = refl
 all-mirrored-twice s (x ∷ t) = rw (mirrored-twice s x, all-mirrored-twice s t)
 
--- a suite that computes: different keys, messages and nonces of the examples give different results
+-- a list cut or filled up with zeros to n bytes
+abbrev padded : ℕ → List ℕ → List ℕ
+padded zero t = []
+padded (suc n) [] = 0 ∷ padded n []
+padded (suc n) (x ∷ t) = x ∷ padded n t
+
+pub length-padded : (n : ℕ) (t : List ℕ) → length (padded n t) ≡ n
+length-padded zero t = refl
+length-padded (suc n) [] = rw (length-padded n []) refl
+length-padded (suc n) (x ∷ t) = rw (length-padded n t) refl
+
+-- the four bytes of a number before a list
+abbrev keyed : ℕ → List ℕ → List ℕ
+keyed n t = n / 16777216 ∷ n / 65536 % 256 ∷ n / 256 % 256 ∷ n % 256 ∷ t
+
+-- a suite that computes in few steps: different keys, messages and nonces of the examples give different results
 abbrev small : Suite
 small = record {
-  F = λ k x. bytes 32 (1000003 * continued 0 k + 7919 * continued 1 x);
+  F = λ k x. keyed (continued 0 k % 4294967279) (padded 28 x);
   E = λ k n t. map (mirrored (128 + (continued 1 k + 3 * continued 1 n) % 127)) t;
-  F-length = λ k x. length-bytes 32 (1000003 * continued 0 k + 7919 * continued 1 x);
+  F-length = λ k x. rw (length-padded 28 x) refl;
   E-length = λ k n t. length-map t (mirrored (128 + (continued 1 k + 3 * continued 1 n) % 127));
   E-undoes = λ k n t. all-mirrored-twice (128 + (continued 1 k + 3 * continued 1 n) % 127) t;
 }
