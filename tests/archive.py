@@ -5,9 +5,10 @@ finds of 1 to 8 parts; checks of stores with every kind of fault; stores of vers
 tests/model, Python's hashlib and hmac, OpenSSL's libcrypto and published files, never from our own code. Exit status 1 at the
 first difference.
 
-  archive.py LIBRARY [--lists N] [--hostile N] [--seed N] [--long]
+  archive.py LIBRARY [--lists N] [--hostile N] [--seed N] [--long] [--half 1|2]
 
-LIBRARY is the archive linked as a shared object (tests/run makes it). --long runs ten times as many.
+LIBRARY is the archive linked as a shared object (tests/run makes it). --long runs ten times as many. The parts are two halves of
+about the same time, of which --half tries one: hostile stores are the second.
 A table's rows fix its bytes [02:W2.5], so whole stores are compared byte for byte. Every count is made by both of its
 functions: the one that tells rows gives the same number, and the model's rows, or leaves what it was lent [02:W3.8].
 Every check gives the sum of its numbers and writes them, or leaves what it was lent [check:14].
@@ -1242,6 +1243,7 @@ def main():
     options.add_argument("--hostile", type=int, default=20000)
     options.add_argument("--seed", type=int, default=1)
     options.add_argument("--long", action="store_true", help="ten times as many lists and stores")
+    options.add_argument("--half", type=int, choices=[1, 2], help="one half of the parts alone")
     given = options.parse_args()
     many = 10 if given.long else 1
     library = Library(pathlib.Path(given.library).resolve())
@@ -1251,23 +1253,24 @@ def main():
     if Other.E(KEY, bytes(12), text) != Real.E(KEY, bytes(12), text):
         print("archive.py: two implementations of the cipher differ")
         return 1
-    parts = [("hash, F and E", lambda: primitives(library, random.Random(given.seed))),
-             ("published vectors", lambda: published(library)),
-             ("the largest store", lambda: large(library, given.seed)),
-             ("ids with many entries", lambda: repeated(library, given.seed)),
-             ("first and last rows of the largest tables", lambda: last_and_first(library, given.seed)),
-             ("searches", lambda: searches(library, many * 400, given.seed)),
-             ("rows that a count looks at", lambda: rows_looked_at(library, many * 2000, given.seed)),
-             ("joint finds", lambda: joint_finds(library, many * given.lists // 20, given.seed)),
-             ("checks", lambda: checks(library, many * 3 * given.lists, given.seed)),
-             ("stores of version 1", lambda: version_one(library)),
-             ("rows in any place", lambda: any_place(library, many * given.lists // 4, given.seed)),
-             ("two histories", lambda: two_histories(library, many * given.lists // 4, given.seed)),
-             ("lists", lambda: lists(library, many * given.lists, given.seed)),
-             ("hostile stores", lambda: hostile_stores(library, many * given.hostile, given.seed)),
-             ("counts past the rows", lambda: long_walks(library, many * 40, given.seed)),
-             ("counts, by both functions", lambda: counts_made(library)),
-             ("checks, in all parts", lambda: checks_made(library))]
+    halves = [[("hash, F and E", lambda: primitives(library, random.Random(given.seed))),
+               ("published vectors", lambda: published(library)),
+               ("the largest store", lambda: large(library, given.seed)),
+               ("ids with many entries", lambda: repeated(library, given.seed)),
+               ("first and last rows of the largest tables", lambda: last_and_first(library, given.seed)),
+               ("searches", lambda: searches(library, many * 400, given.seed)),
+               ("rows that a count looks at", lambda: rows_looked_at(library, many * 2000, given.seed)),
+               ("joint finds", lambda: joint_finds(library, many * given.lists // 20, given.seed)),
+               ("checks", lambda: checks(library, many * 3 * given.lists, given.seed)),
+               ("stores of version 1", lambda: version_one(library)),
+               ("rows in any place", lambda: any_place(library, many * given.lists // 4, given.seed)),
+               ("two histories", lambda: two_histories(library, many * given.lists // 4, given.seed)),
+               ("lists", lambda: lists(library, many * given.lists, given.seed))],
+              [("hostile stores", lambda: hostile_stores(library, many * given.hostile, given.seed)),
+               ("counts past the rows", lambda: long_walks(library, many * 40, given.seed))]]
+    parts = [part for half in ([halves[given.half - 1]] if given.half else halves) for part in half]
+    parts += [("counts, by both functions", lambda: counts_made(library)),
+              ("checks, in all parts", lambda: checks_made(library))]
     for name, part in parts:
         began = time.time()
         try:
