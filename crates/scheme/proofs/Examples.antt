@@ -1,5 +1,6 @@
--- The examples hold: the checker computes both sides. Where a suite has to compute, it is a small one: F a number of the key and then the
--- message, E a mirroring.
+-- The examples that pin the definitions hold: the checker computes both sides. Where a suite has to compute, it is a small one: F a number of
+-- the key and then the message, E a mirroring. The lists of calls on the store are computed in the crate worked, so that a check of the
+-- definitions alone is short.
 use Prim.Native.Nat.{ℕ, zero, suc, _+_, _*_, _-_, _%_, _/_}
 use mathlib.Core.Path.{_≡_, refl}
 use mathlib.Core.Bool.{Bool, true, false, cond}
@@ -36,13 +37,12 @@ use Rattle.scheme.specs.Check.{repeatedEntries, repeatedCounters, revers
 use Rattle.table.specs.Looked.{smallerRows, lookedAt}
 use Rattle.table.specs.Order.{inForm, arranged, reordered, withRows, closed}
 use Rattle.scheme.specs.Ledger.{samePair, empty, H, removed, withPair, ledgerInsertVerdict, appended, afterInsert, afterErase, ledgerLists, ledgerIds, ledgerSum, ledgerFindVerdict, ledgerHas, ledgerJointVerdict, ledgerCompactVerdict, afterCompaction, ledgerStep}
-use Rattle.scheme.specs.Run.{insertCall, findCall, countCall, compactCall, testCall, jointCall}
 use Rattle.scheme.specs.Example.{Holds}
-use Rattle.scheme.specs.Examples.{examples}
+use Rattle.scheme.specs.Examples.{pinned}
 use Rattle.octets.specs.Number.{bytes, continued}
 
 -- mirrored at a number that key and nonce give; what is above that number stays
-abbrev mirrored : ℕ → ℕ → ℕ
+abbrev pub mirrored : ℕ → ℕ → ℕ
 mirrored s x = cond (ltb s x) x (s - x)
 
 mirrored-twice : (s x : ℕ) → mirrored s (mirrored s x) ≡ x
@@ -57,7 +57,7 @@ all-mirrored-twice s [] = refl
 all-mirrored-twice s (x ∷ t) = rw (mirrored-twice s x, all-mirrored-twice s t)
 
 -- a list cut or filled up with zeros to n bytes
-abbrev padded : ℕ → List ℕ → List ℕ
+abbrev pub padded : ℕ → List ℕ → List ℕ
 padded zero t = []
 padded (suc n) [] = 0 ∷ padded n []
 padded (suc n) (x ∷ t) = x ∷ padded n t
@@ -68,11 +68,11 @@ length-padded (suc n) [] = rw (length-padded n []) refl
 length-padded (suc n) (x ∷ t) = rw (length-padded n t) refl
 
 -- the four bytes of a number before a list
-abbrev keyed : ℕ → List ℕ → List ℕ
+abbrev pub keyed : ℕ → List ℕ → List ℕ
 keyed n t = n / 16777216 ∷ n / 65536 % 256 ∷ n / 256 % 256 ∷ n % 256 ∷ t
 
 -- a suite that computes in few steps: different keys, messages and nonces of the examples give different results
-abbrev small : Suite
+abbrev pub small : Suite
 small = record {
   F = λ k x. keyed (continued 0 k % 4294967279) (padded 28 x);
   E = λ k n t. map (mirrored (128 + (continued 1 k + 3 * continued 1 n) % 127)) t;
@@ -81,7 +81,7 @@ small = record {
   E-undoes = λ k n t. all-mirrored-twice (128 + (continued 1 k + 3 * continued 1 n) % 127) t;
 }
 
-pub examples-hold : All Holds (examples small)
-unfolding bytes continued lookup holds placeOf number8 valueOf sameField fieldLengthsBad sevens label KM KC KS MTof MEof CLof share MT ME CL CT CE insertToken findToken countToken compactionToken tokenP tokenMT tokenME tokenCL tokenLog findMT findME findCL sizesBad lengthFor headerOf sizesOf cut joined headerBad marksBad stateTests fresh makeTests make entryTag entryRow reverseRow counterTag anchorTag countedRow counterRow anchorRow idIn plainIn clIn logRow reverseId reverseTag numbersAt anchorsHeld anchorNumbers startOf countersHeld counterNumbers isDamage reading insertTokenTests fieldTokenTests keyTests insertInputTests idTests compactionInputTests tokenTests insertReading newCount insertStateTests insertVerdict newEntries newReverses newCounter newLog insertedStore eraseVerdict isReverse erasedTags isErased erasedStore erase shareReading idsOfShare idsHeld idsFound findVerdict find countVerdict sumOfCounts smallerRows lookedAt anchorRows counterRows readingRows shareRows rowsRead mostRows Count.count logOf freeLog compactVerdict freedCounters nextAnchor logged compactedStore samePair empty H removed withPair ledgerInsertVerdict appended afterInsert afterErase ledgerLists ledgerIds ledgerSum ledgerFindVerdict ledgerCompactVerdict afterCompaction ledgerStep insertCall findCall countCall compactCall Insert.insert Compaction.compact treated anchoredTable inForm arranged reordered withRows closed formBad markTests usedInAll orderVerdict orderedStore Order.order RL markToken partToken tokenRL partFind partRL rMark labelRow labelId labelNonce labelMark partTests counterNonce labelNonces newLabels isLabel carries Test.tests testVerdict Test.test partDamaged partSum partIds partTest chosenAt chosenPart idsKept jointVerdict JointFind.jointFind ledgerHas ledgerJointVerdict testCall jointCall repeats lacking repeatedEntries repeatedCounters reversesWithoutEntry entriesWithoutReverse reversesWithoutLabel labelsWithoutReverse labelsInExcess faults checkVerdict Check.check
-examples-hold =
-    (refl, (refl, (refl, (refl, (refl, (refl, (refl, (refl, (refl, (refl, (refl, (refl, (refl, (refl, (refl, (refl, ((λ suite k l nonce id. refl), (refl, (refl, (refl, (refl, (refl, (refl, (refl, (refl, (refl, (refl, tt)))))))))))))))))))))))))))
+pub pinned-hold : All Holds (pinned small)
+unfolding bytes continued lookup holds placeOf number8 valueOf sameField fieldLengthsBad sevens label KM KC KS MTof MEof CLof share MT ME CL CT CE insertToken findToken countToken compactionToken tokenP tokenMT tokenME tokenCL tokenLog findMT findME findCL sizesBad lengthFor headerOf sizesOf cut joined headerBad marksBad stateTests fresh makeTests make entryTag entryRow reverseRow counterTag anchorTag countedRow counterRow anchorRow idIn plainIn clIn logRow reverseId reverseTag numbersAt anchorsHeld anchorNumbers startOf countersHeld counterNumbers isDamage reading insertTokenTests fieldTokenTests keyTests insertInputTests idTests compactionInputTests tokenTests insertReading newCount insertStateTests insertVerdict newEntries newReverses newCounter newLog insertedStore eraseVerdict isReverse erasedTags isErased erasedStore erase shareReading idsOfShare idsHeld idsFound findVerdict find countVerdict sumOfCounts smallerRows lookedAt anchorRows counterRows readingRows shareRows rowsRead mostRows Count.count logOf freeLog compactVerdict freedCounters nextAnchor logged compactedStore samePair empty H removed withPair ledgerInsertVerdict appended afterInsert afterErase ledgerLists ledgerIds ledgerSum ledgerFindVerdict ledgerCompactVerdict afterCompaction ledgerStep Insert.insert Compaction.compact treated anchoredTable inForm arranged reordered withRows closed formBad markTests usedInAll orderVerdict orderedStore Order.order RL markToken partToken tokenRL partFind partRL rMark labelRow labelId labelNonce labelMark partTests counterNonce labelNonces newLabels isLabel carries Test.tests testVerdict Test.test partDamaged partSum partIds partTest chosenAt chosenPart idsKept jointVerdict JointFind.jointFind ledgerHas ledgerJointVerdict repeats lacking repeatedEntries repeatedCounters reversesWithoutEntry entriesWithoutReverse reversesWithoutLabel labelsWithoutReverse labelsInExcess faults checkVerdict Check.check
+pinned-hold =
+    (refl, (refl, (refl, (refl, (refl, (refl, (refl, (refl, (refl, (refl, (refl, ((λ suite k l nonce id. refl), (refl, (refl, (refl, (refl, (refl, (refl, (refl, (refl, (refl, (refl, tt))))))))))))))))))))))

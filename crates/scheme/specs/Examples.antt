@@ -1,5 +1,5 @@
--- The examples, as one list: L1 to L6 of document 01's "Labels" and G1 to G8 of "A day in the ledger", ids that come more than once, finds by
--- several fields, checks, then bytes, readings and refusals.
+-- The worked examples, as one list: L1 to L6 of document 01's "Labels" and G1 to G8 of "A day in the ledger", ids that come more than once,
+-- finds by several fields, checks. And what pins the definitions: bytes, readings and refusals.
 use Prim.Native.Nat.{ℕ}
 use mathlib.Core.List.{List, [], _∷_, _++_, map}
 use lib.ListN.{take, replicate}
@@ -255,21 +255,43 @@ jointly =
     }
     ∷ []
 
--- the labels, the lists of calls on the ledger and on the store [01:DY10] [02:W1.5], and the further examples
+-- ---- the lists
+
+-- calls from the start on: what the ledger is to tell of them, and what the store is
+abbrev pub onLedger : Sizes → List Block → Example
+onLedger z blocks = ledgerTells (boundsOf z) empty (callsOf blocks) tells toldOf blocks
+
+abbrev pub onStore : Suite → Sizes → List Block → Example
+onStore suite z blocks = storeTells suite (callsOf blocks) (fresh z) tells toldOf blocks
+
+abbrev pub ledgerExamples : List Example
+ledgerExamples =
+    onLedger workedSizes (worked ++ (checks ∷ []))
+    ∷ onLedger repeatedSizes repeated
+    ∷ onLedger workedSizes ordered
+    ∷ onLedger workedSizes checked
+    ∷ onLedger jointSizes jointly
+    ∷ []
+
+abbrev pub storeExamples : Suite → List Example
+storeExamples suite =
+    onStore suite workedSizes (worked ++ (checks ∷ []))
+    ∷ onStore suite repeatedSizes repeated
+    ∷ onStore suite workedSizes ordered
+    ∷ onStore suite workedSizes checked
+    ∷ onStore suite jointSizes jointly
+    ∷ []
+
+-- the worked examples: the labels, and the lists of calls on the ledger and on the store [01:DY10] [02:W1.5]
 abbrev pub examples : Suite → List Example
-examples suite =
+examples suite = labelExamples ++ (ledgerExamples ++ storeExamples suite)
+
+-- what pins the definitions where the claim does not see them: the labels, the lists on the ledger, bytes, readings and refusals
+abbrev pub pinned : Suite → List Example
+pinned suite =
     labelExamples ++
-    ((ledgerTells (boundsOf workedSizes) empty (callsOf (worked ++ (checks ∷ []))) tells toldOf (worked ++ (checks ∷ [])))
-    ∷ (storeTells suite (callsOf (worked ++ (checks ∷ []))) (fresh workedSizes) tells toldOf (worked ++ (checks ∷ [])))
-    ∷ (ledgerTells (boundsOf repeatedSizes) empty (callsOf repeated) tells toldOf repeated)
-    ∷ (storeTells suite (callsOf repeated) (fresh repeatedSizes) tells toldOf repeated)
-    ∷ (ledgerTells (boundsOf workedSizes) empty (callsOf ordered) tells toldOf ordered)
-    ∷ (storeTells suite (callsOf ordered) (fresh workedSizes) tells toldOf ordered)
-    ∷ (ledgerTells (boundsOf workedSizes) empty (callsOf checked) tells toldOf checked)
-    ∷ (storeTells suite (callsOf checked) (fresh workedSizes) tells toldOf checked)
-    ∷ (ledgerTells (boundsOf jointSizes) empty (callsOf jointly) tells toldOf jointly)
-    ∷ (storeTells suite (callsOf jointly) (fresh jointSizes) tells toldOf jointly)
-    ∷ every byteEquations
+    (ledgerExamples ++
+    (every byteEquations
     ∷ bytes (leastBytes ++ jointBytes suite)
     ∷ cases (testCases suite ++ jointCases suite)
     ∷ bytes checkBytes
@@ -280,4 +302,4 @@ examples suite =
     ∷ cases (stateCases suite ++ (formCases suite ++ orderCases suite))
     ∷ cases (insertCases suite ++ (eraseCases ++ (queryCases suite ++ (tallyCases suite ++ blindCases))))
     ∷ cases (compactionCases suite)
-    ∷ [])
+    ∷ []))
