@@ -9,7 +9,7 @@ use Rattle.scheme.specs.Suite.{Suite}
 use Rattle.scheme.specs.Labels.{Field, label}
 use Rattle.scheme.specs.Example.{Example, _yields_, _tells_, bytes, every, cases, fieldOf}
 use Rattle.scheme.specs.ByteExamples.{byteEquations, insertBytes, eraseCases}
-use Rattle.scheme.specs.RefusalExamples.{makingCases, storeMakingCases, inputCases, stateCases, formCases, orderCases, insertCases, queryCases, tallyCases, boundBytes, queryBytes}
+use Rattle.scheme.specs.RefusalExamples.{makingCases, storeMakingCases, inputCases, manyRows, stateCases, formCases, orderCases, insertCases, queryCases, tallyCases, boundBytes, queryBytes}
 use Rattle.scheme.specs.ReadingExamples.{readingBytes, rowsBytes, laterBytes, blindBytes, blindCases, compactionCases, compactionBytes}
 use Rattle.scheme.specs.JointExamples.{leastBytes, testCases, jointBytes, jointCases}
 use Rattle.scheme.specs.CheckExamples.{checkCases, checkBytes}
@@ -282,9 +282,9 @@ storeExamples suite =
     ∷ onStore suite jointSizes jointly
     ∷ []
 
--- the worked examples: the labels, and the lists of calls on the ledger and on the store [01:DY10] [02:W1.5]
+-- the worked examples: the labels, and the lists of calls on the ledger and on the store [01:DY10] [02:W1.5]; and a store with too many rows
 abbrev pub examples : Suite → List Example
-examples suite = labelExamples ++ (ledgerExamples ++ storeExamples suite)
+examples suite = labelExamples ++ (ledgerExamples ++ (storeExamples suite ++ (cases (manyRows suite) ∷ [])))
 
 -- what pins the definitions where the claim does not see them: the labels, the lists on the ledger, bytes, readings and refusals
 abbrev pub pinned : Suite → List Example

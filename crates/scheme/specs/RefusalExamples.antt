@@ -235,6 +235,10 @@ module _ (suite : Suite) where
       ∷ (compacting [] 0 31 gives by 6)
       ∷ []
 
+  -- 10 by a header with r = 4,097, in a store of the formula's length
+  abbrev pub manyRows : List Case
+  manyRows = (counting (2 ∷ 0 ∷ 0 ∷ 1 ∷ 0 ∷ 1 ∷ 0 ∷ 1 ∷ 16 ∷ 1 ∷ zeros 250133) 32 gives by 10) ∷ []
+
   -- 10 and 11, in a count and then in every call [01:RS2 RS3]
   abbrev pub stateCases : List Case
   stateCases =
@@ -247,14 +251,13 @@ module _ (suite : Suite) where
       ∷ (counting (slice 1 0 1 1 1 1 277) 32 gives by 10)
       ∷ (counting (slice 3 0 1 1 1 1 277) 32 gives by 10)
       ∷ (counting (1 ∷ 0 ∷ 0 ∷ 1 ∷ 0 ∷ 1 ∷ 0 ∷ 1 ∷ zeros 216) 32 gives by 10)
-      -- p at most 15, m, c, s and r from 1 to 4,096; m, c and r above it are tried under 7, by the same test; S has the narrowest rows
+      -- p at most 15, m, c, s and r from 1 to 4,096; above it they are tried under 7, by the same test, and r in manyRows
       ∷ (counting (slice 2 15 1 1 1 1 277) 32 gives number 0)
       ∷ (counting (slice 2 16 1 1 1 1 277) 32 gives by 10)
       ∷ (counting (slice 2 0 0 1 1 1 167) 32 gives by 10)
       ∷ (counting (slice 2 0 1 0 1 1 216) 32 gives by 10)
       ∷ (counting (slice 2 0 1 1 0 1 232) 32 gives by 10)
       ∷ (counting (slice 2 0 1 1 1 0 216) 32 gives by 10)
-      ∷ (counting (2 ∷ 0 ∷ 0 ∷ 1 ∷ 0 ∷ 1 ∷ 16 ∷ 1 ∷ 0 ∷ 1 ∷ zeros 184597) 32 gives by 10)
       -- the length is the formula's
       ∷ (counting (slice 2 0 1 1 1 1 276) 32 gives by 10)
       ∷ (counting (slice 2 0 1 1 1 1 278) 32 gives by 10)

@@ -34,4 +34,4 @@ use Rattle.scheme.proofs.Examples.{small}
 
 pub examples-hold : All Holds (examples small)
 unfolding bytes continued lookup holds placeOf number8 valueOf sameField fieldLengthsBad sevens label KM KC KS MTof MEof CLof share MT ME CL CT CE insertToken findToken countToken compactionToken tokenP tokenMT tokenME tokenCL tokenLog findMT findME findCL sizesBad lengthFor headerOf sizesOf cut joined headerBad marksBad stateTests fresh entryTag entryRow reverseRow counterTag anchorTag countedRow counterRow anchorRow idIn plainIn clIn logRow reverseId reverseTag numbersAt anchorsHeld anchorNumbers startOf countersHeld counterNumbers isDamage reading insertTokenTests fieldTokenTests keyTests insertInputTests idTests compactionInputTests tokenTests insertReading newCount insertStateTests insertVerdict newEntries newReverses newCounter newLog insertedStore eraseVerdict isReverse erasedTags isErased erasedStore erase shareReading idsOfShare idsHeld idsFound findVerdict find countVerdict sumOfCounts Count.count logOf freeLog compactVerdict freedCounters nextAnchor logged compactedStore samePair empty H removed withPair ledgerInsertVerdict appended afterInsert afterErase ledgerLists ledgerIds ledgerSum ledgerFindVerdict ledgerCompactVerdict afterCompaction ledgerStep Insert.insert Compaction.compact treated anchoredTable inForm arranged reordered withRows closed formBad markTests usedInAll orderVerdict orderedStore Order.order RL markToken partToken tokenRL partFind partRL rMark labelRow labelId labelNonce labelMark partTests counterNonce labelNonces newLabels isLabel carries Test.tests testVerdict Test.test partDamaged partSum partIds partTest chosenAt chosenPart idsKept jointVerdict JointFind.jointFind ledgerHas ledgerJointVerdict repeats lacking repeatedEntries repeatedCounters reversesWithoutEntry entriesWithoutReverse reversesWithoutLabel labelsWithoutReverse labelsInExcess faults checkVerdict Check.check insertCall findCall countCall compactCall testCall jointCall
-examples-hold = (refl, (refl, (refl, (refl, (refl, (refl, (refl, (refl, (refl, (refl, (refl, (refl, (refl, (refl, (refl, (refl, tt))))))))))))))))
+examples-hold = (refl, (refl, (refl, (refl, (refl, (refl, (refl, (refl, (refl, (refl, (refl, (refl, (refl, (refl, (refl, (refl, (refl, tt)))))))))))))))))
