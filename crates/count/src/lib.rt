@@ -13,10 +13,10 @@ ghost use Rattle.counter.specs.Outcome.{shareRead, shareLooked};
 ghost use Rattle.count.specs.Sum.{sumAnswer};
 use answer::Refusal;
 use answer::Tallied;
-use counter::Lookup;
 use counter::Reading;
 use format::COUNT_TOKEN;
 use hmac::Keyed;
+use lookups::Lookup;
 use store::Checked;
 
 // Reads the counters of shares 0 to p out of the part that holds table C, from the prepared F(KC, x),

@@ -1,3 +1,2 @@
-pub mod Walks
 pub mod Readings
 pub mod Shares

@@ -28,10 +28,10 @@ use Rattle.format.specs.declared.Keys.{Keys}
 use Rattle.format.specs.Tags.{Prepared, KeysOf}
 use Rattle.format.specs.Rows.{textIn}
 use Rattle.format.proofs.Tags.{counter-tag-is, anchor-tag-is}
-use Rattle.counter.specs.Walks.{counterTags, anchorTags, heldIn, lastPlace, placesOf, noted}
-use Rattle.counter.specs.Outcome.{numbersIn, numbersOr, anchorBad, counterBad, placesNoted, talliedBy, rowsTold}
-use Rattle.counter.specs.declared.Lookup.{Lookup}
-use Rattle.counter.proofs.Walks.{walk-held, walk-le, tallied-sum}
+use Rattle.lookups.specs.Walks.{counterTags, anchorTags, heldIn, lastPlace, placesOf, noted, talliedBy}
+use Rattle.counter.specs.Outcome.{numbersIn, numbersOr, anchorBad, counterBad, placesNoted, rowsTold}
+use Rattle.lookups.specs.declared.Lookup.{Lookup}
+use Rattle.lookups.proofs.Walks.{walk-held, walk-le, tallied-sum}
 
 -- the tags of all numbers
 counter-tags : (k : Keyed) (cl : List ℕ) → Prepared k (CT program cl) → counterTags k ≡ counterTag program cl

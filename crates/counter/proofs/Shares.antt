@@ -24,7 +24,7 @@ use Rattle.scheme.proofs.RowsRead.{reading-rows-most}
 use Rattle.suite.specs.Program.{program}
 use Rattle.format.specs.Tags.{Prepared, numberedBy}
 use Rattle.counter.specs.Outcome.{shareRead, shareTold, shareLooked}
-use Rattle.counter.specs.declared.Lookup.the-variants.{Walk}
+use Rattle.lookups.specs.declared.Lookup.the-variants.{Walk}
 use Rattle.counter.proofs.Readings.{rows-counter}
 use Rattle.format.proofs.Tags.{share-is}
 

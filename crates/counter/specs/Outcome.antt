@@ -11,13 +11,12 @@ use Rattle.scheme.specs.Reading.{limit, Numbers as SchemeNumbers, Reading as Sc
 use Rattle.scheme.specs.Reading.Reading.{counter, damage}
 use Rattle.scheme.specs.RowsRead.{readingRows}
 use Rattle.suite.specs.Program.{program}
-use Rattle.counter.specs.Walks.{noted}
+use Rattle.lookups.specs.Walks.{noted, talliedBy}
 use Rattle.hmac.specs.declared.Keyed.{Keyed}
 use Rattle.format.specs.Tags.{numberedBy}
 use Rattle.format.specs.Rows.{textIn}
 use Rattle.counter.specs.declared.Numbers.{Numbers}
-use Rattle.counter.specs.declared.Lookup.{Lookup}
-use Rattle.counter.specs.declared.Lookup.the-variants.{Search, Walk}
+use Rattle.lookups.specs.declared.Lookup.{Lookup}
 use Rattle.counter.specs.declared.Reading.{Reading}
 use Rattle.counter.specs.declared.Reading.the-variants.{Counter, Damage}
 
@@ -53,11 +52,6 @@ readingOf Damage = damage
 unfoldable pub placesNoted : ℕ → List ℕ → Table → List ℕ → List ℕ
 placesNoted c cl t old =
     cond (anchorBad (anchorNumbers program c cl t)) old (noted (counterTag program cl) t (startOf program c cl t) (countersHeld program c cl t) old)
-
--- rows are tallied in a walk alone [02:W3.9]
-abbrev pub talliedBy : Lookup → ℕ → ℕ
-talliedBy Search n = 0
-talliedBy Walk n = n
 
 -- the tally of a reading; damage has none
 abbrev pub rowsIn : Reading → ℕ

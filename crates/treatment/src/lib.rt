@@ -16,12 +16,12 @@ ghost use Rattle.suite.specs.Program.{program};
 ghost use Rattle.format.specs.Tags.{KeysOf};
 ghost use Rattle.treatment.specs.Treatment.{Noted, doneBy, tableBy};
 use counter::Counter;
-use counter::Lookup;
 use counter::Reading;
 use format::AnchorNumber;
 use format::Keys;
 use format::Position;
 use format::row;
+use lookups::Lookup;
 use store::C_WIDTH;
 use store::MOST_ROWS;
 

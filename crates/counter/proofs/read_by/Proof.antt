@@ -12,10 +12,10 @@ use Rattle.table.proofs.Rows.{rows-length}
 use Rattle.table.proofs.Counting.{neither}
 use Rattle.scheme.specs.Reading.{limit, anchorNumbers, counterNumbers, countersHeld}
 use Rattle.suite.specs.Program.{program}
-use Rattle.counter.specs.Walks.{anchorTags, counterTags}
+use Rattle.lookups.specs.Walks.{anchorTags, counterTags}
 use Rattle.counter.specs.Outcome.{numbersOf, anchorBad, placesNoted}
 use Rattle.counter.proofs.Readings.{anchors-are, anchor-numbers-are, counters-are, counter-numbers-are, damaged-anchor, damaged-counter, counted, places-kept, places-are, rows-damage, rows-counter, rows-are}
-use Rattle.counter.proofs.Walks.{tally-small}
+use Rattle.lookups.proofs.Walks.{tally-small}
 use borrow.Author.Needs.{needs}
 use Rattle.counter.proofs.read_by.Statement.{statement}
 use Rattle.counter.proofs.read_by.Tie as tie

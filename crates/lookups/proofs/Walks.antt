@@ -19,10 +19,9 @@ use Rattle.table.proofs.Looked.{looked-most}
 use Rattle.scheme.specs.Reading.{walk}
 use Rattle.scheme.specs.RowsRead.{lookedOver}
 use Rattle.scheme.proofs.RowsRead.{over-most, over-next}
-use Rattle.counter.specs.Walks.{heldIn, lastPlace, placesOf, noted}
-use Rattle.counter.specs.Outcome.{talliedBy}
-use Rattle.counter.specs.declared.Lookup.{Lookup}
-use Rattle.counter.specs.declared.Lookup.the-variants.{Search, Walk}
+use Rattle.lookups.specs.Walks.{heldIn, lastPlace, placesOf, noted, talliedBy}
+use Rattle.lookups.specs.declared.Lookup.{Lookup}
+use Rattle.lookups.specs.declared.Lookup.the-variants.{Search, Walk}
 
 module _ (held : ℕ → Bool) where
   walk-more : (left n : ℕ) → 0 < left → held (n + 1) ≡ true → walk held left n ≡ suc (walk held (left - 1) (n + 1))

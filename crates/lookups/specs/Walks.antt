@@ -7,6 +7,8 @@ use lib.ListN.{length, drop}
 use Rattle.table.specs.Table.{Table, holds, placeOf}
 use Rattle.hmac.specs.declared.Keyed.{Keyed}
 use Rattle.format.specs.Tags.{counterTagBy, anchorTagBy}
+use Rattle.lookups.specs.declared.Lookup.{Lookup}
+use Rattle.lookups.specs.declared.Lookup.the-variants.{Search, Walk}
 
 -- the tags by number
 abbrev pub counterTags : Keyed → ℕ → List ℕ
@@ -32,3 +34,8 @@ placesOf tag t i (suc k) = placeOf (tag (suc i)) t ∷ placesOf tag t (suc i) k
 -- a list of places with those over its start
 abbrev pub noted : (ℕ → List ℕ) → Table → ℕ → ℕ → List ℕ → List ℕ
 noted tag t i k old = placesOf tag t i k ++ drop k old
+
+-- rows are tallied in a walk alone [02:W3.9]
+abbrev pub talliedBy : Lookup → ℕ → ℕ
+talliedBy Search n = 0
+talliedBy Walk n = n

@@ -3,11 +3,11 @@ use mathlib.Core.Path.{sym, ap, _∙_}
 use Rattle.table.specs.Table.{rows}
 use Rattle.table.specs.Looked.{lookedAt}
 use Rattle.scheme.specs.Store.{tableC, widthOf}
-use Rattle.counter.specs.Outcome.{talliedBy}
-use Rattle.counter.specs.declared.Lookup.{Lookup}
+use Rattle.lookups.specs.Walks.{talliedBy}
+use Rattle.lookups.specs.declared.Lookup.{Lookup}
 use borrow.Author.Needs.{needs}
-use Rattle.counter.proofs.place.Statement.{statement}
-use Rattle.counter.proofs.place.Tie as tie
+use Rattle.lookups.proofs.place.Statement.{statement}
+use Rattle.lookups.proofs.place.Tie as tie
 
 returns : tie.Need-returns
 returns c =
