@@ -6,6 +6,8 @@ use lib.Dec.{eqb}
 use Rattle.answer.specs.Answer.{numberOf}
 use Rattle.text.specs.Ascii.{ascii}
 use Rattle.advice.specs.Advise.{adviceOf}
+use denote.Enum.Declared.{tagOf}
+use Rattle.advice.proofs.Advice.{the-type}
 use Rattle.advice.specs.declared.Advice.{Advice}
 use Rattle.advice.specs.declared.Advice.the-variants.{Key, Field, Share, Shares, Ids, Token, Sizes, NoStore, Old, Marks, Order, TokenShares, Damage, Count, Entries, Compact, Larger, Log, Labels, Output, Fault}
 use Rattle.outcome.specs.declared.Outcome.{Outcome}
@@ -24,6 +26,10 @@ roomSentence n given one many =
     ++ (plural n one many
     ++ (plural given (ascii " was given") (ascii " were given")
     ++ ascii ": compact does not help, erase ids or make a larger store\n"))
+
+-- an advice's place among all of them
+abbrev pub placeOf : Advice → ℕ
+placeOf a = tagOf the-type a
 
 -- what is wrong, and what to do
 unfoldable pub sentenceOf : Advice → ℕ → List ℕ

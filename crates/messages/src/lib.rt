@@ -1,8 +1,8 @@
 // What standard error gets of an outcome: of a refusal, its number and what to do.
-ghost use Prim.Native.Nat.{_+_, _≤_};
+ghost use Prim.Native.Nat.{_+_, _≤_, _<_};
 ghost use lib.ListN.{length};
 ghost use Rattle.buffer.specs.Put.{Put};
-ghost use Rattle.messages.specs.Message.{plural, roomSentence, sentenceOf, messageLine};
+ghost use Rattle.messages.specs.Message.{plural, roomSentence, placeOf, sentenceOf, messageLine};
 use advice::Advice;
 use advice::Room;
 use answer::Refusal;
@@ -118,26 +118,12 @@ fn put_output(to: &mut [u8], at: usize, n: u64) -> usize
     )
 }
 
-// What is wrong, and what to do.
-fn put_sentence(to: &mut [u8], at: usize, a: Advice, given: u64) -> usize
-    requires { ⌜ at + 200 ≤ length (now to) ⌝ }
+// What to say of room that is wanting, or of what never should be; no other advice comes here.
+fn put_on_room(to: &mut [u8], at: usize, a: Advice, given: u64) -> usize
+    requires { ⌜ (at + 200 ≤ length (now to)) × (13 < placeOf a) ⌝ }
     ensures { λ r. ⌜ Put (now (to .entry)) at (sentenceOf a given) (now (to .exit)) r ⌝ }
 {
     match a {
-        Advice::Key => put(to, at, &KEY),
-        Advice::Field => put(to, at, &FIELD),
-        Advice::Share(p) => put_share(to, at, p),
-        Advice::Shares => put(to, at, &SHARES),
-        Advice::Ids => put(to, at, &IDS),
-        Advice::Token => put(to, at, &TOKEN),
-        Advice::Sizes => put(to, at, &SIZES),
-        Advice::NoStore => put(to, at, &NO_STORE),
-        Advice::Old => put(to, at, &OLD),
-        Advice::Marks => put(to, at, &MARKS),
-        Advice::Order => put(to, at, &ORDER),
-        Advice::TokenShares(p) => put_token_shares(to, at, p),
-        Advice::Damage => put(to, at, &DAMAGE),
-        Advice::Count => put(to, at, &COUNT),
         Advice::Entries(n) => put_room(
             to,
             at,
@@ -152,6 +138,41 @@ fn put_sentence(to: &mut [u8], at: usize, a: Advice, given: u64) -> usize
         Advice::Labels(n) => put_room(to, at, n as u64, given, b" more label, ", b" more labels, "),
         Advice::Output(n) => put_output(to, at, n),
         Advice::Fault => put(to, at, &FAULT),
+        _ => at,
+    }
+}
+
+// What to say of a store, of its counters and of its room.
+fn put_on_store(to: &mut [u8], at: usize, a: Advice, given: u64) -> usize
+    requires { ⌜ (at + 200 ≤ length (now to)) × (6 < placeOf a) ⌝ }
+    ensures { λ r. ⌜ Put (now (to .entry)) at (sentenceOf a given) (now (to .exit)) r ⌝ }
+{
+    match a {
+        Advice::NoStore => put(to, at, &NO_STORE),
+        Advice::Old => put(to, at, &OLD),
+        Advice::Marks => put(to, at, &MARKS),
+        Advice::Order => put(to, at, &ORDER),
+        Advice::TokenShares(p) => put_token_shares(to, at, p),
+        Advice::Damage => put(to, at, &DAMAGE),
+        Advice::Count => put(to, at, &COUNT),
+        _ => put_on_room(to, at, a, given),
+    }
+}
+
+// What is wrong, and what to do: of what was given here, of the store and its room in the functions above.
+fn put_sentence(to: &mut [u8], at: usize, a: Advice, given: u64) -> usize
+    requires { ⌜ at + 200 ≤ length (now to) ⌝ }
+    ensures { λ r. ⌜ Put (now (to .entry)) at (sentenceOf a given) (now (to .exit)) r ⌝ }
+{
+    match a {
+        Advice::Key => put(to, at, &KEY),
+        Advice::Field => put(to, at, &FIELD),
+        Advice::Share(p) => put_share(to, at, p),
+        Advice::Shares => put(to, at, &SHARES),
+        Advice::Ids => put(to, at, &IDS),
+        Advice::Token => put(to, at, &TOKEN),
+        Advice::Sizes => put(to, at, &SIZES),
+        _ => put_on_store(to, at, a, given),
     }
 }
 
