@@ -55,34 +55,15 @@ pub fn takes_key(q: Request) -> bool
     ensures { λ r. ⌜ r ≡ takesKey q ⌝ }
 {
     match q {
-        Request::Help(_) => false,
-        Request::Misused(_) => false,
-        Request::NotNumber(_) => false,
-        Request::NotId(_) => false,
-        Request::New {
-            p: _,
-            m: _,
-            c: _,
-            s: _,
-            r: _,
-        } => false,
-        Request::Key => false,
         Request::Insert { u: _, n: _ } => true,
         Request::Find { pairs: _ } => true,
         Request::Count { rows: _ } => true,
-        Request::Erase => false,
         Request::Compact => true,
-        Request::Order => false,
-        Request::Show => false,
-        Request::Check => false,
         Request::InsertToken { p: _, u: _ } => true,
         Request::FindToken => true,
         Request::CountToken => true,
         Request::CompactionToken => true,
-        Request::InsertBy { n: _ } => false,
-        Request::FindBy => false,
-        Request::CountBy { rows: _ } => false,
-        Request::CompactBy => false,
+        _ => false,
     }
 }
 
@@ -91,34 +72,11 @@ pub fn takes_token(q: Request) -> bool
     ensures { λ r. ⌜ r ≡ takesToken q ⌝ }
 {
     match q {
-        Request::Help(_) => false,
-        Request::Misused(_) => false,
-        Request::NotNumber(_) => false,
-        Request::NotId(_) => false,
-        Request::New {
-            p: _,
-            m: _,
-            c: _,
-            s: _,
-            r: _,
-        } => false,
-        Request::Key => false,
-        Request::Insert { u: _, n: _ } => false,
-        Request::Find { pairs: _ } => false,
-        Request::Count { rows: _ } => false,
-        Request::Erase => false,
-        Request::Compact => false,
-        Request::Order => false,
-        Request::Show => false,
-        Request::Check => false,
-        Request::InsertToken { p: _, u: _ } => false,
-        Request::FindToken => false,
-        Request::CountToken => false,
-        Request::CompactionToken => false,
         Request::InsertBy { n: _ } => true,
         Request::FindBy => true,
         Request::CountBy { rows: _ } => true,
         Request::CompactBy => true,
+        _ => false,
     }
 }
 
@@ -128,34 +86,12 @@ pub fn random_for(q: Request, store: &[u8]) -> usize
     ensures { λ r. ⌜ (r ≡ randomOf q (now (store .entry))) × (r ≤ 49152) ⌝ }
 {
     match q {
-        Request::Help(_) => 0,
-        Request::Misused(_) => 0,
-        Request::NotNumber(_) => 0,
-        Request::NotId(_) => 0,
-        Request::New {
-            p: _,
-            m: _,
-            c: _,
-            s: _,
-            r: _,
-        } => 0,
-        Request::Key => 0,
         Request::Insert { u: _, n } => 12 * (2 * n + 2),
-        Request::Find { pairs: _ } => 0,
-        Request::Count { rows: _ } => 0,
-        Request::Erase => 0,
         Request::Compact => 12 * advice::room_in(store).logged,
-        Request::Order => 0,
-        Request::Show => 0,
-        Request::Check => 0,
         Request::InsertToken { p: _, u: _ } => 12,
-        Request::FindToken => 0,
-        Request::CountToken => 0,
-        Request::CompactionToken => 0,
         Request::InsertBy { n } => 12 * (2 * n + 1),
-        Request::FindBy => 0,
-        Request::CountBy { rows: _ } => 0,
         Request::CompactBy => 12 * advice::room_in(store).logged,
+        _ => 0,
     }
 }
 
@@ -179,34 +115,21 @@ fn made(o: Outcome) -> bool
 pub fn changes(q: Request, o: Outcome) -> bool
     ensures { λ r. ⌜ r ≡ Needs·changes q o ⌝ }
 {
+    let wrote = made(o);
     match q {
-        Request::Help(_) => false,
-        Request::Misused(_) => false,
-        Request::NotNumber(_) => false,
-        Request::NotId(_) => false,
         Request::New {
             p: _,
             m: _,
             c: _,
             s: _,
             r: _,
-        } => made(o),
-        Request::Key => false,
-        Request::Insert { u: _, n: _ } => made(o),
-        Request::Find { pairs: _ } => false,
-        Request::Count { rows: _ } => false,
-        Request::Erase => made(o),
-        Request::Compact => made(o),
-        Request::Order => made(o),
-        Request::Show => false,
-        Request::Check => false,
-        Request::InsertToken { p: _, u: _ } => false,
-        Request::FindToken => false,
-        Request::CountToken => false,
-        Request::CompactionToken => false,
-        Request::InsertBy { n: _ } => made(o),
-        Request::FindBy => false,
-        Request::CountBy { rows: _ } => false,
-        Request::CompactBy => made(o),
+        } => wrote,
+        Request::Insert { u: _, n: _ } => wrote,
+        Request::Erase => wrote,
+        Request::Compact => wrote,
+        Request::Order => wrote,
+        Request::InsertBy { n: _ } => wrote,
+        Request::CompactBy => wrote,
+        _ => false,
     }
 }

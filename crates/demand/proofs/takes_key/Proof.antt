@@ -1,6 +1,7 @@
 -- Each arm knows its request.
 use mathlib.Core.Path.{sym, ap}
 use Rattle.demand.specs.Needs.{takesKey}
+use Rattle.demand.proofs.Rest.{keyless}
 use borrow.Author.Needs.{needs}
 use Rattle.demand.proofs.takes_key.Statement.{statement}
 use Rattle.demand.proofs.takes_key.Tie as tie
@@ -30,48 +31,11 @@ returns-8 : tie.Need-returns-8
 returns-8 c = sym (ap takesKey (c .enum-told8 .given .1))
 
 returns-9 : tie.Need-returns-9
-returns-9 c = sym (ap takesKey (c .enum-told9 .given .1))
-
-returns-10 : tie.Need-returns-10
-returns-10 c = sym (ap takesKey (c .enum-told10 .given .1))
-
-returns-11 : tie.Need-returns-11
-returns-11 c = sym (ap takesKey (c .enum-told11 .given .1))
-
-returns-12 : tie.Need-returns-12
-returns-12 c = sym (ap takesKey (c .enum-told12 .given .1))
-
-returns-13 : tie.Need-returns-13
-returns-13 c = sym (ap takesKey (c .enum-told13 .given .1))
-
-returns-14 : tie.Need-returns-14
-returns-14 c = sym (ap takesKey (c .enum-told14 .given .1))
-
-returns-15 : tie.Need-returns-15
-returns-15 c = sym (ap takesKey (c .enum-told15 .given .1))
-
-returns-16 : tie.Need-returns-16
-returns-16 c = sym (ap takesKey (c .enum-told16 .given .1))
-
-returns-17 : tie.Need-returns-17
-returns-17 c = sym (ap takesKey (c .enum-told17 .given .1))
-
-returns-18 : tie.Need-returns-18
-returns-18 c = sym (ap takesKey (c .enum-told18 .given .1))
-
-returns-19 : tie.Need-returns-19
-returns-19 c = sym (ap takesKey (c .enum-told19 .given .1))
-
-returns-20 : tie.Need-returns-20
-returns-20 c = sym (ap takesKey (c .enum-told20 .given .1))
-
-returns-21 : tie.Need-returns-21
-returns-21 c = sym (ap takesKey (c .enum-told21 .given .1))
-
-returns-22 : tie.Need-returns-22
-returns-22 c = sym (ap takesKey (c .enum-told22 .given .1))
+returns-9 c = sym (keyless (c .before .args .q) (c .match .keys9))
 
 pub takes-key-spec : {M : Type 1} → statement M
 takes-key-spec =
     tie.close
-    (tie.spec (λ c. search needs) (λ c. search needs) (λ c. search needs) (λ c. search needs) (λ c. search needs) (λ c. search needs) (λ c. search needs) (λ c. search needs) (λ c. search needs) (λ c. search needs) (λ c. search needs) (λ c. search needs) (λ c. search needs) (λ c. search needs) (λ c. search needs) (λ c. search needs) (λ c. search needs) (λ c. search needs) (λ c. search needs) (λ c. search needs) (λ c. search needs) (λ c. search needs) returns returns-2 returns-3 returns-4 returns-5 returns-6 returns-7 returns-8 returns-9 returns-10 returns-11 returns-12 returns-13 returns-14 returns-15 returns-16 returns-17 returns-18 returns-19 returns-20 returns-21 returns-22)
+    (tie.spec (λ c. search needs) (λ c. search needs) (λ c. search needs) (λ c. search needs) (λ c. search needs)
+    (λ c. search needs) (λ c. search needs) (λ c. search needs) returns returns-2 returns-3 returns-4 returns-5
+    returns-6 returns-7 returns-8 returns-9)
