@@ -16,7 +16,7 @@ use Rattle.messages.specs.Message.{sentenceOf}
 pub arm : (given : ℕ) {a b : Advice} {to after : List ℕ} {at end : ℕ} → a ≡ b → Put to at (sentenceOf b given) after end → Put to at (sentenceOf a given) after end
 arm given e p = said (sym (ap (λ (x : Advice). sentenceOf x given) e)) p
 
-abbrev every : (ℕ → Bool) → List ℕ → Bool
+abbrev pub every : (ℕ → Bool) → List ℕ → Bool
 every f [] = true
 every f (k ∷ ks) = cond (f k) (every f ks) false
 
@@ -25,7 +25,7 @@ both true d e = (refl, e)
 both false d e = (e, cc)
 
 -- what holds of each key holds of the one that is there
-one-of : (f : ℕ → Bool) (ks : List ℕ) (x : ℕ) → OneOf ks x → every f ks ≡ true → f x ≡ true
+pub one-of : (f : ℕ → Bool) (ks : List ℕ) (x : ℕ) → OneOf ks x → every f ks ≡ true → f x ≡ true
 one-of f [] x h all = absurd h
 one-of f (k ∷ []) x h all = ap f h ∙ both (f k) true all .0
 one-of f (k ∷ (l ∷ ks)) x (inl h) all = ap f h ∙ both (f k) (every f (l ∷ ks)) all .0

@@ -15,9 +15,10 @@ ghost use lib.ListN.{length};
 ghost use Rattle.buffer.specs.Put.{Put};
 ghost use Rattle.lines.specs.Answer.{answerLine};
 ghost use Rattle.text.specs.Ascii.{ascii};
-ghost use Rattle.request.specs.Request.{requestOf};
+ghost use Rattle.request.specs.Request.{requestOf, Bounded};
 ghost use Rattle.usage.specs.Usage.{usageLine, helpText};
 ghost use Rattle.report.specs.Run.{badWord, Ends};
+ghost use Rattle.tool.specs.Place.{placeOf};
 
 // What `help` prints.
 fn help(c: Command, out: &mut [u8]) -> Ran
@@ -72,6 +73,74 @@ fn bad_word(what: &[u8], word: &[u8], out: &mut [u8], err: &mut [u8]) -> Ran
     failed(m, out)
 }
 
+// A run that makes a token, or that takes one in place of the key file; no other request comes here.
+fn with_token(
+    q: Request,
+    line: &[u8],
+    store: &mut [u8],
+    key: &[u8],
+    random: &[u8],
+    out: &mut [u8],
+    err: &mut [u8],
+) -> Ran
+    requires { ⌜ (135168 ≤ length (now out)) × ((256 ≤ length (now err)) × (Bounded q × (13 < placeOf q))) ⌝ }
+    ensures { λ r. ⌜ Ends q (now (line .entry)) (now (store .entry)) (now (key .entry)) (now (random .entry)) (now (out .entry)) (now (err .entry)) r (now (store .exit)) (now (out .exit)) (now (err .exit)) ⌝ }
+{
+    match q {
+        Request::InsertToken { p, u } => token_issuance::insert_token(
+            line,
+            p,
+            u,
+            key,
+            random,
+            out,
+            err,
+        ),
+        Request::FindToken => token_issuance::find_token(line, key, out, err),
+        Request::CountToken => token_issuance::count_token(line, key, out, err),
+        Request::CompactionToken => token_issuance::compaction_token(line, key, out, err),
+        Request::InsertBy { n } => token_execution::insert_by(
+            line,
+            n,
+            store,
+            key,
+            random,
+            out,
+            err,
+        ),
+        Request::FindBy => token_execution::find_by(line, store, key, out, err),
+        Request::CountBy { rows } => token_execution::count_by(line, rows, store, key, out, err),
+        Request::CompactBy => token_execution::compact_by(line, store, key, random, out, err),
+        _ => failed(0, out),
+    }
+}
+
+// A run on a store, with the key file where the request takes one; else one with a token.
+fn on_store(
+    q: Request,
+    line: &[u8],
+    store: &mut [u8],
+    key: &[u8],
+    random: &[u8],
+    out: &mut [u8],
+    err: &mut [u8],
+) -> Ran
+    requires { ⌜ (135168 ≤ length (now out)) × ((256 ≤ length (now err)) × (Bounded q × (5 < placeOf q))) ⌝ }
+    ensures { λ r. ⌜ Ends q (now (line .entry)) (now (store .entry)) (now (key .entry)) (now (random .entry)) (now (out .entry)) (now (err .entry)) r (now (store .exit)) (now (out .exit)) (now (err .exit)) ⌝ }
+{
+    match q {
+        Request::Insert { u, n } => execution::insert(line, u, n, store, key, random, out, err),
+        Request::Find { pairs } => execution::find(line, pairs, store, key, out, err),
+        Request::Count { rows } => execution::count(line, rows, store, key, out, err),
+        Request::Erase => execution::erase(line, store, out, err),
+        Request::Compact => { report::answered(commands::compact(store, key, random), 0, out, err) }
+        Request::Order => execution::order(store, out, err),
+        Request::Show => execution::show(store, out, err),
+        Request::Check => execution::check(store, out, err),
+        _ => with_token(q, line, store, key, random, out, err),
+    }
+}
+
 // A run of the tool.
 pub fn run(
     line: &[u8],
@@ -104,37 +173,6 @@ pub fn run(
             report::answered(commands::make(p, m, c, s, r, store), 0, out, err)
         }
         Request::Key => report::answered(Outcome::Done, 0, out, err),
-        Request::Insert { u, n } => execution::insert(line, u, n, store, key, random, out, err),
-        Request::Find { pairs } => execution::find(line, pairs, store, key, out, err),
-        Request::Count { rows } => execution::count(line, rows, store, key, out, err),
-        Request::Erase => execution::erase(line, store, out, err),
-        Request::Compact => { report::answered(commands::compact(store, key, random), 0, out, err) }
-        Request::Order => execution::order(store, out, err),
-        Request::Show => execution::show(store, out, err),
-        Request::Check => execution::check(store, out, err),
-        Request::InsertToken { p, u } => token_issuance::insert_token(
-            line,
-            p,
-            u,
-            key,
-            random,
-            out,
-            err,
-        ),
-        Request::FindToken => token_issuance::find_token(line, key, out, err),
-        Request::CountToken => token_issuance::count_token(line, key, out, err),
-        Request::CompactionToken => token_issuance::compaction_token(line, key, out, err),
-        Request::InsertBy { n } => token_execution::insert_by(
-            line,
-            n,
-            store,
-            key,
-            random,
-            out,
-            err,
-        ),
-        Request::FindBy => token_execution::find_by(line, store, key, out, err),
-        Request::CountBy { rows } => token_execution::count_by(line, rows, store, key, out, err),
-        Request::CompactBy => token_execution::compact_by(line, store, key, random, out, err),
+        _ => on_store(q, line, store, key, random, out, err),
     }
 }
