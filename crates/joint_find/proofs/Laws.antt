@@ -33,6 +33,9 @@ use Rattle.store.specs.declared.Shape.{Shape}
 use Rattle.store.specs.declared.Checked.the-variants.{Fit, Refused}
 use Rattle.store.specs.Check.{checkedOf}
 use Rattle.store.proofs.Laws.{unfit, fit-verdict, fit-sizes}
+use Rattle.hmac.specs.declared.Keyed.{Keyed}
+use Rattle.chains.specs.Chains.{keptIds}
+use Rattle.chains.proofs.Kept.{kept-length}
 use Rattle.find.specs.declared.Counts.{Counts}
 use Rattle.find.specs.Counts
 use Rattle.find.specs.Counts.{countsOf}
@@ -40,10 +43,11 @@ use Rattle.find.specs.Given.{givenAnswer, givenOutput}
 use Rattle.find.proofs.Laws.{told-damage, told-sound}
 use Rattle.sifting.specs.Sifting.{siftedBy, staying, unset}
 use Rattle.sifting.proofs.Laws.{staying-all, staying-by, staying-length, sifted-by-both}
-use Rattle.joint_find.specs.declared.Choice.{Choice}
-use Rattle.joint_find.specs.Choice.{partCounts, chosenTo}
+use Rattle.choosing.specs.declared.Choice.{Choice}
+use Rattle.choosing.specs.Choice.{partCounts, chosenTo}
+use Rattle.choosing.proofs.Laws.{find-token}
+use Rattle.choosing.proofs.Least.{Chosen, chosen-is}
 use Rattle.joint_find.specs.Kept.{testOf, keptOf, partsBad}
-use Rattle.joint_find.proofs.Least.{Chosen, chosen-is}
 
 -- ---- a part in the slice
 
@@ -51,13 +55,8 @@ module _ (n i : ℕ) (t : List ℕ) (h : i < n) where
   abbrev partAt : List ℕ
   partAt = getD (rows 128 n t) i []
 
-  pub find-token : take (128 * i + 96 - 128 * i) (drop (128 * i) t) ≡ partFind partAt
-  unfolding partFind
-  find-token =
-      ap₂ (λ (k a : ℕ). take k (drop a t)) (let e : 128 * i + 96 - 128 * i ≡ 96 = omega arith in e) (let e : 128 * i ≡ 128 * i + 0 = omega arith in e) ∙ sym (field-at 128 n i 0 96 t h (lit≤ tt))
-
   pub find-long : length t ≡ 128 * n → length (partFind partAt) ≡ findTokenLength
-  find-long e = sym (ap length find-token) ∙ length-part t (128 * i) (128 * i + 96) (omega arith) ∙ omega arith
+  find-long e = sym (ap length (find-token n i t h)) ∙ length-part t (128 * i) (128 * i + 96) (omega arith) ∙ omega arith
 
   pub find-MT : take (128 * i + 32 - 128 * i) (drop (128 * i) t) ≡ findMT (partFind partAt)
   unfolding partFind findMT
@@ -103,12 +102,45 @@ module _ (t : Table) (parts : List ℕ) (n at : ℕ) (h : at < n) (ids : List (L
         ap (staying ids) f ∙ staying-by (testOf t) ids (without at (rows 128 n parts)) fs
         ∙ ap (λ (xs : List (List ℕ)). select (λ id. allOf (λ p. testOf t p id) (without at (rows 128 n parts))) xs) (ap (staying ids) e ∙ staying-all ids (length fs) l)
 
-    pub number-kept : (k m : ℕ) → m ≡ length ids → k ≡ unset m hs → k ≡ length (keptOf t at (rows 128 n parts) ids)
-    number-kept k m em ek = ek ∙ ap (λ (j : ℕ). unset j hs) em ∙ sym (staying-length ids hs) ∙ ap length staying-are
+  -- and where the ids are those of a find
+  pub staying-found : (found : List (List ℕ)) (fs hs : List ℕ) → ids ≡ found → fs ≡ replicate (length fs) 0 → length found ≤ length fs → hs ≡ siftedBy (testOf t) ids (without at (rows 128 n parts)) fs
+      → staying ids hs ≡ keptOf t at (rows 128 n parts) found
+  staying-found found fs hs i e l f = staying-are fs hs e (omega (arith, ap length i)) f ∙ ap (keptOf t at (rows 128 n parts)) i
 
   pub kept-wide : All (λ id. length id ≡ 16) ids → All (λ id. length id ≡ 16) (keptOf t at (rows 128 n parts) ids)
   unfolding keptOf
   kept-wide w = all-select (λ id. length id ≡ 16) (λ id. allOf (λ p. testOf t p id) (without at (rows 128 n parts))) ids w
+
+-- of the ids in an index those whose flags are not set, by number
+pub number-kept : (me : Keyed) (t : Table) (index : List ℕ) (n : ℕ) (fs : List ℕ) (k : ℕ) → k ≡ unset n fs → k ≡ length (staying (keptIds me t index n) fs)
+number-kept me t index n fs k e = e ∙ ap (λ (j : ℕ). unset j fs) (sym (kept-length me t index n)) ∙ sym (staying-length (keptIds me t index n) fs)
+
+-- what is given of equal ids
+pub given-same : (ids kept : List (List ℕ)) (output : List ℕ) (a : Answer) (o : List ℕ) → ids ≡ kept → a ≡ givenAnswer ids output → o ≡ givenOutput ids output
+    → (a ≡ givenAnswer kept output) × (o ≡ givenOutput kept output)
+given-same ids kept output a o e f g = (f ∙ ap (λ (l : List (List ℕ)). givenAnswer l output) e, g ∙ ap (λ (l : List (List ℕ)). givenOutput l output) e)
+
+-- ---- numbers
+
+-- k ids of 16 bytes in an output, by the number that it has room for
+pub over : (o k : ℕ) → o / 16 < k → o < 16 * k
+over o k h = omega arith
+
+pub within : (o k u : ℕ) → k ≡ u → k ≤ o / 16 → 16 * u ≤ o
+within o k u e h = omega arith
+
+-- the parts before one of n, and all of them
+pub before-part : (l n at : ℕ) → l ≡ 128 * n → at < n → n ≤ 8 → (128 * at ≤ l) × (at ≤ 8)
+before-part l n at e h m = (omega arith, omega arith)
+
+pub all-parts : (l n : ℕ) → l ≡ 128 * n → 128 * n ≤ l
+all-parts l n e = omega arith
+
+pub as-long : (n l m : ℕ) → n ≤ l → m ≡ l → n ≤ m
+as-long n l m h e = omega arith
+
+pub so-many : (n k l : ℕ) → n ≡ k → k ≤ l → n ≤ l
+so-many n k l e h = omega arith
 
 -- ---- what the parts count
 

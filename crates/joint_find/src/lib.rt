@@ -6,7 +6,7 @@ ghost use mathlib.Core.List.{map};
 ghost use Prim.Native.Nat.{_+_, _*_, _-_, _≤_, _<_};
 ghost use lib.ListN.{length, getD, replicate};
 ghost use Rattle.answer.specs.Answer.{counted};
-ghost use Rattle.table.specs.Lists.{sum, upTo, distinct};
+ghost use Rattle.table.specs.Lists.{sum, upTo, distinct, All};
 ghost use Rattle.table.specs.Table.{rows};
 ghost use Rattle.table.specs.Order.{Searchable};
 ghost use mathlib.Core.List.{[]};
@@ -14,24 +14,24 @@ ghost use mathlib.Core.Bool.{false};
 ghost use Rattle.scheme.specs.Store.{tableM, tableR, widthOf, cut};
 ghost use Rattle.scheme.specs.Keys.{findMT, findME, findCL, partFind};
 ghost use Rattle.scheme.specs.Find.{shareReading, idsFound};
-ghost use Rattle.scheme.specs.JointFind.{jointFind as jointFindOf};
+ghost use Rattle.scheme.specs.JointFind.{without, jointFind as jointFindOf};
 ghost use Rattle.suite.specs.Program.{program};
 ghost use Rattle.store.specs.Check.{checkedOf};
 ghost use Rattle.format.specs.Tags.{Prepared};
-ghost use Rattle.chains.specs.Chains.{kept};
+ghost use Rattle.chains.specs.Chains.{kept, keptIds, Chained};
 ghost use Rattle.ids.specs.Ids.{idsIn, notedIn};
+ghost use Rattle.sifting.specs.Sifting.{siftedBy, staying};
 ghost use Rattle.find.specs.Given.{givenAnswer, givenOutput, Empty};
 ghost use Rattle.find.specs.Counts.{Sound};
-ghost use Rattle.joint_find.specs.Choice.{partCounts, betterOf, chosenTo};
-ghost use Rattle.joint_find.specs.Kept.{partsBad, keptOf};
+ghost use Rattle.joint_find.specs.Kept.{testOf, partsBad, keptOf};
 use answer::Counted;
 use answer::Refusal;
 use chains::BUCKETS;
 use chains::FIRST_BYTES;
-use find::Counts;
-use format::FIND_TOKEN;
+use choosing::Choice;
 use format::ID;
 use format::PART_TOKEN;
+use hmac::Keyed;
 use ids::EntryKeys;
 use store::Checked;
 use store::MOST_ROWS;
@@ -42,56 +42,83 @@ const FEW: usize = MOST_ROWS;
 
 const MANY: usize = 16 * MOST_ROWS;
 
-// The number of a part, and what its shares count.
-struct Choice {
+// Sets the flags of those of the ids kept in an index that a part but the one at a place says no to: the
+// parts before it, then those after it. [02:W4.21]
+fn sift_others(
+    t: &[u8],
+    m: usize,
+    me: Keyed,
+    index: &[u32],
+    ids: &[u8],
+    found: usize,
+    labels: &[u8],
+    r: usize,
+    held: usize,
+    parts: &[u8],
+    n: usize,
     at: usize,
-    counts: Counts,
+    flags: &mut [u8],
+)
+    requires { ⌜ (length (now t) ≡ widthOf tableM * m) × (Chained me (rows (widthOf tableM) m (now t)) (kept (now index) (now ids) found) × (found ≤ length (now flags))) ⌝ }
+    requires { ⌜ ((length (now labels) ≡ widthOf tableR * r) × Searchable (widthOf tableR) held (rows (widthOf tableR) r (now labels))) × ((length (now parts) ≡ 128 * n) × ((at < n) × (n ≤ 8))) ⌝ }
+    ensures { λ _. ⌜ now (flags .exit) ≡ siftedBy (testOf (rows (widthOf tableR) r (now (labels .entry)))) (keptIds me (rows (widthOf tableM) m (now (t .entry))) (now (index .entry)) found) (without at (rows 128 n (now (parts .entry)))) (now (flags .entry)) ⌝ }
+{
+    sifting::sift_parts(
+        t,
+        m,
+        me,
+        index,
+        ids,
+        found,
+        labels,
+        r,
+        held,
+        parts,
+        0,
+        at,
+        flags,
+    );
+    sifting::sift_parts(
+        t,
+        m,
+        me,
+        index,
+        ids,
+        found,
+        labels,
+        r,
+        held,
+        parts,
+        at + 1,
+        n,
+        flags,
+    );
 }
 
-// The part of number i in the place of the one chosen so far, where it is damaged or counts less; a damaged
-// one stays. [02:W4.20 W4.22]
-fn better(c: Choice, i: usize, k: Counts) -> Choice
-    ensures { λ r. ⌜ r ≡ betterOf c i k ⌝ }
+// The ids kept in an index whose flags are not set, at the start of the output, and how many; or 18 with their
+// number. [02:W4.23]
+fn write_unset(
+    t: &[u8],
+    m: usize,
+    me: Keyed,
+    index: &[u32],
+    ids: &[u8],
+    found: usize,
+    flags: &[u8],
+    output: &mut [u8],
+) -> Counted
+    requires { ⌜ (length (now t) ≡ widthOf tableM * m) × (Chained me (rows (widthOf tableM) m (now t)) (kept (now index) (now ids) found) × (found ≤ length (now flags))) ⌝ }
+    requires { ⌜ All (λ id. length id ≡ 16) (staying (keptIds me (rows (widthOf tableM) m (now t)) (now index) found) (now flags)) ⌝ }
+    ensures { λ a. ⌜ counted a ≡ givenAnswer (staying (keptIds me (rows (widthOf tableM) m (now (t .entry))) (now (index .entry)) found) (now (flags .entry))) (now (output .entry)) ⌝ }
+    ensures { λ _. ⌜ now (output .exit) ≡ givenOutput (staying (keptIds me (rows (widthOf tableM) m (now (t .entry))) (now (index .entry)) found) (now (flags .entry))) (now (output .entry)) ⌝ }
 {
-    let held = c.counts;
-    if held.damaged {
-        return c;
+    let k = sifting::kept(flags, found);
+    let room = output.len() / ID;
+    if room < k {
+        return Counted::Refused(Refusal::OutputLength(k as u64));
     }
-    if k.damaged {
-        return Choice { at: i, counts: k };
-    }
-    if k.sum < held.sum {
-        return Choice { at: i, counts: k };
-    }
-    c
-}
-
-// What the part of number i counts.
-fn counts_of(store: &[u8], z: Shape, parts: &[u8], n: usize, i: usize) -> Counts
-    requires { ⌜ (checkedOf (now store) ≡ Checked.Fit z) × ((length (now parts) ≡ 128 * n) × ((i < n) × (n ≤ 8))) ⌝ }
-    ensures { λ r. ⌜ r ≡ partCounts (now (store .entry)) (z .p) (getD (rows 128 n (now (parts .entry))) i []) ⌝ }
-{
-    let a = PART_TOKEN * i;
-    let e = a + FIND_TOKEN;
-    find::counts_in(store, z, &parts[a..e])
-}
-
-// The part with the least count, the earlier on a tie, or one that is damaged: every part is read.
-// [02:W4.19 W4.20 W4.22]
-fn choose(store: &[u8], z: Shape, parts: &[u8], n: usize) -> Choice
-    requires { ⌜ (checkedOf (now store) ≡ Checked.Fit z) × ((length (now parts) ≡ 128 * n) × ((1 ≤ n) × (n ≤ 8))) ⌝ }
-    ensures { λ r. ⌜ r ≡ chosenTo (partCounts (now (store .entry)) (z .p)) (rows 128 n (now (parts .entry))) (n - 1) ⌝ }
-{
-    let counts = counts_of(store, z, parts, n, 0);
-    let mut best = Choice { at: 0, counts };
-    let mut i: usize = 0;
-    let last = n - 1;
-    while i < last {
-        i += 1;
-        let counts = counts_of(store, z, parts, n, i);
-        best = better(best, i, counts);
-    }
-    best
+    sifting::write(t, m, me, index, ids, found, flags, output);
+    Counted::Number(k as u64)
 }
 
 // Of the ids of the shares 0 to p, by their counts, each once, those for which every part but the one at a
@@ -122,7 +149,7 @@ fn give(
     let mut ids = [0u8; FIRST_BYTES];
     let mut flags = [0u8; MANY];
     let found = ids::gather(t, m, used, keys, of, p, index, &mut ids);
-    sifting::sift_parts(
+    sift_others(
         t,
         m,
         keys.me,
@@ -133,32 +160,11 @@ fn give(
         r,
         held,
         parts,
-        0,
+        n,
         at,
         &mut flags,
     );
-    sifting::sift_parts(
-        t,
-        m,
-        keys.me,
-        index,
-        &ids,
-        found,
-        labels,
-        r,
-        held,
-        parts,
-        at + 1,
-        n,
-        &mut flags,
-    );
-    let k = sifting::kept(&flags, found);
-    let room = output.len() / ID;
-    if room < k {
-        return Counted::Refused(Refusal::OutputLength(k as u64));
-    }
-    sifting::write(t, m, keys.me, index, &ids, found, &flags, output);
-    Counted::Number(k as u64)
+    write_unset(t, m, keys.me, index, &ids, found, &flags, output)
 }
 
 // The same, where the counts sum to no more than a table has rows: a small index serves.
@@ -319,7 +325,7 @@ fn joint_in(store: &[u8], z: Shape, parts: &[u8], output: &mut [u8]) -> Counted
     ensures { λ _. ⌜ now (output .exit) ≡ jointFindOf program (now (store .entry)) (now (parts .entry)) (now (output .entry)) .output ⌝ }
 {
     let n = parts.len() / PART_TOKEN;
-    let best = choose(store, z, parts, n);
+    let best = choosing::choose(store, z, parts, n);
     let counts = best.counts;
     if counts.damaged {
         return Counted::Refused(Refusal::Damage);

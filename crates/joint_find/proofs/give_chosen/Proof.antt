@@ -1,9 +1,10 @@
 -- The ids of the part are gathered in the smaller or the larger index, and sifted by R.
 use Prim.Native.Nat.{ℕ, _+_, _-_, _≤_}
-use mathlib.Core.Path.{_≡_, refl, ap, ap₂, _∙_}
+use mathlib.Core.Path.{_≡_, refl, ap₂}
 use mathlib.Core.List.{List, [], map}
 use native.Mathlib.Omega.{arith}
 use lib.ListN.{getD, take, drop}
+use Rattle.answer.specs.Answer.{counted}
 use Rattle.table.specs.Lists.{sum, upTo, distinct}
 use Rattle.table.specs.Table.{Table, rows}
 use Rattle.table.specs.Order.{Searchable}
@@ -14,10 +15,9 @@ use Rattle.suite.specs.Program.{program}
 use Rattle.store.specs.Check.{partIn}
 use Rattle.store.proofs.Laws.{tableM, tableR, Fits, fit-range, fits, free-le, part-searchable}
 use Rattle.ids.specs.Ids.{idsIn}
-use Rattle.find.specs.Given.{givenAnswer, givenOutput}
 use Rattle.find.proofs.Laws.{counts-sum, ids-are}
 use Rattle.joint_find.specs.Kept.{keptOf}
-use Rattle.joint_find.proofs.Laws.{find-long}
+use Rattle.joint_find.proofs.Laws.{find-long, given-same}
 use borrow.Author.Needs.{needs}
 use Rattle.joint_find.proofs.give_chosen.Statement.{statement}
 use Rattle.joint_find.proofs.give_chosen.Tie as tie
@@ -55,10 +55,13 @@ abbrev foundBy : tie.After-keys-of → List (List ℕ)
 foundBy k = let s = start k in distinct (idsIn (k .keys-of .result) (tableAt s tableM) (s .args .c .counts .of) (s .args .z .p + 1))
 
 -- what is kept of the ids gathered is what is kept of the part's find
-keeps : (k : tie.After-keys-of) →
-    let s = start k in
-    let a = s .args in
-    keptOf (tableAt s tableR) (a .c .at) (partsAt s) (foundBy k) ≡ keptOf (cut (a .store .now) .table tableR) (a .c .at) (partsAt s) (idsFound program (a .store .now) (token s))
+abbrev gathered : tie.After-keys-of → List (List ℕ)
+gathered k = let s = start k in keptOf (tableAt s tableR) (s .args .c .at) (partsAt s) (foundBy k)
+
+abbrev wanted : tie.After-keys-of → List (List ℕ)
+wanted k = let s = start k in keptOf (cut (s .args .store .now) .table tableR) (s .args .c .at) (partsAt s) (idsFound program (s .args .store .now) (token s))
+
+keeps : (k : tie.After-keys-of) → gathered k ≡ wanted k
 keeps k =
     let s = start k in
     let a = s .args in
@@ -83,8 +86,7 @@ returns : tie.Need-returns
 returns c =
     let g = c .before .before in
     let k = few (g .before .before .before .before .before .before) in
-    let o = start k .args .output .now in
-    (g .give-few .ensures .0 ∙ ap (λ (l : List (List ℕ)). givenAnswer l o) (keeps k), g .give-few .ensures .1 ∙ ap (λ (l : List (List ℕ)). givenOutput l o) (keeps k))
+    given-same (gathered k) (wanted k) (start k .args .output .now) (counted (g .give-few .result)) (g .give-few .last .1 .1 .1 .1 .1 .1 .1 .1 .1 .1 .1 .1 .0) (keeps k) (g .give-few .ensures .0) (g .give-few .ensures .1)
 
 give-many-requires : tie.Need-give-many-requires
 give-many-requires c κs =
@@ -97,8 +99,7 @@ returns-2 : tie.Need-returns-2
 returns-2 c =
     let g = c .before .before in
     let k = many (g .before .before .before .before .before .before) in
-    let o = start k .args .output .now in
-    (g .give-many .ensures .0 ∙ ap (λ (l : List (List ℕ)). givenAnswer l o) (keeps k), g .give-many .ensures .1 ∙ ap (λ (l : List (List ℕ)). givenOutput l o) (keeps k))
+    given-same (gathered k) (wanted k) (start k .args .output .now) (counted (g .give-many .result)) (g .give-many .last .1 .1 .1 .1 .1 .1 .1 .1 .1 .1 .1 .1 .0) (keeps k) (g .give-many .ensures .0) (g .give-many .ensures .1)
 
 pub give-chosen-spec : {M : Type 1} → statement M
 give-chosen-spec =

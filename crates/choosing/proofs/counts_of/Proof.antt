@@ -11,11 +11,11 @@ use Rattle.scheme.specs.Find.{shareReading}
 use Rattle.suite.specs.Program.{program}
 use Rattle.octets.proofs.Parts.{length-part}
 use Rattle.find.specs.Counts.{countsOf}
-use Rattle.joint_find.specs.Choice.{partCounts}
-use Rattle.joint_find.proofs.Laws.{find-token}
+use Rattle.choosing.specs.Choice.{partCounts}
+use Rattle.choosing.proofs.Laws.{find-token}
 use borrow.Author.Needs.{needs}
-use Rattle.joint_find.proofs.counts_of.Statement.{statement}
-use Rattle.joint_find.proofs.counts_of.Tie as tie
+use Rattle.choosing.proofs.counts_of.Statement.{statement}
+use Rattle.choosing.proofs.counts_of.Tie as tie
 
 inside : (s : tie.Start) → 128 * s .args .i + 96 ≤ length (s .args .parts .now)
 inside s = omega (arith, s .pre .1 .0, s .pre .1 .1 .0)

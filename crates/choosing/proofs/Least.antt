@@ -13,8 +13,8 @@ use Rattle.table.specs.Lists.{anyOf}
 use Rattle.table.proofs.Counting.{neither, any-append}
 use Rattle.scheme.specs.JointFind.{leastAt}
 use Rattle.find.specs.declared.Counts.{Counts}
-use Rattle.joint_find.specs.declared.Choice.{Choice}
-use Rattle.joint_find.specs.Choice.{choice, betterOf, chosenTo}
+use Rattle.choosing.specs.declared.Choice.{Choice}
+use Rattle.choosing.specs.Choice.{choice, betterOf, chosenTo}
 
 -- ---- the place of the least number
 

@@ -1,10 +1,10 @@
 -- By whether one is damaged, then by the sums.
 use mathlib.Core.Path.{refl}
 use borrow.Author.Tests.{lt-ltb, le-ltb}
-use Rattle.joint_find.specs.Choice.{betterOf}
+use Rattle.choosing.specs.Choice.{betterOf}
 use borrow.Author.Needs.{needs}
-use Rattle.joint_find.proofs.better.Statement.{statement}
-use Rattle.joint_find.proofs.better.Tie as tie
+use Rattle.choosing.proofs.better.Statement.{statement}
+use Rattle.choosing.proofs.better.Tie as tie
 
 returns : tie.Need-returns
 unfolding betterOf

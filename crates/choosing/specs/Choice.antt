@@ -10,7 +10,7 @@ use Rattle.scheme.specs.Find.{shareReading}
 use Rattle.suite.specs.Program.{program}
 use Rattle.find.specs.declared.Counts.{Counts}
 use Rattle.find.specs.Counts.{countsOf}
-use Rattle.joint_find.specs.declared.Choice.{Choice}
+use Rattle.choosing.specs.declared.Choice.{Choice}
 
 -- what a part counts in the shares 0 to p
 unfoldable pub partCounts : List ℕ → ℕ → List ℕ → Counts

@@ -7,11 +7,11 @@ use native.Mathlib.Omega.{arith}
 use lib.ListN.{getD}
 use Rattle.table.specs.Table.{rows}
 use Rattle.find.specs.declared.Counts.{Counts}
-use Rattle.joint_find.specs.declared.Choice.{Choice}
-use Rattle.joint_find.specs.Choice.{partCounts, choice, betterOf, chosenTo}
+use Rattle.choosing.specs.declared.Choice.{Choice}
+use Rattle.choosing.specs.Choice.{partCounts, choice, betterOf, chosenTo}
 use borrow.Author.Needs.{needs}
-use Rattle.joint_find.proofs.choose.Statement.{statement}
-use Rattle.joint_find.proofs.choose.Tie as tie
+use Rattle.choosing.proofs.choose.Statement.{statement}
+use Rattle.choosing.proofs.choose.Tie as tie
 
 abbrev Inv-loop : tie.InvT-loop
 Inv-loop store z parts n best₀ i₀ last best i = (i ≤ last) × (best ≡ chosenTo (partCounts store (z .p)) (rows 128 n parts) i)
