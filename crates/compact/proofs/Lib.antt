@@ -1,5 +1,4 @@
-pub mod Courses
+pub mod Closings
 pub mod Logs
-pub mod Steps
 pub mod Whole
 pub mod Verdicts

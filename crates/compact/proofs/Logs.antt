@@ -1,14 +1,14 @@
--- The log of S row by row, the flags of the rows that were treated, and what they free.
+-- The log of S row by row, and what the flags of the rows that were treated free.
 use Prim.Native.Nat.{ℕ, zero, suc, _+_, _*_, _-_, _≤_, _<_}
 use mathlib.Core.Path.{_≡_, refl, sym, ap, ap₂, _∙_}
 use mathlib.Core.Bool.{Bool, true, false, cond, not, _&&_, true≢false}
 use mathlib.Core.List.{List, [], _∷_, _++_, map}
-use native.Mathlib.Nat.{add-zero, not-suc-le-zero, le-of-suc-le-suc}
+use native.Mathlib.Nat.{not-suc-le-zero, le-of-suc-le-suc}
 use native.Mathlib.Numerals.{add-one}
 use native.Mathlib.Omega.{arith}
 use lib.Dec.{ltb, eqb}
-use lib.ListN.{length, getD, take, drop, set, replicate, length-set, length-drop, length-map, length-replicate, getD-replicate, take-append-drop, List·getD-append}
-use lib.Seq.{take-suc, take-all, take-suc-set, drop-drop, drop-set-lt, getD-append-add, take-at, getD-drop, getD-take}
+use lib.ListN.{length, getD, take, drop, set, replicate, length-drop, length-map, length-replicate, getD-replicate, List·getD-append}
+use lib.Seq.{take-suc, take-all, take-suc-set, getD-append-add, take-at, getD-drop, getD-take}
 use borrow.Author.Tests.{ltb-true, ltb-false}
 use Rattle.octets.specs.Part.{back}
 use Rattle.octets.proofs.Parts.{length-back, drop-back}
@@ -25,23 +25,12 @@ use Rattle.scheme.specs.Store.{tableS, widthOf, clIn}
 use Rattle.scheme.specs.Compaction.{logOf}
 use Rattle.suite.specs.Program.{program}
 use Rattle.firsts.specs.Firsts.{firstIn, firsts}
+use Rattle.firsts.specs.Flags.{flagsUnder}
 use Rattle.firsts.proofs.Chaining.{firsts-length, firsts-at}
-use Rattle.treatment.specs.declared.Treated.{Treated}
-use Rattle.compact.specs.declared.Tally.{Tally}
-use Rattle.compact.specs.Tally.{anchorsIn, countersIn, tallyAfter, clsIn}
-use Rattle.compact.specs.Course.{flagsUnder}
-use Rattle.compact.proofs.Courses.{any-first, shut}
-
-pub tally-same : (t : Tally) (r : Treated) → anchorsIn r ≡ 0 → countersIn r ≡ 0 → t ≡ tallyAfter t r
-tally-same t r a k =
-    let p = sym (add-zero (t .anchors)) ∙ ap (λ (n : ℕ). t .anchors + n) (sym a) in
-    let q = sym (add-zero (t .counters)) ∙ ap (λ (n : ℕ). t .counters + n) (sym k) in
-    λ i. record { anchors = p i; counters = q i }
-
-drop-past : (a b : List ℕ) (e n : ℕ) → e ≤ n → drop e a ≡ drop e b → drop n a ≡ drop n b
-drop-past a b e n h p =
-    let z : e + (n - e) ≡ n = omega arith in
-    ap (λ (m : ℕ). drop m a) (sym z) ∙ sym (drop-drop (n - e) e a) ∙ ap (drop (n - e)) p ∙ drop-drop (n - e) e b ∙ ap (λ (m : ℕ). drop m b) z
+use Rattle.firsts.proofs.Flags.{drop-past, under-length, under-at}
+use Rattle.course.proofs.Courses.{any-first}
+use Rattle.compact.specs.Log.{clsIn}
+use Rattle.compact.proofs.Closings.{shut}
 
 -- ---- the log
 
@@ -80,44 +69,6 @@ module _ (ks : List ℕ) (t : Table) (n : ℕ) (log₀ : List ℕ) where
   pub opening-all : (i : ℕ) (log : List ℕ) → Opening i log → i ≡ n → rows 32 n log ≡ clsIn ks (take n t)
   opening-all i log o e =
       sym (take-all i (rows 32 n log) (omega (arith, rows-length 32 n log))) ∙ o .told ∙ ap (λ (m : ℕ). clsIn ks (take m t)) e
-
--- ---- the flags
-
-module _ (upto : ℕ) where
-  under-append : (a b : List ℕ) → flagsUnder upto (a ++ b) ≡ flagsUnder upto a ++ flagsUnder upto b
-  under-append [] b = refl
-  under-append (x ∷ xs) b = ap (λ (l : List ℕ). bit (ltb x upto) ∷ l) (under-append xs b)
-
-  under-length : (l : List ℕ) → length (flagsUnder upto l) ≡ length l
-  under-length [] = refl
-  under-length (x ∷ xs) = ap suc (under-length xs)
-
-  under-at : (l : List ℕ) (i : ℕ) → i < length l → getD (flagsUnder upto l) i 0 ≡ bit (ltb (getD l i 0) upto)
-  under-at [] i h = absurd (not-suc-le-zero h)
-  under-at (x ∷ xs) zero h = refl
-  under-at (x ∷ xs) (suc i) h = under-at xs i (le-of-suc-le-suc h)
-
-  module _ (first fs₀ : List ℕ) where
-    pub record Marking (i : ℕ) (fs : List ℕ) : Type 0 where
-      pub size : length fs ≡ length fs₀
-      pub told : take i fs ≡ flagsUnder upto (take i first)
-      pub rest : drop i fs ≡ drop i fs₀
-
-    pub marking-none : Marking 0 fs₀
-    marking-none = record { size = refl; told = refl; rest = refl }
-
-    pub marking-turn : (i : ℕ) (fs : List ℕ) → Marking i fs → i < length first → i < length fs₀ → (x : ℕ) → x ≡ bit (ltb (getD first i 0) upto) → Marking (i + 1) (set fs i x)
-    marking-turn i fs m h k x e = record {
-      size = length-set fs i x ∙ m .size;
-      told = ap (λ (j : ℕ). take j (set fs i x)) (add-one i) ∙ take-suc-set fs i x (omega (arith, m .size))
-          ∙ ap₂ (λ (l : List ℕ) (y : ℕ). l ++ (y ∷ [])) (m .told) e ∙ sym (under-append (take i first) (getD first i 0 ∷ []))
-          ∙ sym (ap (flagsUnder upto) (ap (λ (j : ℕ). take j first) (add-one i) ∙ take-suc first i 0 h));
-      rest = drop-set-lt (i + 1) fs i x (omega arith) ∙ drop-past fs fs₀ i (i + 1) (omega arith) (m .rest);
-    }
-
-    pub marking-all : (i : ℕ) (fs : List ℕ) → Marking i fs → (n : ℕ) → i ≡ n → fs ≡ flagsUnder upto (take n first) ++ drop n fs₀
-    marking-all i fs m n e =
-        sym (take-append-drop i fs) ∙ ap₂ (λ (a b : List ℕ). a ++ b) (m .told) (m .rest) ∙ ap (λ (j : ℕ). flagsUnder upto (take j first) ++ drop j fs₀) e
 
 -- flags that agree with a test on the used rows, and are 0 on the others
 flags-where : (w : ℕ) (q : List ℕ → Bool) (t : Table) (fs : List ℕ) → length t ≤ length fs

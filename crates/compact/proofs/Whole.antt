@@ -23,11 +23,13 @@ use Rattle.store.specs.declared.Checked.the-variants.{Fit}
 use Rattle.store.specs.Check.{checkedOf, spanIn}
 use Rattle.store.proofs.Laws.{tableC, tableS, fit-sizes, laid-fit, used-rows, formed}
 use Rattle.firsts.specs.Firsts.{firsts}
+use Rattle.firsts.specs.Flags.{flagsUnder}
 use Rattle.firsts.proofs.Chaining.{firsts-length}
-use Rattle.compact.specs.declared.Tally.{Tally}
-use Rattle.compact.specs.Tally.{clsIn}
-use Rattle.compact.specs.Course.{Course, courseOf, begun, course, courseTo, treatedTo, flagsUnder}
-use Rattle.compact.proofs.Courses.{treatedIn, treated-is, treated-le, ended, treats, shut-none}
+use Rattle.course.specs.declared.Totals.{Totals}
+use Rattle.course.specs.Course.{Course, courseOf, begun, course, courseTo, treatedTo}
+use Rattle.course.proofs.Courses.{treatedIn, treated-is, treated-le}
+use Rattle.compact.specs.Log.{clsIn}
+use Rattle.compact.proofs.Closings.{ended, treats, shut-none}
 use Rattle.compact.proofs.Logs.{log-is, log-length, shut-is}
 
 pub room : (k n : ℕ) (l : List ℕ) → length l ≡ length {A = ℕ} (replicate k 0) → n ≤ k → n ≤ length l
@@ -71,7 +73,7 @@ module _ (b nonces ks : List ℕ) (z : Shape) (e : checkedOf b ≡ Fit z) where
       ∙ ap (λ (l : List (List ℕ)). ended c nonces ks tS form (course c nonces (distinct l) (begun tC)) (treatedIn c nonces (distinct l) (begun tC))) (sym whole)
       ∙ ap (ended c nonces ks tS form (course c nonces (distinct (take n log)) (begun tC))) (treated-is c nonces log tC n (omega (arith, log-length ks tS n form count)))
 
-  module _ (l : List (List ℕ)) (el : l ≡ clsIn ks (take n tS)) (t t′ : Table) (et : t ≡ tC) (x : Tally) (st : Bool)
+  module _ (l : List (List ℕ)) (el : l ≡ clsIn ks (take n tS)) (t t′ : Table) (et : t ≡ tC) (x : Totals) (st : Bool)
       (ec : courseOf t′ x st ≡ courseTo (z .c .rows) nonces l t n) (upto : ℕ) (eu : upto ≡ treatedTo (z .c .rows) nonces l t n) where
     ended-is : courseOf t′ x st ≡ courseTo (z .c .rows) nonces log tC n
     ended-is = ec ∙ ap₂ (λ (l : List (List ℕ)) (t : Table). courseTo (z .c .rows) nonces l t n) el et

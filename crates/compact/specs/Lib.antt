@@ -1,3 +1,2 @@
-pub mod Tally
-pub mod Course
+pub mod Log
 pub mod Outcome

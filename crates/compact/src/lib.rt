@@ -1,26 +1,20 @@
 // Compaction: the server's call that turns the counters of every logged CL into one anchor (document
-// 01, "Operations"): the walk over table S, and the refusals before it. The store's tables C and S alone
-// are changed; one CL is treated in treatment.
+// 01, "Operations"): the log of table S, and the refusals before it. The store's tables C and S alone are
+// changed; the CL are treated in course.
 ghost use mathlib.Core.Path.{_≡_};
 ghost use mathlib.Core.Bool.{cond};
-ghost use mathlib.Core.List.{[], _∷_, _++_};
+ghost use mathlib.Core.List.{[], _∷_};
 ghost use Rattle.answer.specs.Answer.{done, refused};
 ghost use Prim.Native.Nat.{_+_, _-_, _*_, _/_, _≤_, _<_};
-ghost use lib.Dec.{eqb, ltb};
-ghost use lib.ListN.{length, getD, take, drop};
-ghost use Rattle.table.specs.Lists.{bit};
+ghost use lib.ListN.{length, take, drop};
 ghost use Rattle.table.specs.Table.{rows};
-ghost use Rattle.table.specs.Order.{usedRows, Searchable};
 ghost use Rattle.scheme.specs.Keys.{compactionTokenLength};
-ghost use Rattle.scheme.specs.Store.{tableC, tableS, widthOf, joined};
-ghost use Rattle.scheme.specs.Reading.{reading};
+ghost use Rattle.scheme.specs.Store.{tableS, widthOf, joined};
 ghost use Rattle.scheme.specs.Compaction.{treated, compactedStore, compact as compactOf};
 ghost use Rattle.suite.specs.Program.{program};
 ghost use Rattle.store.specs.declared.Checked.the-variants.{Fit};
 ghost use Rattle.store.specs.Check.{checkedOf};
-ghost use Rattle.firsts.specs.Firsts.{firsts};
-ghost use Rattle.compact.specs.Tally.{stops, countersIn, tallyAfter, clsIn};
-ghost use Rattle.compact.specs.Course.{courseOf, stepBy, courseTo, treatedTo, flagsUnder};
+ghost use Rattle.compact.specs.Log.{clsIn};
 ghost use Rattle.compact.specs.Outcome.{compactionAnswer};
 use answer::Refusal;
 use format::COMPACTION_TOKEN;
@@ -30,7 +24,6 @@ use store::Checked;
 use store::MOST_ROWS;
 use store::S_WIDTH;
 use store::Shape;
-use treatment::Treated;
 
 // How many anchors were written and counters freed. [01:OP13]
 pub struct Tally {
@@ -56,171 +49,6 @@ fn open_log(t: &[u8], s: usize, n: usize, ks: &[u8], log: &mut [u8])
         let at = 32 * i;
         let e = at + 32;
         row::open_row(t, s, i, ks, &mut log[at..e]);
-        i += 1;
-    }
-}
-
-// The CL of a row in the log.
-fn cl_at(log: &[u8], n: usize, i: usize) -> [u8; 32]
-    requires { ⌜ (i < n) × (32 * n ≤ length (now log)) ⌝ }
-    ensures { λ r. ⌜ r ≡ getD (rows 32 n (now (log .entry))) i [] ⌝ }
-{
-    let at = 32 * i;
-    let e = at + 32;
-    let mut cl = [0u8; 32];
-    octets::copy(&mut cl, &log[at..e]);
-    cl
-}
-
-// Whether damage stops the compaction. [01:RS13]
-fn stopped(r: Treated) -> bool
-    ensures { λ b. ⌜ b ≡ stops r ⌝ }
-{
-    match r {
-        Treated::Damage => true,
-        Treated::Skipped => false,
-        Treated::Anchored(_) => false,
-    }
-}
-
-// The tally after one CL more. [01:OP13]
-fn added(t: Tally, r: Treated) -> Tally
-    requires { ⌜ (t .anchors ≤ 4096) × ((t .counters ≤ 4096 * 4096) × (countersIn r ≤ 4096)) ⌝ }
-    ensures { λ u. ⌜ u ≡ tallyAfter t r ⌝ }
-{
-    match r {
-        Treated::Damage => t,
-        Treated::Skipped => t,
-        Treated::Anchored(k) => Tally {
-            anchors: t.anchors + 1,
-            counters: t.counters + k,
-        },
-    }
-}
-
-// Where the treatment stands: the tally, how many rows of C are used, and whether damage stopped it.
-struct Standing {
-    tally: Tally,
-    used: usize,
-    stopped: bool,
-}
-
-// Treats one CL in table C, under the nonce of the next anchor. [01:OP11 OP13 RS13]
-fn treat_one(t: &mut [u8], c: usize, z: Standing, nonces: &[u8], cl: &[u8; 32]) -> Standing
-    requires { ⌜ ((length (now t) ≡ widthOf tableC * c) × (c ≤ 4096)) × (Searchable (widthOf tableC) (z .used) (rows (widthOf tableC) c (now t)) × ((12 * z .tally .anchors + 12 ≤ length (now nonces)) × ((z .tally .anchors ≤ 4096) × (z .tally .counters ≤ 4096 * 4096)))) ⌝ }
-    ensures { λ r. ⌜ courseOf (rows (widthOf tableC) c (now (t .exit))) (r .tally) (r .stopped) ≡ stepBy (now (nonces .entry)) (now (cl .entry)) (courseOf (rows (widthOf tableC) c (now (t .entry))) (z .tally) (z .stopped)) (reading program c (now (cl .entry)) (rows (widthOf tableC) c (now (t .entry)))) ⌝ }
-    ensures { λ r. ⌜ r .used ≡ length (usedRows (rows (widthOf tableC) c (now (t .exit)))) ⌝ }
-{
-    let tally = z.tally;
-    let from = NONCE * tally.anchors as usize;
-    let to = from + NONCE;
-    let r = treatment::treat(t, c, z.used, cl, &nonces[from..to]);
-    let done = r.treated;
-    Standing {
-        tally: added(tally, done),
-        used: r.used,
-        stopped: stopped(done),
-    }
-}
-
-// Treats the CL of row i of the log, if that row is the first with it.
-fn treat_row(
-    t: &mut [u8],
-    c: usize,
-    z: Standing,
-    nonces: &[u8],
-    log: &[u8],
-    n: usize,
-    i: usize,
-    first: usize,
-) -> Standing
-    requires { ⌜ ((length (now t) ≡ widthOf tableC * c) × (c ≤ 4096)) × (Searchable (widthOf tableC) (z .used) (rows (widthOf tableC) c (now t)) × ((12 * z .tally .anchors + 12 ≤ length (now nonces)) × ((z .tally .anchors ≤ 4096) × (z .tally .counters ≤ 4096 * 4096)))) ⌝ }
-    requires { ⌜ (i < n) × (32 * n ≤ length (now log)) ⌝ }
-    ensures { λ r. ⌜ courseOf (rows (widthOf tableC) c (now (t .exit))) (r .tally) (r .stopped) ≡ cond (eqb first i) (stepBy (now (nonces .entry)) (getD (rows 32 n (now (log .entry))) i []) (courseOf (rows (widthOf tableC) c (now (t .entry))) (z .tally) (z .stopped)) (reading program c (getD (rows 32 n (now (log .entry))) i []) (rows (widthOf tableC) c (now (t .entry))))) (courseOf (rows (widthOf tableC) c (now (t .entry))) (z .tally) (z .stopped)) ⌝ }
-    ensures { λ r. ⌜ r .used ≡ length (usedRows (rows (widthOf tableC) c (now (t .exit)))) ⌝ }
-{
-    if first != i {
-        return z;
-    }
-    let cl = cl_at(log, n, i);
-    treat_one(t, c, z, nonces, &cl)
-}
-
-// How far the CL of the log were treated: the tally, the row that it ended before, and whether damage
-// stopped it there.
-struct Progress {
-    tally: Tally,
-    upto: usize,
-    stopped: bool,
-}
-
-// A number as a place.
-fn wide(x: u16) -> usize
-    ensures { λ r. ⌜ r ≡ x ⌝ }
-{
-    x as usize
-}
-
-// Treats the distinct CL of the log, in the order of their first rows, in table C. [01:OP10 OP11 RS13]
-fn treat_firsts(
-    t: &mut [u8],
-    c: usize,
-    u: usize,
-    nonces: &[u8],
-    log: &[u8],
-    n: usize,
-    first: &[u16],
-) -> Progress
-    requires { ⌜ ((length (now t) ≡ widthOf tableC * c) × (c ≤ 4096)) × (Searchable (widthOf tableC) u (rows (widthOf tableC) c (now t)) × ((12 * n ≤ length (now nonces)) × ((32 * n ≤ length (now log)) × (n ≤ 4096)))) ⌝ }
-    requires { ⌜ now first ≡ firsts (rows 32 n (now log)) ++ drop n (now first) ⌝ }
-    ensures { λ r. ⌜ courseOf (rows (widthOf tableC) c (now (t .exit))) (r .tally) (r .stopped) ≡ courseTo c (now (nonces .entry)) (rows 32 n (now (log .entry))) (rows (widthOf tableC) c (now (t .entry))) n ⌝ }
-    ensures { λ r. ⌜ r .upto ≡ treatedTo c (now (nonces .entry)) (rows 32 n (now (log .entry))) (rows (widthOf tableC) c (now (t .entry))) n ⌝ }
-{
-    let none = Tally {
-        anchors: 0,
-        counters: 0,
-    };
-    let mut z = Standing {
-        tally: none,
-        used: u,
-        stopped: false,
-    };
-    let mut i = 0;
-    while i < n {
-        z = treat_row(t, c, z, nonces, log, n, i, wide(first[i]));
-        if z.stopped {
-            let tally = z.tally;
-            return Progress {
-                tally,
-                upto: i,
-                stopped: true,
-            };
-        }
-        i += 1;
-    }
-    let tally = z.tally;
-    Progress {
-        tally,
-        upto: n,
-        stopped: false,
-    }
-}
-
-// 1 for a number below a bound.
-fn under(x: u16, upto: usize) -> u8
-    ensures { λ r. ⌜ r ≡ bit (ltb x upto) ⌝ }
-{
-    if wide(x) < upto { 1 } else { 0 }
-}
-
-// Flags the first n rows whose CL first stands before a row.
-fn flag_treated(first: &[u16], n: usize, upto: usize, flags: &mut [u8])
-    requires { ⌜ (n ≤ length (now first)) × (n ≤ length (now flags)) ⌝ }
-    ensures { λ _. ⌜ now (flags .exit) ≡ flagsUnder upto (take n (now (first .entry))) ++ drop n (now (flags .entry)) ⌝ }
-{
-    let mut i = 0;
-    while i < n {
-        flags[i] = under(first[i], upto);
         i += 1;
     }
 }
@@ -254,7 +82,7 @@ fn treat_logged(store: &mut [u8], z: Shape, nonces: &[u8], token: &[u8]) -> Comp
     let mut flags = [0u8; MOST_ROWS];
     open_log(&store[b..f], s.rows, n, token, &mut log);
     firsts::find(&log, n, &mut first);
-    let r = treat_firsts(
+    let r = course::treat_firsts(
         &mut store[a..e],
         c.rows,
         c.rows - c.free,
@@ -263,9 +91,13 @@ fn treat_logged(store: &mut [u8], z: Shape, nonces: &[u8], token: &[u8]) -> Comp
         n,
         &first,
     );
-    flag_treated(&first, n, r.upto, &mut flags);
+    firsts::flag_before(&first, n, r.upto, &mut flags);
     closing::close(&mut store[b..f], S_WIDTH, s.rows, n, &flags);
-    let tally = r.tally;
+    let sums = r.totals;
+    let tally = Tally {
+        anchors: sums.anchors,
+        counters: sums.counters,
+    };
     outcome(tally, r.stopped)
 }
 

@@ -3,9 +3,11 @@
 ghost use mathlib.Core.Path.{_≡_};
 ghost use mathlib.Core.List.{[], _++_};
 ghost use Prim.Native.Nat.{_+_, _*_, _≤_, _<_};
-ghost use lib.Dec.{eqb};
-ghost use lib.ListN.{length, getD, drop};
+ghost use lib.Dec.{eqb, ltb};
+ghost use lib.ListN.{length, getD, take, drop};
+ghost use Rattle.table.specs.Lists.{bit};
 ghost use Rattle.table.specs.Table.{rows};
+ghost use Rattle.firsts.specs.Flags.{flagsUnder};
 ghost use Rattle.firsts.specs.Firsts.{firstIn, firsts, bucketOf, Chained, headsAfter, linksAfter};
 
 const BUCKETS: usize = 4096;
@@ -75,6 +77,25 @@ pub fn find(log: &[u8], n: usize, first: &mut [u16])
         let j = equal_in(log, n, i, b, &heads, &links);
         first[i] = j as u16;
         link(&mut heads, &mut links, b, i, j);
+        i += 1;
+    }
+}
+
+// 1 for a number below a bound.
+fn under(x: u16, upto: usize) -> u8
+    ensures { λ r. ⌜ r ≡ bit (ltb x upto) ⌝ }
+{
+    if wide(x) < upto { 1 } else { 0 }
+}
+
+// Flags those of the first n texts that first stand before a place. [01:OP12]
+pub fn flag_before(first: &[u16], n: usize, upto: usize, flags: &mut [u8])
+    requires { ⌜ (n ≤ length (now first)) × (n ≤ length (now flags)) ⌝ }
+    ensures { λ _. ⌜ now (flags .exit) ≡ flagsUnder upto (take n (now (first .entry))) ++ drop n (now (flags .entry)) ⌝ }
+{
+    let mut i = 0;
+    while i < n {
+        flags[i] = under(first[i], upto);
         i += 1;
     }
 }

@@ -12,8 +12,8 @@ use Rattle.scheme.specs.Layout.{Laid}
 use Rattle.scheme.proofs.Plan.{laid-back, laid-inside, laid-long, laid-rows}
 use Rattle.store.specs.Check.{spanIn}
 use Rattle.store.proofs.Laws.{tableC, tableS, Fits, fits, free-le, part-searchable, used-rows, formed}
-use Rattle.compact.specs.Tally.{clsIn}
-use Rattle.compact.specs.Course.{flagsUnder}
+use Rattle.firsts.specs.Flags.{flagsUnder}
+use Rattle.compact.specs.Log.{clsIn}
 use Rattle.compact.proofs.Whole.{room, found-self, found-front, answer-is, store-is, laid-C}
 use borrow.Author.Needs.{needs}
 use Rattle.compact.proofs.treat_logged.Statement.{statement}
@@ -121,12 +121,12 @@ treat-firsts-requires c κs =
       found-self l n (c .before .before .before .before .before .find .last .1 .1 .0) _ (c .before .before .before .before .before .find .ensures) (rows-length 32 n (c .before .before .before .before .before .before .before .before .before .open-log .last .1 .1 .1 .1 .0)),
     )
 
-slice-aggregate-flag-treated : tie.Need-slice-aggregate-flag-treated
-slice-aggregate-flag-treated c =
+slice-aggregate-flag-before : tie.Need-slice-aggregate-flag-before
+slice-aggregate-flag-before c =
     sym (c .before .before .before .before .before .before .before .before .before .find .kept .1 .1 .0)
 
-flag-treated-requires : tie.Need-flag-treated-requires
-flag-treated-requires c κs =
+flag-before-requires : tie.Need-flag-before-requires
+flag-before-requires c κs =
     let s = c .before .before .before .before .before .before .before .before .before .before .before .before .before .before .before .before .before .before .before .before .before .before .before .before in
     (omega (arith, left s, c .before .before .before .before .before .before .before .before .before .before .find .kept .1 .1 .0), left s)
 
@@ -144,14 +144,14 @@ part-close-end c =
 
 slice-aggregate-close : tie.Need-slice-aggregate-close
 slice-aggregate-close c =
-    sym (c .before .before .before .flag-treated .kept .1 .1 .1 .0)
+    sym (c .before .before .before .flag-before .kept .1 .1 .1 .0)
 
 close-requires : tie.Need-close-requires
 close-requires c κs =
     let s = c .before .before .before .before .before .before .before .before .before .before .before .before .before .before .before .before .before .before .before .before .before .before .before .before .before .before .before .before in
     let a = s .args in
     let r = laid-rows _ _ _ (laid₁ (c .before .before .before .before .before .before .before .before)) tableS in (
-      (laid-long _ _ _ (laid₁ (c .before .before .before .before .before .before .before .before)) tableS, omega (arith, part-S s .most, c .before .before .before .flag-treated .kept .1 .1 .1 .0)),
+      (laid-long _ _ _ (laid₁ (c .before .before .before .before .before .before .before .before)) tableS, omega (arith, part-S s .most, c .before .before .before .flag-before .kept .1 .1 .1 .0)),
       (ap (Rattle.table.specs.Order.inForm (widthOf tableS)) r ∙ formed (a .store .now) (a .z) (s .pre .0) tableS, used-rows (a .store .now) (a .z) (s .pre .0) tableS ∙ sym (ap (λ (t : Table). length (Rattle.table.specs.Order.usedRows t)) r)),
     )
 
@@ -168,13 +168,13 @@ returns c =
     let r = c .before .before .before .before .before .before .before .before .before .before .before .before .before .treat-firsts .result in
     let t = rows (widthOf tableC) (a .z .c .rows) (take (a .z .c .end - a .z .c .start) (drop (a .z .c .start) b)) in
     let first = c .before .before .before .before .before .before .before .before .before .before .before .before .before .before .before .before .before .before .before .find .last .1 .1 .0 in
-    let ef = c .before .before .before .before .before .before .before .before .flag-treated .ensures ∙ ap (λ (x : List ℕ). flagsUnder (r .upto) x ++ drop n (replicate 4096 0)) (found-front l n first _ (c .before .before .before .before .before .before .before .before .before .before .before .before .before .before .before .before .before .before .before .find .ensures) (rows-length 32 n log)) in (
-      c .outcome .ensures ∙ answer-is b (a .nonces .now) (a .token .now) (a .z) (s .pre .0) l el t (rows (widthOf tableC) (a .z .c .rows) ysC) (part-C s .same) (r .tally) (r .stopped) (c .before .before .before .before .before .before .before .before .before .before .before .before .before .treat-firsts .ensures .0) (r .upto) (c .before .before .before .before .before .before .before .before .before .before .before .before .before .treat-firsts .ensures .1),
-      store-is b (a .nonces .now) (a .token .now) (a .z) (s .pre .0) l el t (rows (widthOf tableC) (a .z .c .rows) ysC) (part-C s .same) (r .tally) (r .stopped) (c .before .before .before .before .before .before .before .before .before .before .before .before .before .treat-firsts .ensures .0) (r .upto) (c .before .before .before .before .before .before .before .before .before .before .before .before .before .treat-firsts .ensures .1)
-          (c .before .before .before .before .before .before .before .before .flag-treated .last .1 .1 .1 .0) 4096 (omega (arith, part-S s .most, ap length (part-S s .same), rows-length (widthOf tableS) (a .z .s .rows) (take (a .z .s .end - a .z .s .start) (drop (a .z .s .start) b)))) ef
+    let ef = c .before .before .before .before .before .before .before .before .flag-before .ensures ∙ ap (λ (x : List ℕ). flagsUnder (r .upto) x ++ drop n (replicate 4096 0)) (found-front l n first _ (c .before .before .before .before .before .before .before .before .before .before .before .before .before .before .before .before .before .before .before .find .ensures) (rows-length 32 n log)) in (
+      c .outcome .ensures ∙ answer-is b (a .nonces .now) (a .token .now) (a .z) (s .pre .0) l el t (rows (widthOf tableC) (a .z .c .rows) ysC) (part-C s .same) (r .totals) (r .stopped) (c .before .before .before .before .before .before .before .before .before .before .before .before .before .treat-firsts .ensures .0) (r .upto) (c .before .before .before .before .before .before .before .before .before .before .before .before .before .treat-firsts .ensures .1),
+      store-is b (a .nonces .now) (a .token .now) (a .z) (s .pre .0) l el t (rows (widthOf tableC) (a .z .c .rows) ysC) (part-C s .same) (r .totals) (r .stopped) (c .before .before .before .before .before .before .before .before .before .before .before .before .before .treat-firsts .ensures .0) (r .upto) (c .before .before .before .before .before .before .before .before .before .before .before .before .before .treat-firsts .ensures .1)
+          (c .before .before .before .before .before .before .before .before .flag-before .last .1 .1 .1 .0) 4096 (omega (arith, part-S s .most, ap length (part-S s .same), rows-length (widthOf tableS) (a .z .s .rows) (take (a .z .s .end - a .z .s .start) (drop (a .z .s .start) b)))) ef
           _ (rows (widthOf tableS) (a .z .s .rows) (c .before .before .before .before .close .last .0)) (laid-rows _ _ _ (laid₁ (c .before .before .before .before .before .before .before .before .before .before .before .before .before)) tableS) (c .before .before .before .before .close .ensures) _
           (laid-back _ _ _ (laid₁ (c .before .before .before .before .before .before .before .before .before .before .before .before .before)) tableS (c .before .before .before .before .close .last .0) (c .before .before .before .before .close .kept .0) .bytes),
     )
 
 pub treat-logged-spec : {M : Type 1} → statement M
-treat-logged-spec = tie.close (tie.spec sub-n sub-open-log part-open-log-start part-open-log-end (λ c. search needs) open-log-requires slice-aggregate-find (λ c. search needs) find-requires sub-treat-firsts part-treat-firsts-start part-treat-firsts-end sub-treat-firsts-2 slice-aggregate-treat-firsts slice-aggregate-treat-firsts-2 treat-firsts-requires slice-aggregate-flag-treated (λ c. search needs) flag-treated-requires sub-close part-close-start part-close-end slice-aggregate-close close-requires (λ c κs. search needs) (λ c. search needs) returns)
+treat-logged-spec = tie.close (tie.spec sub-n sub-open-log part-open-log-start part-open-log-end (λ c. search needs) open-log-requires slice-aggregate-find (λ c. search needs) find-requires sub-treat-firsts part-treat-firsts-start part-treat-firsts-end sub-treat-firsts-2 slice-aggregate-treat-firsts slice-aggregate-treat-firsts-2 treat-firsts-requires slice-aggregate-flag-before (λ c. search needs) flag-before-requires sub-close part-close-start part-close-end slice-aggregate-close close-requires (λ c κs. search needs) (λ c. search needs) returns)

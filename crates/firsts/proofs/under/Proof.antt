@@ -4,8 +4,8 @@ use native.Mathlib.Omega.{arith}
 use borrow.Author.Tests.{lt-ltb, le-ltb}
 use Rattle.table.specs.Lists.{bit}
 use borrow.Author.Needs.{needs}
-use Rattle.compact.proofs.under.Statement.{statement}
-use Rattle.compact.proofs.under.Tie as tie
+use Rattle.firsts.proofs.under.Statement.{statement}
+use Rattle.firsts.proofs.under.Tie as tie
 
 returns : tie.Need-returns
 returns c =

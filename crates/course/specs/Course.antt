@@ -2,15 +2,14 @@
 use Prim.Native.Nat.{ℕ, zero, suc, _+_, _*_}
 use mathlib.Core.Bool.{Bool, false, cond}
 use mathlib.Core.List.{List, [], _∷_}
-use lib.Dec.{ltb}
 use lib.ListN.{take, drop}
-use Rattle.table.specs.Lists.{bit, distinct}
+use Rattle.table.specs.Lists.{distinct}
 use Rattle.table.specs.Table.{Table}
 use Rattle.scheme.specs.Reading.{Reading, reading}
 use Rattle.suite.specs.Program.{program}
 use Rattle.treatment.specs.Treatment.{doneBy, tableBy}
-use Rattle.compact.specs.declared.Tally.{Tally}
-use Rattle.compact.specs.Tally.{stops, anchorsIn, countersIn}
+use Rattle.course.specs.declared.Totals.{Totals}
+use Rattle.course.specs.Totals.{stops, anchorsIn, countersIn}
 
 -- table C, the numbers so far, and whether damage stopped it
 pub record Course : Type 0 where
@@ -20,7 +19,7 @@ pub record Course : Type 0 where
   pub stopped : Bool
 
 -- as the code has it
-abbrev pub courseOf : Table → Tally → Bool → Course
+abbrev pub courseOf : Table → Totals → Bool → Course
 courseOf t x stopped = record { tC = t; anchors = x .anchors; counters = x .counters; stopped = stopped }
 
 abbrev pub begun : Table → Course
@@ -50,8 +49,3 @@ courseTo c nonces log t k = course c nonces (distinct (take k log)) (begun t)
 abbrev pub treatedTo : ℕ → List ℕ → List (List ℕ) → Table → ℕ → ℕ
 treatedTo c nonces log t zero = 0
 treatedTo c nonces log t (suc k) = cond (courseTo c nonces log t (suc k) .stopped) (treatedTo c nonces log t k) (suc k)
-
--- 1 for each number below a bound
-abbrev pub flagsUnder : ℕ → List ℕ → List ℕ
-flagsUnder upto [] = []
-flagsUnder upto (x ∷ xs) = bit (ltb x upto) ∷ flagsUnder upto xs

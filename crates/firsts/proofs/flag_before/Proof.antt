@@ -1,10 +1,10 @@
 -- One row after the other.
 use Prim.Native.Nat.{_-_, _≤_}
 use native.Mathlib.Omega.{arith}
-use Rattle.compact.proofs.Logs.{Marking, marking-none, marking-turn, marking-all}
+use Rattle.firsts.proofs.Flags.{Marking, marking-none, marking-turn, marking-all}
 use borrow.Author.Needs.{needs}
-use Rattle.compact.proofs.flag_treated.Statement.{statement}
-use Rattle.compact.proofs.flag_treated.Tie as tie
+use Rattle.firsts.proofs.flag_before.Statement.{statement}
+use Rattle.firsts.proofs.flag_before.Tie as tie
 
 abbrev Inv-loop : tie.InvT-loop
 Inv-loop first n upto flags₀ i₀ flags i = (i ≤ n) × Marking upto first flags₀ i flags
@@ -38,5 +38,5 @@ returns c =
     let a = c .before .before .before .before .args in
     marking-all (a .upto) (a .first .now) (a .flags .now) (c .before .loop .i) (c .before .loop .flags) (c .before .loop .inv .1) (a .n) (omega (arith, c .before .loop .inv .0, c .loop-test .left))
 
-pub flag-treated-spec : {M : Type 1} → statement M
-flag-treated-spec = tie.close (tie.spec Inv-loop μ-loop loop-holds (λ c. search needs) shared-slice-read-under (λ c κs. search needs) slice-write-flags (λ c. search needs) (λ c. search needs) loop-again same-length returns)
+pub flag-before-spec : {M : Type 1} → statement M
+flag-before-spec = tie.close (tie.spec Inv-loop μ-loop loop-holds (λ c. search needs) shared-slice-read-under (λ c κs. search needs) slice-write-flags (λ c. search needs) (λ c. search needs) loop-again same-length returns)

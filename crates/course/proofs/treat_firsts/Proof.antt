@@ -9,14 +9,14 @@ use Rattle.table.proofs.Rows.{rows-length}
 use Rattle.scheme.specs.Store.{tableC, widthOf}
 use Rattle.firsts.specs.Firsts.{firstIn, firsts}
 use Rattle.firsts.proofs.Chaining.{firsts-length, firsts-at}
-use Rattle.compact.proofs.Steps.{Going, going-none, going-few, going-on, going-stops, going-all}
+use Rattle.course.proofs.Steps.{Going, going-none, going-few, going-on, going-stops, going-all}
 use borrow.Author.Needs.{needs}
-use Rattle.compact.proofs.treat_firsts.Statement.{statement}
-use Rattle.compact.proofs.treat_firsts.Tie as tie
+use Rattle.course.proofs.treat_firsts.Statement.{statement}
+use Rattle.course.proofs.treat_firsts.Tie as tie
 
 abbrev Inv-loop : tie.InvT-loop
 Inv-loop t₀ c u nonces log n first z₀ i₀ t z i =
-    (i ≤ n) × ((length t ≡ length t₀) × Going c nonces (rows 32 n log) (rows (widthOf tableC) c t₀) i (rows (widthOf tableC) c t) (z .tally) (z .stopped) (z .used))
+    (i ≤ n) × ((length t ≡ length t₀) × Going c nonces (rows 32 n log) (rows (widthOf tableC) c t₀) i (rows (widthOf tableC) c t) (z .totals) (z .stopped) (z .used))
 
 abbrev μ-loop : tie.MeasureT-loop
 μ-loop t₀ c u nonces log n first z₀ i₀ t z i = n - i
@@ -45,7 +45,7 @@ treat-row-requires c κs =
     let p = c .before .before .before .before .before .before .before .before .before .pre in
     let l = c .before .before .before .before .loop in
     let n = rows-length 32 (a .n) (a .log .now) in
-    let f = going-few (a .c) (a .nonces .now) (rows 32 (a .n) (a .log .now)) (rows (widthOf tableC) (a .c) (a .t .now)) (l .i) _ (l .z .tally) (l .z .stopped) (l .z .used) (l .inv .1 .1) (p .0 .0 .1) (omega (arith, n, c .before .before .before .loop-test .taken)) in (
+    let f = going-few (a .c) (a .nonces .now) (rows 32 (a .n) (a .log .now)) (rows (widthOf tableC) (a .c) (a .t .now)) (l .i) _ (l .z .totals) (l .z .stopped) (l .z .used) (l .inv .1 .1) (p .0 .0 .1) (omega (arith, n, c .before .before .before .loop-test .taken)) in (
       ((l .inv .1 .0 ∙ p .0 .0 .0, p .0 .0 .1), (l .inv .1 .1 .search, (omega (arith, f .0, p .0 .1 .1 .0, c .before .before .before .loop-test .taken), (omega (arith, f .0, p .0 .1 .1 .1 .1, c .before .before .before .loop-test .taken), omega (arith, f .1, p .0 .1 .1 .1 .1, c .before .before .before .loop-test .taken))))),
       (c .before .before .before .loop-test .taken, p .0 .1 .1 .1 .0),
     )
@@ -60,9 +60,9 @@ returns c =
     let p = c .before .before .before .before .before .before .before .before .before .before .before .before .before .before .pre in
     let l = c .before .before .before .before .before .before .before .before .before .loop in
     let n = rows-length 32 (a .n) (a .log .now) in
-    going-stops (a .c) (a .nonces .now) (rows 32 (a .n) (a .log .now)) (rows (widthOf tableC) (a .c) (a .t .now)) (l .i) _ (l .z .tally) (l .z .stopped) (l .z .used) (l .inv .1 .1) (p .0 .0 .1) (omega (arith, n, c .before .before .before .before .before .before .before .before .loop-test .taken))
+    going-stops (a .c) (a .nonces .now) (rows 32 (a .n) (a .log .now)) (rows (widthOf tableC) (a .c) (a .t .now)) (l .i) _ (l .z .totals) (l .z .stopped) (l .z .used) (l .inv .1 .1) (p .0 .0 .1) (omega (arith, n, c .before .before .before .before .before .before .before .before .loop-test .taken))
     (omega (arith, n, c .before .before .before .before .before .before .before .before .loop-test .taken)) (c .before .before .before .before .before .wide .result) (c .before .before .before .before .before .wide .ensures ∙ first-at (a .first .now) (a .n) (a .log .now) (p .1) (l .i) (omega (arith, c .before .before .before .before .before .before .before .before .loop-test .taken)))
-    _ (c .before .before .before .before .treat-row .result .tally) (c .before .before .before .before .treat-row .result .stopped) (c .before .before .before .before .treat-row .ensures .0) (c .before .if1 .taken) (a .n) (sym n)
+    _ (c .before .before .before .before .treat-row .result .totals) (c .before .before .before .before .treat-row .result .stopped) (c .before .before .before .before .treat-row .ensures .0) (c .before .if1 .taken) (a .n) (sym n)
 
 loop-again : tie.Need-loop-again Inv-loop μ-loop
 loop-again c =
@@ -73,9 +73,9 @@ loop-again c =
       omega arith,
       (
         c .before .before .before .treat-row .kept .0 ∙ l .inv .1 .0,
-        going-on (a .c) (a .nonces .now) (rows 32 (a .n) (a .log .now)) (rows (widthOf tableC) (a .c) (a .t .now)) (l .i) _ (l .z .tally) (l .z .stopped) (l .z .used) (l .inv .1 .1) (p .0 .0 .1) (omega (arith, n, c .before .before .before .before .before .before .before .loop-test .taken))
+        going-on (a .c) (a .nonces .now) (rows 32 (a .n) (a .log .now)) (rows (widthOf tableC) (a .c) (a .t .now)) (l .i) _ (l .z .totals) (l .z .stopped) (l .z .used) (l .inv .1 .1) (p .0 .0 .1) (omega (arith, n, c .before .before .before .before .before .before .before .loop-test .taken))
             (omega (arith, n, c .before .before .before .before .before .before .before .loop-test .taken)) (c .before .before .before .before .wide .result) (c .before .before .before .before .wide .ensures ∙ first-at (a .first .now) (a .n) (a .log .now) (p .1) (l .i) (omega (arith, c .before .before .before .before .before .before .before .loop-test .taken)))
-            _ (c .before .before .before .treat-row .result .tally) (c .before .before .before .treat-row .result .stopped) (c .before .before .before .treat-row .ensures .0) (c .if1 .left) (c .before .before .before .treat-row .result .used) (c .before .before .before .treat-row .ensures .1),
+            _ (c .before .before .before .treat-row .result .totals) (c .before .before .before .treat-row .result .stopped) (c .before .before .before .treat-row .ensures .0) (c .if1 .left) (c .before .before .before .treat-row .result .used) (c .before .before .before .treat-row .ensures .1),
       ),
     )
 
@@ -89,7 +89,7 @@ returns-2 c =
     let p = c .before .before .before .before .before .before .before .pre in
     let l = c .before .before .loop in
     let n = rows-length 32 (a .n) (a .log .now) in
-    going-all (a .c) (a .nonces .now) (rows 32 (a .n) (a .log .now)) (rows (widthOf tableC) (a .c) (a .t .now)) (l .i) _ (l .z .tally) (l .z .stopped) (l .z .used) (l .inv .1 .1) (p .0 .0 .1) (omega (arith, n, l .inv .0)) (a .n) (omega (arith, l .inv .0, c .before .loop-test .left))
+    going-all (a .c) (a .nonces .now) (rows 32 (a .n) (a .log .now)) (rows (widthOf tableC) (a .c) (a .t .now)) (l .i) _ (l .z .totals) (l .z .stopped) (l .z .used) (l .inv .1 .1) (p .0 .0 .1) (omega (arith, n, l .inv .0)) (a .n) (omega (arith, l .inv .0, c .before .loop-test .left))
 
 pub treat-firsts-spec : {M : Type 1} → statement M
 treat-firsts-spec = tie.close (tie.spec Inv-loop μ-loop loop-holds (λ c. search needs) shared-slice-read-wide (λ c κs. search needs) treat-row-requires same-length returns (λ c. search needs) (λ c. search needs) loop-again same-length-2 returns-2)

@@ -5,11 +5,11 @@ use Rattle.table.specs.Table.{rows}
 use Rattle.scheme.specs.Store.{tableC, widthOf}
 use Rattle.scheme.specs.Reading.{reading}
 use Rattle.suite.specs.Program.{program}
-use Rattle.compact.specs.Tally.{countersIn}
-use Rattle.compact.proofs.Steps.{few-counters, nonce-wide, step-is}
+use Rattle.course.specs.Totals.{countersIn}
+use Rattle.course.proofs.Steps.{few-counters, nonce-wide, step-is}
 use borrow.Author.Needs.{needs}
-use Rattle.compact.proofs.treat_one.Statement.{statement}
-use Rattle.compact.proofs.treat_one.Tie as tie
+use Rattle.course.proofs.treat_one.Statement.{statement}
+use Rattle.course.proofs.treat_one.Tie as tie
 
 mul-from : tie.Need-mul-from
 mul-from c =
@@ -26,7 +26,7 @@ part-treat-end c =
 treat-requires : tie.Need-treat-requires
 treat-requires c κs =
     let p = c .before .before .before .before .before .pre in
-    (p .0, (nonce-wide (c .before .before .before .before .before .args .nonces .now) (c .before .before .before .before .before .args .z .tally .anchors) (p .1 .1 .0), p .1 .0))
+    (p .0, (nonce-wide (c .before .before .before .before .before .args .nonces .now) (c .before .before .before .before .before .args .z .totals .anchors) (p .1 .1 .0), p .1 .0))
 
 added-requires : tie.Need-added-requires
 added-requires c κs =
@@ -39,7 +39,7 @@ returns : tie.Need-returns
 returns c =
     let a = c .before .before .before .before .before .before .before .before .before .before .args in
     let t = rows (widthOf tableC) (a .c) (a .t .now) in (
-      step-is (a .nonces .now) (a .cl .now) t _ (a .z .tally) (c .before .added .result) (a .z .stopped) (c .stopped .result) (c .before .before .before .before .treat .result .treated) (reading program (a .c) (a .cl .now) t)
+      step-is (a .nonces .now) (a .cl .now) t _ (a .z .totals) (c .before .added .result) (a .z .stopped) (c .stopped .result) (c .before .before .before .before .treat .result .treated) (reading program (a .c) (a .cl .now) t)
           (c .before .before .before .before .treat .ensures .0 .0) (c .before .before .before .before .treat .ensures .1) (c .before .added .ensures) (c .stopped .ensures),
       c .before .before .before .before .treat .ensures .0 .1,
     )

@@ -4,8 +4,8 @@ use native.Mathlib.Omega.{arith}
 use Rattle.table.proofs.Walk.{row-part}
 use Rattle.firsts.proofs.Chaining.{part-wide}
 use borrow.Author.Needs.{needs}
-use Rattle.compact.proofs.cl_at.Statement.{statement}
-use Rattle.compact.proofs.cl_at.Tie as tie
+use Rattle.course.proofs.cl_at.Statement.{statement}
+use Rattle.course.proofs.cl_at.Tie as tie
 
 mul-at : tie.Need-mul-at
 mul-at c =
