@@ -163,5 +163,5 @@ pub fn length(m: u64, c: u64, s: u64, r: u64) -> usize
     if 4096 < r {
         return 0;
     }
-    store::length_for(m as usize, c as usize, s as usize, r as usize)
+    header::length_for(m as usize, c as usize, s as usize, r as usize)
 }

@@ -14,6 +14,8 @@ use Rattle.answer.specs.declared.Tallied.the-variants.{Number as Number�
 use Rattle.answer.specs.declared.Faults.{Faults}
 use Rattle.answer.specs.declared.Inspected.{Inspected}
 use Rattle.answer.specs.declared.Inspected.the-variants.{Numbers, Refused as Refused₃}
+use Rattle.answer.specs.declared.Compaction.{Compaction}
+use Rattle.answer.specs.declared.Compaction.the-variants.{Done as Done₄, Refused as Refused₄, Damage as Damage₄}
 
 -- done, with the values answered; refused, with the paper's number and what it carries
 pub data Answer : Type 0 where
@@ -90,6 +92,12 @@ faultsOf f = f .mm ∷ f .cc ∷ f .vm ∷ f .mv ∷ f .vr ∷ f .rv ∷ f .exce
 abbrev pub inspected : Inspected → Answer
 inspected (Numbers f) = done (faultsOf f)
 inspected (Refused₃ r) = refusal r
+
+-- anchors written and counters freed [01:OP13]; 13 carries both numbers so far [01:RS13]
+abbrev pub compactionAnswer : Compaction → Answer
+compactionAnswer (Done₄ t) = done (t .anchors ∷ t .counters ∷ [])
+compactionAnswer (Refused₄ r) = refusal r
+compactionAnswer (Damage₄ t) = refused 13 (t .anchors ∷ t .counters ∷ [])
 
 -- the rows looked at that a count's answer carries; a refusal carries none [02:W3.8]
 abbrev pub rowsOf : Answer → ℕ

@@ -92,6 +92,20 @@ pub enum Inspected {
     Refused(Refusal),
 }
 
+// How many anchors were written and counters freed. [01:OP13]
+pub struct Tally {
+    pub anchors: u64,
+    pub counters: u64,
+}
+
+// The answer of a compaction.
+pub enum Compaction {
+    Done(Tally),
+    Refused(Refusal),
+    // 13: the CL before it stay treated. [01:RS13]
+    Damage(Tally),
+}
+
 // The paper's number of a refusal.
 pub fn number(r: Refusal) -> u64
     ensures { λ n. ⌜ n ≡ numberOf r ⌝ }

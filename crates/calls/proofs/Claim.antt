@@ -1,5 +1,5 @@
--- Demand 3 of the program: the scheme's claim at HMAC-SHA-256 and ChaCha20. A run of the nine calls of this crate is a run of
--- it, since each contract is the step. [01:LG20]
+-- Demand 3 of the program: the scheme's claim at HMAC-SHA-256 and ChaCha20. A run of the nine calls of this crate and of queries is
+-- a run of it, since each contract is the step. [01:LG20]
 use Rattle.scheme.specs.Claim.{Claim}
 use Rattle.scheme.specs.Corollaries.{NoFaults}
 use Rattle.scheme.proofs.Claim.{claim}

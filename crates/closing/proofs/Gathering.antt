@@ -16,7 +16,7 @@ use Rattle.table.specs.Order.{precedes, usedRows, reordered}
 use Rattle.table.proofs.Counting.{Same-refl}
 use Rattle.table.proofs.Rows.{zero-free}
 use Rattle.table.proofs.Order.{Ascending, used-all, rows-counted, zeros-used, filled-used, filled-form, InForm, in-form-is}
-use Rattle.merging.specs.Moves.{moved}
+use Rattle.moving.specs.Moves.{moved}
 use Rattle.closing.specs.Flags.{freeFlagged}
 use Rattle.closing.proofs.Flags.{free-flagged-empty, free-flagged-length}
 

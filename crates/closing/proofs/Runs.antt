@@ -11,8 +11,8 @@ use lib.ListN.{length, getD, take, drop, take-append-drop}
 use lib.Seq.{slice, slice-empty, slice-cons, length-slice, drop-cons, drop-drop, getD-take, getD-drop}
 use Rattle.table.specs.Table.{Row, Table, isFree}
 use Rattle.table.specs.Order.{usedRows}
-use Rattle.merging.specs.Moves.{moved}
-use Rattle.merging.proofs.Moves.{take-moved-all, drop-moved, length-moved}
+use Rattle.moving.specs.Moves.{moved}
+use Rattle.moving.proofs.Moves.{take-moved-all, drop-moved, length-moved}
 use Rattle.closing.specs.Flags.{freeFlagged, leading, nextFlagged, nextStaying}
 use Rattle.closing.proofs.Gathering.{Gathering, freed-next, gathering-none}
 

@@ -41,7 +41,7 @@ fn keep(t: &mut [u8], w: usize, n: usize, to: usize, from: usize, stays: bool) -
 {
     if stays {
         if to < from {
-            merging::rows_down(t, w, n, to, 1, from - to);
+            moving::rows_down(t, w, n, to, 1, from - to);
         }
         to + 1
     } else {
@@ -103,7 +103,7 @@ pub fn close(t: &mut [u8], w: usize, n: usize, u: usize, flags: &[u8])
         let s = next_staying(flags, i + 1, u);
         let e = next_flagged(flags, s, u);
         let k = e - s;
-        merging::rows_down(t, w, n, to, k, s - to);
+        moving::rows_down(t, w, n, to, k, s - to);
         to += k;
         i = e;
     }

@@ -131,7 +131,7 @@ pub fn count(store: &[u8], key: &[u8], name: &[u8], value: &[u8]) -> Outcome
     ensures { λ o. ⌜ Roomed (now (store .entry)) o ⌝ }
 {
     let room = advice::room_in(store);
-    of_tallied(calls::count(store, key, name, value), room)
+    of_tallied(queries::count(store, key, name, value), room)
 }
 
 pub fn compact(store: &mut [u8], key: &[u8], nonces: &[u8]) -> Outcome
@@ -159,5 +159,5 @@ pub fn check(store: &[u8]) -> Outcome
     ensures { λ o. ⌜ Roomed (now (store .entry)) o ⌝ }
 {
     let room = advice::room_in(store);
-    of_inspected(calls::check(store), room)
+    of_inspected(queries::check(store), room)
 }

@@ -25,7 +25,7 @@ use Rattle.store.proofs.Laws.{tableC, tableS, fit-sizes, laid-fit, used-rows, f
 use Rattle.firsts.specs.Firsts.{firsts}
 use Rattle.firsts.specs.Flags.{flagsUnder}
 use Rattle.firsts.proofs.Chaining.{firsts-length}
-use Rattle.course.specs.declared.Totals.{Totals}
+use Rattle.answer.specs.declared.Tally.{Tally}
 use Rattle.course.specs.Course.{Course, courseOf, begun, course, courseTo, treatedTo}
 use Rattle.course.proofs.Courses.{treatedIn, treated-is, treated-le}
 use Rattle.compact.specs.Log.{clsIn}
@@ -73,7 +73,7 @@ module _ (b nonces ks : List ℕ) (z : Shape) (e : checkedOf b ≡ Fit z) where
       ∙ ap (λ (l : List (List ℕ)). ended c nonces ks tS form (course c nonces (distinct l) (begun tC)) (treatedIn c nonces (distinct l) (begun tC))) (sym whole)
       ∙ ap (ended c nonces ks tS form (course c nonces (distinct (take n log)) (begun tC))) (treated-is c nonces log tC n (omega (arith, log-length ks tS n form count)))
 
-  module _ (l : List (List ℕ)) (el : l ≡ clsIn ks (take n tS)) (t t′ : Table) (et : t ≡ tC) (x : Totals) (st : Bool)
+  module _ (l : List (List ℕ)) (el : l ≡ clsIn ks (take n tS)) (t t′ : Table) (et : t ≡ tC) (x : Tally) (st : Bool)
       (ec : courseOf t′ x st ≡ courseTo (z .c .rows) nonces l t n) (upto : ℕ) (eu : upto ≡ treatedTo (z .c .rows) nonces l t n) where
     ended-is : courseOf t′ x st ≡ courseTo (z .c .rows) nonces log tC n
     ended-is = ec ∙ ap₂ (λ (l : List (List ℕ)) (t : Table). courseTo (z .c .rows) nonces l t n) el et

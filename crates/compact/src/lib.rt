@@ -4,7 +4,7 @@
 ghost use mathlib.Core.Path.{_≡_};
 ghost use mathlib.Core.Bool.{cond};
 ghost use mathlib.Core.List.{[], _∷_};
-ghost use Rattle.answer.specs.Answer.{done, refused};
+ghost use Rattle.answer.specs.Answer.{done, refused, compactionAnswer};
 ghost use Prim.Native.Nat.{_+_, _-_, _*_, _/_, _≤_, _<_};
 ghost use lib.ListN.{length, take, drop};
 ghost use Rattle.table.specs.Table.{rows};
@@ -15,8 +15,9 @@ ghost use Rattle.suite.specs.Program.{program};
 ghost use Rattle.store.specs.declared.Checked.the-variants.{Fit};
 ghost use Rattle.store.specs.Check.{checkedOf};
 ghost use Rattle.compact.specs.Log.{clsIn};
-ghost use Rattle.compact.specs.Outcome.{compactionAnswer};
+use answer::Compaction;
 use answer::Refusal;
+use answer::Tally;
 use format::COMPACTION_TOKEN;
 use format::NONCE;
 use format::row;
@@ -24,20 +25,6 @@ use store::Checked;
 use store::MOST_ROWS;
 use store::S_WIDTH;
 use store::Shape;
-
-// How many anchors were written and counters freed. [01:OP13]
-pub struct Tally {
-    pub anchors: u64,
-    pub counters: u64,
-}
-
-// The answer of a compaction.
-pub enum Compaction {
-    Done(Tally),
-    Refused(Refusal),
-    // 13: the CL before it stay treated. [01:RS13]
-    Damage(Tally),
-}
 
 // Decrypts the first n rows of S, once, into a log of 32 bytes per row. [01:ST12]
 fn open_log(t: &[u8], s: usize, n: usize, ks: &[u8], log: &mut [u8])
@@ -93,12 +80,7 @@ fn treat_logged(store: &mut [u8], z: Shape, nonces: &[u8], token: &[u8]) -> Comp
     );
     firsts::flag_before(&first, n, r.upto, &mut flags);
     closing::close(&mut store[b..f], S_WIDTH, s.rows, n, &flags);
-    let sums = r.totals;
-    let tally = Tally {
-        anchors: sums.anchors,
-        counters: sums.counters,
-    };
-    outcome(tally, r.stopped)
+    outcome(r.totals, r.stopped)
 }
 
 // Compaction, refused by 4, 6, 10, 11 and 19, which leave the store as it was; or stopped by 13, with

@@ -11,7 +11,7 @@ use Rattle.table.proofs.Counting.{count-le}
 use Rattle.table.proofs.Rows.{rows-length, free-used}
 use Rattle.scheme.specs.Store.{Which, tableM, tableV, tableC, tableR, widthOf, rowsOf, startOf, cut, sizesOf, headerBad, reverseId, reverseTag, labelId}
 use Rattle.scheme.specs.Check.{tagsIn, reverseTags, reverseIds, labelIds, repeatedEntries, repeatedCounters, reversesWithoutEntry, entriesWithoutReverse, reversesWithoutLabel, labelsWithoutReverse, labelsInExcess, faults}
-use Rattle.matching.proofs.Keys.{bit-le}
+use Rattle.repeats.proofs.Keys.{bit-le}
 use Rattle.store.proofs.Laws.{good-header}
 
 after-most : (seen xs : List (List ℕ)) → repeatsAfter seen xs ≤ length xs

@@ -30,7 +30,7 @@ fn repeated(store: &[u8], part: Part, w: usize) -> u64
 {
     let a = part.start;
     let e = part.end;
-    matching::repeats(&store[a..e], w, part.rows, part.rows - part.free)
+    repeats::repeats(&store[a..e], w, part.rows, part.rows - part.free)
 }
 
 // The rows of M and of V whose tag the other lacks. [check:4 check:5]
@@ -64,7 +64,7 @@ fn without(store: &[u8], x: Part, w: usize, y: Part, width: usize) -> u64
     let e = x.end;
     let b = y.start;
     let f = y.end;
-    matching::lacking_ids(
+    lacking::lacking_ids(
         &store[a..e],
         w,
         x.rows,

@@ -21,12 +21,12 @@ use Rattle.firsts.specs.Firsts.{firstIn}
 use Rattle.treatment.specs.declared.Treated.{Treated}
 use Rattle.treatment.specs.Treatment.{doneBy, tableBy}
 use Rattle.treatment.proofs.Places.{treated-searchable}
-use Rattle.course.specs.declared.Totals.{Totals}
+use Rattle.answer.specs.declared.Tally.{Tally}
 use Rattle.course.specs.Totals.{stops, anchorsIn, countersIn, totalsAfter}
 use Rattle.course.specs.Course.{Course, courseOf, stepBy, stepOn, courseTo, treatedTo}
 use Rattle.course.proofs.Courses.{step-goes, step-stopped, course-new, course-old, treated-whole, stopped-at}
 
-pub totals-same : (t : Totals) (r : Treated) → anchorsIn r ≡ 0 → countersIn r ≡ 0 → t ≡ totalsAfter t r
+pub totals-same : (t : Tally) (r : Treated) → anchorsIn r ≡ 0 → countersIn r ≡ 0 → t ≡ totalsAfter t r
 totals-same t r a k =
     let p = sym (add-zero (t .anchors)) ∙ ap (λ (n : ℕ). t .anchors + n) (sym a) in
     let q = sym (add-zero (t .counters)) ∙ ap (λ (n : ℕ). t .counters + n) (sym k) in
@@ -50,7 +50,7 @@ nonce-is nonces a = let e : 12 * a + 12 - 12 * a ≡ 12 = omega arith in ap (λ 
 pub nonce-wide : (nonces : List ℕ) (a : ℕ) → 12 * a + 12 ≤ length nonces → length (take (12 * a + 12 - 12 * a) (drop (12 * a) nonces)) ≡ 12
 nonce-wide nonces a h = ap length (nonce-is nonces a) ∙ length-take-le 12 (drop (12 * a) nonces) (omega (arith, length-drop (12 * a) nonces))
 
-pub step-is : (nonces cl : List ℕ) (t t′ : Table) (x x′ : Totals) (b b′ : Bool) (d : Treated) (r : Reading) → d ≡ doneBy r
+pub step-is : (nonces cl : List ℕ) (t t′ : Table) (x x′ : Tally) (b b′ : Bool) (d : Treated) (r : Reading) → d ≡ doneBy r
     → t′ ≡ tableBy cl (take (12 * x .anchors + 12 - 12 * x .anchors) (drop (12 * x .anchors) nonces)) t r → x′ ≡ totalsAfter x d → b′ ≡ stops d
     → courseOf t′ x′ b′ ≡ stepBy nonces cl (courseOf t x b) r
 step-is nonces cl t t′ x x′ b b′ d r ed et ex eb =
@@ -111,22 +111,22 @@ row-searchable nonces cl false r u v s t′ h e n =
 
 -- after i rows, with nothing that stopped it
 module _ (c : ℕ) (nonces : List ℕ) (l : List (List ℕ)) (t : Table) where
-  pub record Going (i : ℕ) (now : Table) (x : Totals) (b : Bool) (used : ℕ) : Type 0 where
+  pub record Going (i : ℕ) (now : Table) (x : Tally) (b : Bool) (used : ℕ) : Type 0 where
     pub stands : courseOf now x b ≡ courseTo c nonces l t i
     pub goes : b ≡ false
     pub search : Searchable (widthOf tableC) used now
 
-  pub going-none : (x : Totals) (used : ℕ) → x .anchors ≡ 0 → x .counters ≡ 0 → Searchable (widthOf tableC) used t → Going 0 t x false used
+  pub going-none : (x : Tally) (used : ℕ) → x .anchors ≡ 0 → x .counters ≡ 0 → Searchable (widthOf tableC) used t → Going 0 t x false used
   unfolding courseTo
   going-none x used a w s = record { stands = (λ j. record { tC = t; anchors = a j; counters = w j; stopped = false }); goes = refl; search = s }
 
-  module _ (i : ℕ) (now : Table) (x : Totals) (b : Bool) (used : ℕ) (g : Going i now x b used) (small : c ≤ 4096) (inside : i ≤ length l) where
+  module _ (i : ℕ) (now : Table) (x : Tally) (b : Bool) (used : ℕ) (g : Going i now x b used) (small : c ≤ 4096) (inside : i ≤ length l) where
     pub going-few : (x .anchors ≤ i) × (x .counters ≤ 4096 * i)
     going-few =
         let f = course-few c nonces l t small i inside in
         (omega (arith, f .anchors-few, ap (λ (s : Course). s .anchors) (g .stands)), omega (arith, f .counters-few, ap (λ (s : Course). s .counters) (g .stands)))
 
-    module _ (h : i < length l) (first : ℕ) (ef : first ≡ firstIn l (getD l i [])) (now′ : Table) (x′ : Totals) (b′ : Bool)
+    module _ (h : i < length l) (first : ℕ) (ef : first ≡ firstIn l (getD l i [])) (now′ : Table) (x′ : Tally) (b′ : Bool)
         (e : courseOf now′ x′ b′ ≡ cond (eqb first i) (stepBy nonces (getD l i []) (courseOf now x b) (reading program c (getD l i []) now)) (courseOf now x b)) where
       pub going-turn : courseOf now′ x′ b′ ≡ courseTo c nonces l t (i + 1)
       going-turn = e ∙ turned c nonces l t i first h ef (courseOf now x b) (g .stands) (g .goes) ∙ ap (courseTo c nonces l t) (sym (add-one i))

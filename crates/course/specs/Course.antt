@@ -8,7 +8,7 @@ use Rattle.table.specs.Table.{Table}
 use Rattle.scheme.specs.Reading.{Reading, reading}
 use Rattle.suite.specs.Program.{program}
 use Rattle.treatment.specs.Treatment.{doneBy, tableBy}
-use Rattle.course.specs.declared.Totals.{Totals}
+use Rattle.answer.specs.declared.Tally.{Tally}
 use Rattle.course.specs.Totals.{stops, anchorsIn, countersIn}
 
 -- table C, the numbers so far, and whether damage stopped it
@@ -19,7 +19,7 @@ pub record Course : Type 0 where
   pub stopped : Bool
 
 -- as the code has it
-abbrev pub courseOf : Table → Totals → Bool → Course
+abbrev pub courseOf : Table → Tally → Bool → Course
 courseOf t x stopped = record { tC = t; anchors = x .anchors; counters = x .counters; stopped = stopped }
 
 abbrev pub begun : Table → Course

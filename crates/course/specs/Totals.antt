@@ -3,7 +3,7 @@ use Prim.Native.Nat.{ℕ, _+_}
 use mathlib.Core.Bool.{Bool, true, false}
 use Rattle.treatment.specs.declared.Treated.{Treated}
 use Rattle.treatment.specs.declared.Treated.the-variants.{Damage, Skipped, Anchored}
-use Rattle.course.specs.declared.Totals.{Totals}
+use Rattle.answer.specs.declared.Tally.{Tally}
 
 -- whether damage stops the compaction [01:RS13]
 abbrev pub stops : Treated → Bool
@@ -22,5 +22,5 @@ countersIn Damage = 0
 countersIn Skipped = 0
 countersIn (Anchored k) = k
 
-abbrev pub totalsAfter : Totals → Treated → Totals
+abbrev pub totalsAfter : Tally → Treated → Tally
 totalsAfter t r = record { anchors = t .anchors + anchorsIn r; counters = t .counters + countersIn r }

@@ -14,14 +14,9 @@ ghost use Rattle.suite.specs.Program.{program};
 ghost use Rattle.firsts.specs.Firsts.{firsts};
 ghost use Rattle.course.specs.Totals.{stops, countersIn, totalsAfter};
 ghost use Rattle.course.specs.Course.{courseOf, stepBy, courseTo, treatedTo};
+use answer::Tally;
 use format::NONCE;
 use treatment::Treated;
-
-// How many anchors were written and counters freed, so far. [01:OP13]
-pub struct Totals {
-    pub anchors: u64,
-    pub counters: u64,
-}
 
 // The CL of a row in the log.
 fn cl_at(log: &[u8], n: usize, i: usize) -> [u8; 32]
@@ -47,14 +42,14 @@ fn stopped(r: Treated) -> bool
 }
 
 // The totals after one CL more. [01:OP13]
-fn added(t: Totals, r: Treated) -> Totals
+fn added(t: Tally, r: Treated) -> Tally
     requires { ⌜ (t .anchors ≤ 4096) × ((t .counters ≤ 4096 * 4096) × (countersIn r ≤ 4096)) ⌝ }
     ensures { λ u. ⌜ u ≡ totalsAfter t r ⌝ }
 {
     match r {
         Treated::Damage => t,
         Treated::Skipped => t,
-        Treated::Anchored(k) => Totals {
+        Treated::Anchored(k) => Tally {
             anchors: t.anchors + 1,
             counters: t.counters + k,
         },
@@ -63,7 +58,7 @@ fn added(t: Totals, r: Treated) -> Totals
 
 // Where the treatment stands: the totals, how many rows of C are used, and whether damage stopped it.
 struct Standing {
-    totals: Totals,
+    totals: Tally,
     used: usize,
     stopped: bool,
 }
@@ -112,7 +107,7 @@ fn treat_row(
 // How far the CL of the log were treated: the totals, the row that it ended before, and whether damage
 // stopped it there.
 pub struct Progress {
-    pub totals: Totals,
+    pub totals: Tally,
     pub upto: usize,
     pub stopped: bool,
 }
@@ -139,7 +134,7 @@ pub fn treat_firsts(
     ensures { λ r. ⌜ courseOf (rows (widthOf tableC) c (now (t .exit))) (r .totals) (r .stopped) ≡ courseTo c (now (nonces .entry)) (rows 32 n (now (log .entry))) (rows (widthOf tableC) c (now (t .entry))) n ⌝ }
     ensures { λ r. ⌜ r .upto ≡ treatedTo c (now (nonces .entry)) (rows 32 n (now (log .entry))) (rows (widthOf tableC) c (now (t .entry))) n ⌝ }
 {
-    let none = Totals {
+    let none = Tally {
         anchors: 0,
         counters: 0,
     };

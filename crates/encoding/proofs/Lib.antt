@@ -1,1 +1,3 @@
 pub mod Injective
+pub mod Signed
+pub mod Carrying

@@ -1,3 +1,1 @@
-pub mod Signed
-pub mod Carrying
 pub mod Bounds

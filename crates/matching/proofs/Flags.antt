@@ -18,7 +18,7 @@ use Rattle.table.proofs.Counting.{same-true, same-sym, same-refl, count-map, co
 use Rattle.table.proofs.Rows.{all-at}
 use Rattle.table.proofs.Walk.{place-holds}
 use Rattle.matching.specs.Matching.{bucketOf, hinted, reached, unflagged}
-use Rattle.matching.proofs.Keys.{all-from, used-length, place-has, place-le, getD-map, body-at, few, bit-le}
+use Rattle.repeats.proofs.Keys.{all-from, used-length, place-has, place-le, getD-map, body-at, few, bit-le}
 
 -- a tag is one of a table's just where it has a place
 any-first : (x : List ℕ) (l : List (List ℕ)) → anyOf (same x) (map (take 32) l) ≡ isSome (first (hasTag x) l)

@@ -1,4 +1,1 @@
-pub mod Keys
-pub mod Neighbours
-pub mod Walks
 pub mod Flags

@@ -1,15 +1,11 @@
--- What the functions of this crate leave on the way: the hints by which a tag is searched, the flags of the rows that were found, and how
--- a walk through two tables goes on.
-use Prim.Native.Nat.{ℕ, zero, suc, _+_, _*_, _-_, _/_}
-use mathlib.Core.Bool.{Bool, true, false, cond, _&&_}
+-- What the functions of this crate leave on the way: the hints by which a tag is searched, and the flags of the rows that were found.
+use Prim.Native.Nat.{ℕ, zero, suc, _+_, _*_, _/_}
+use mathlib.Core.Bool.{cond}
 use mathlib.Core.List.{List, [], _∷_}
 use lib.Dec.{eqb, ltb}
 use lib.ListN.{length, take, getD, set}
-use Rattle.table.specs.Lists.{same, count}
+use Rattle.table.specs.Lists.{count}
 use Rattle.table.specs.Table.{Table, used, body, placeOf}
-use Rattle.table.specs.Order.{precedes}
-use Rattle.matching.specs.declared.Meeting.{Meeting}
-use Rattle.matching.specs.declared.Meeting.the-variants.{Same, Before, Past}
 
 -- the first fourteen bits of a text
 unfoldable pub bucketOf : List ℕ → ℕ
@@ -28,16 +24,3 @@ reached t (x ∷ xs) flags = reached t xs (cond (ltb (placeOf x t) (length t)) (
 -- how many used rows have a tag whose first row has no flag
 unfoldable pub unflagged : Table → List ℕ → ℕ
 unflagged t flags = count (λ b. eqb (getD flags (placeOf (take 32 b) t) 0) 0) (used t)
-
-abbrev pub pickMeeting : Bool → Meeting → Meeting → Meeting
-pickMeeting true a b = a
-pickMeeting false a b = b
-
--- how a text stands to text j of a list
-unfoldable pub meetingOf : List ℕ → List (List ℕ) → ℕ → Meeting
-meetingOf x l j =
-    pickMeeting (ltb j (length l)) (pickMeeting (same x (getD l j [])) Same (pickMeeting (precedes (getD l j []) x) Before Past)) Past
-
--- whether the text before text j of a list is this one
-unfoldable pub metBefore : List ℕ → List (List ℕ) → ℕ → Bool
-metBefore x l j = ltb 0 j && same x (getD l (j - 1) [])

@@ -1,6 +1,5 @@
-// Rows of tables in form, matched by a part of them (the request "Check"): tags that stand twice, and rows
-// whose tag or id another table lacks. Equal tags and equal ids stand together; a tag of one table is
-// searched in the other, near a place that its first bits hint at.
+// Rows of two tables in form whose tag the other lacks (the request "Check"): a tag of one table is searched in the
+// other, near a place that its first bits hint at, and the first row that has it is flagged.
 ghost use mathlib.Core.Path.{_≡_};
 ghost use mathlib.Core.Bool.{_&&_};
 ghost use mathlib.Core.Logic.{_⊎_};
@@ -8,11 +7,11 @@ ghost use mathlib.Core.List.{[], map};
 ghost use Prim.Native.Nat.{_+_, _*_, _-_, _<_, _≤_};
 ghost use lib.Dec.{eqb, ltb};
 ghost use lib.ListN.{length, take, drop, getD};
-ghost use Rattle.octets.specs.Compare.{same as sameBytes};
-ghost use Rattle.table.specs.Lists.{repeats as repeatsIn, lacking as lackingIn};
+ghost use Rattle.table.specs.Lists.{lacking as lackingIn};
 ghost use Rattle.table.specs.Table.{rows, used as usedIn, placeOf};
 ghost use Rattle.table.specs.Order.{Searchable};
-ghost use Rattle.matching.specs.Matching.{bucketOf, hinted, reached, unflagged as unflaggedIn, meetingOf, metBefore};
+ghost use Rattle.matching.specs.Matching.{bucketOf, hinted, reached, unflagged as unflaggedIn};
+use repeats::alike;
 
 // The most rows of a table whose rows are flagged.
 const MOST_ROWS: usize = 4096;
@@ -26,42 +25,6 @@ pub struct Unmatched {
     pub left: u64,
     // Of the other.
     pub lost: u64,
-}
-
-// How a text stands to the text of a row that a walk has come to.
-enum Meeting {
-    Same,
-    // The row's comes before it.
-    Before,
-    // The row's comes after it, or there is no row.
-    Past,
-}
-
-// Whether k bytes of two texts, from a place of each on, are the same.
-fn alike(a: &[u8], i: usize, b: &[u8], j: usize, k: usize) -> bool
-    requires { ⌜ (i + k ≤ length (now a)) × (j + k ≤ length (now b)) ⌝ }
-    ensures { λ r. ⌜ r ≡ sameBytes (take k (drop i (now (a .entry)))) (take k (drop j (now (b .entry)))) ⌝ }
-{
-    let d = i + k;
-    let e = j + k;
-    octets::same(&a[i..d], &b[j..e])
-}
-
-// How many used rows have a tag that a row before them has: equal tags stand together. [check:2 check:3 check:9]
-pub fn repeats(t: &[u8], w: usize, n: usize, u: usize) -> u64
-    requires { ⌜ ((33 ≤ w) × (length (now t) ≡ w * n)) × Searchable w u (rows w n (now t)) ⌝ }
-    ensures { λ r. ⌜ r ≡ repeatsIn (map (take 32) (usedIn (rows w n (now (t .entry))))) ⌝ }
-{
-    let mut r: u64 = 0;
-    let mut i = 1;
-    while i < u {
-        let a = w * i + 1;
-        if alike(t, a - w, t, a, 32) {
-            r += 1;
-        }
-        i += 1;
-    }
-    r
 }
 
 // The first fourteen bits of the text at a place.
@@ -227,73 +190,4 @@ pub fn compare_tags(
     let lost = reach(t, w, n, u, &hints, v, width, m, used, &mut flags);
     let left = unflagged(t, w, n, u, &flags);
     Unmatched { left, lost }
-}
-
-// How the id at a place of a text stands to that of row j.
-fn compare_id(x: &[u8], a: usize, t: &[u8], w: usize, n: usize, u: usize, j: usize) -> Meeting
-    requires { ⌜ (((17 ≤ w) × (length (now t) ≡ w * n)) × Searchable w u (rows w n (now t))) × (a + 16 ≤ length (now x)) ⌝ }
-    ensures { λ r. ⌜ r ≡ meetingOf (take 16 (drop a (now (x .entry)))) (map (take 16) (usedIn (rows w n (now (t .entry))))) j ⌝ }
-{
-    if u <= j {
-        return Meeting::Past;
-    }
-    let b = w * j + 1;
-    if alike(x, a, t, b, 16) {
-        return Meeting::Same;
-    }
-    let d = a + 16;
-    let e = b + 16;
-    if table::precedes(&t[b..e], &x[a..d]) {
-        return Meeting::Before;
-    }
-    Meeting::Past
-}
-
-// Whether the row before row j has the id at a place of a text.
-fn was_met(x: &[u8], a: usize, t: &[u8], w: usize, n: usize, u: usize, j: usize) -> bool
-    requires { ⌜ (((17 ≤ w) × (length (now t) ≡ w * n)) × Searchable w u (rows w n (now t))) × ((a + 16 ≤ length (now x)) × (j ≤ u)) ⌝ }
-    ensures { λ r. ⌜ r ≡ metBefore (take 16 (drop a (now (x .entry)))) (map (take 16) (usedIn (rows w n (now (t .entry))))) j ⌝ }
-{
-    if j < 1 {
-        return false;
-    }
-    alike(x, a, t, w * j + 1 - w, 16)
-}
-
-// How many used rows of a table have an id, their first 16 bytes, that no used row of another has: both
-// ascend by id, and are walked through together. [check:6 check:7 check:9]
-pub fn lacking_ids(
-    t: &[u8],
-    w: usize,
-    n: usize,
-    u: usize,
-    v: &[u8],
-    width: usize,
-    m: usize,
-    used: usize,
-) -> u64
-    requires { ⌜ ((17 ≤ w) × (length (now t) ≡ w * n)) × Searchable w u (rows w n (now t)) ⌝ }
-    requires { ⌜ ((17 ≤ width) × (length (now v) ≡ width * m)) × Searchable width used (rows width m (now v)) ⌝ }
-    ensures { λ r. ⌜ r ≡ lackingIn (map (take 16) (usedIn (rows w n (now (t .entry))))) (map (take 16) (usedIn (rows width m (now (v .entry))))) ⌝ }
-{
-    let mut r: u64 = 0;
-    let mut k = 0;
-    let mut j = 0;
-    while k < u {
-        let a = w * k + 1;
-        match compare_id(t, a, v, width, m, used, j) {
-            Meeting::Same => {
-                k += 1;
-                j += 1;
-            }
-            Meeting::Before => j += 1,
-            Meeting::Past => {
-                if !was_met(t, a, v, width, m, used, j) {
-                    r += 1;
-                }
-                k += 1;
-            }
-        }
-    }
-    r
 }

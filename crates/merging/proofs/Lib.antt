@@ -1,4 +1,3 @@
-pub mod Moves
 pub mod Places
 pub mod Weaving
 pub mod Forms

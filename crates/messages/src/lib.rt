@@ -6,9 +6,9 @@ ghost use Rattle.messages.specs.Message.{plural, roomSentence, placeOf, 
 use advice::Advice;
 use advice::Room;
 use answer::Refusal;
+use answer::Tally;
 use buffer::put;
 use buffer::put_counted;
-use compact::Tally;
 use outcome::Outcome;
 
 const KEY: [u8; 68] = *b"the key file must hold 32 bytes: make one with mazhkuri key KEYFILE\n";

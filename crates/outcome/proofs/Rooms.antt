@@ -6,7 +6,7 @@ use Prim.Native.Nat.{ℕ}
 use Rattle.answer.specs.Answer.{done}
 use Rattle.advice.specs.Advise.{roomOf}
 use Rattle.advice.specs.declared.Room.{Room}
-use Rattle.compact.specs.declared.Tally.{Tally}
+use Rattle.answer.specs.declared.Tally.{Tally}
 use Rattle.outcome.specs.declared.Outcome.{Outcome}
 use Rattle.outcome.specs.declared.Outcome.the-variants.{Compacted, WrongKey}
 use Rattle.outcome.specs.Told.{told, pickOutcome, isWrongKey, compacted, withRoom, Roomed}

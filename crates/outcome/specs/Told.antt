@@ -6,7 +6,7 @@ use mathlib.Core.List.{List, [], _∷_}
 use lib.Dec.{ltb}
 use Rattle.answer.specs.Answer.{Answer, done, refused, refusal, faultsOf}
 use Rattle.advice.specs.Advise.{roomOf}
-use Rattle.compact.specs.declared.Tally.{Tally}
+use Rattle.answer.specs.declared.Tally.{Tally}
 use Rattle.advice.specs.declared.Room.{Room}
 use Rattle.outcome.specs.declared.Outcome.{Outcome}
 use Rattle.outcome.specs.declared.Outcome.the-variants.{Number, Counted, Inspected, Compacted, Damaged, WrongKey, Refused, Done, BadWords}

@@ -1,18 +1,17 @@
 // What became of a command of the tool, made of the library's answers: a refusal goes with the room that the store had,
 // and a compaction may have been made with another key than the store's.
 ghost use mathlib.Core.Path.{_≡_};
-ghost use Rattle.answer.specs.Answer.{counted, tallied, inspected, completion};
-ghost use Rattle.compact.specs.Outcome.{compactionAnswer};
+ghost use Rattle.answer.specs.Answer.{counted, tallied, inspected, completion, compactionAnswer};
 ghost use Rattle.outcome.specs.Told.{told, isWrongKey, compacted, withRoom};
 use advice::Room;
+use answer::Compaction;
 use answer::Completion;
 use answer::Counted;
 use answer::Faults;
 use answer::Inspected;
 use answer::Refusal;
 use answer::Tallied;
-use compact::Compaction;
-use compact::Tally;
+use answer::Tally;
 
 // What became of a command.
 pub enum Outcome {

@@ -20,7 +20,7 @@ use Rattle.scheme.specs.Run.{partOf, partTokenTests}
 use Rattle.scheme.proofs.Verdicts.{orElse, verdict-append}
 use Rattle.suite.specs.Program.{program}
 use Rattle.client.specs.Making.{makingAnswer, makingToken}
-use Rattle.calls.proofs.Making.{find-length}
+use Rattle.client.proofs.Making.{find-length}
 use Rattle.parts.specs.Parts.{partAt, partsFrom, partsOf, partsTests, partsBytes, madeParts}
 
 -- a part's length [02:W4.18]

@@ -21,7 +21,7 @@ use Rattle.scheme.specs.JointFind.{leastAt, without, partDamaged, partSum, part
 use Rattle.scheme.specs.Run.{madeOr, findCall, jointCall}
 use Rattle.suite.specs.Program.{program}
 use Rattle.parts.specs.Parts.{partAt, partsFrom, partsOf}
-use Rattle.calls.proofs.Making.{find-length}
+use Rattle.client.proofs.Making.{find-length}
 use Rattle.parts.proofs.Laws.{part-length}
 
 select-all : (l : List (List ℕ)) → select (λ x. true) l ≡ l

@@ -9,7 +9,7 @@ ghost use Rattle.scheme.specs.Call.{Call};
 ghost use Rattle.scheme.specs.Run.{perform};
 ghost use Rattle.suite.specs.Program.{program};
 ghost use Rattle.client.specs.Making.{fieldOf};
-ghost use Rattle.calls.specs.Parts.{partsOf};
+ghost use Rattle.part_tokens.specs.Parts.{partsOf};
 ghost use Rattle.scenario.specs.Given.{Inserted, Erased, Compacted, InsertedBy, CompactedBy};
 
 pub fn insert(store: &mut [u8])
@@ -67,7 +67,7 @@ fn found(r: Counted, store: &[u8], output: &[u8])
 fn find_to(store: &[u8], key: &[u8], name: &[u8], value: &[u8], output: &mut [u8])
     ensures { λ _. ⌜ now (output .exit) ≡ perform program (Call.find (now (key .entry)) (fieldOf (now (name .entry)) (now (value .entry))) (now (output .entry))) (now (store .entry)) .output ⌝ }
 {
-    let r = calls::find(store, key, name, value, output);
+    let r = queries::find(store, key, name, value, output);
     found(r, store, output);
 }
 
@@ -96,7 +96,7 @@ pub fn test(store: &[u8])
     let b = records::read_bytes(&mut value);
     let mut id = [0u8; 64];
     let i = records::read_bytes(&mut id);
-    let r = calls::test(store, &key[..k], &name[..a], &value[..b], &id[..i]);
+    let r = queries::test(store, &key[..k], &name[..a], &value[..b], &id[..i]);
     write::counted(r);
     write::end(store);
 }
@@ -120,7 +120,7 @@ fn read_numbers(to: &mut [u64]) -> usize
 fn joint_find_to(store: &[u8], text: &[u8], ends: &[u64], output: &mut [u8])
     ensures { λ _. ⌜ now (output .exit) ≡ perform program (Call.jointFind (partsOf (now (text .entry)) (now (ends .entry))) (now (output .entry))) (now (store .entry)) .output ⌝ }
 {
-    let r = calls::joint_find(store, text, ends, output);
+    let r = queries::joint_find(store, text, ends, output);
     found(r, store, output);
 }
 
@@ -145,7 +145,7 @@ pub fn count(store: &[u8])
     let a = records::read_bytes(&mut name);
     let mut value = [0u8; 1100];
     let b = records::read_bytes(&mut value);
-    let r = calls::count(store, &key[..k], &name[..a], &value[..b]);
+    let r = queries::count(store, &key[..k], &name[..a], &value[..b]);
     write::tallied(r);
     write::end(store);
 }
@@ -174,7 +174,7 @@ pub fn order(store: &mut [u8])
 pub fn check(store: &[u8])
     ensures { λ r. ⌜ r ≡ tt ⌝ }
 {
-    let r = calls::check(store);
+    let r = queries::check(store);
     write::inspected(r);
     write::end(store);
 }

@@ -1,12 +1,12 @@
 // The lines: an answer by the paper's number and values, bytes in hexadecimal.
+use answer::Compaction;
 use answer::Completion;
 use answer::Counted;
 use answer::Faults;
 use answer::Inspected;
 use answer::Refusal;
 use answer::Tallied;
-use compact::Compaction;
-use compact::Tally;
+use answer::Tally;
 use libc::STDOUT_FILENO;
 ghost use mathlib.Core.Path.{_≡_};
 

@@ -1,41 +1,41 @@
 // The store, one lent slice: making it, the checks 10, 11 and 20 of every operation, and where its
-// tables stand (document 01, "Store"; document 02, "Rows in byte order" and "Find by several fields"). What the checks find is handed on by value: an operation lends a table as
+// tables stand; its header is in header (document 01, "Store"; document 02, "Rows in byte order" and "Find by several fields"). What the checks find is handed on by value: an operation lends a table as
 // `&mut store[start..end]` by the bounds of its `Part`, and works out none itself.
 ghost use mathlib.Core.Path.{_≡_};
-ghost use mathlib.Core.Bool.{false, not, _||_};
-ghost use Prim.Native.Nat.{_+_, _*_, _-_, _<_, _≤_};
-ghost use lib.ListN.{length, getD, drop};
+ghost use mathlib.Core.Bool.{false};
+ghost use Prim.Native.Nat.{_+_, _*_, _-_, _≤_};
+ghost use lib.ListN.{length, drop};
 ghost use Rattle.answer.specs.Answer.{completion};
-ghost use Rattle.scheme.specs.Store.{headerLength, rowsBad, sizesBad, lengthFor, headerOf, headerBad, cut, formBad, make as makeOf};
+ghost use Rattle.scheme.specs.Store.{sizesBad, lengthFor, fresh, cut, formBad, make as makeOf};
 ghost use Rattle.table.specs.Table.{rows, freeRows};
 ghost use Rattle.table.specs.Order.{inForm};
 ghost use Rattle.store.specs.Check.{surveyOf, surveysOf, markedOf, checkedOf};
 use answer::Completion;
 use answer::Refusal;
-
-// The length of the header. [01:ST2] [02:W4.7]
-pub const HEADER: usize = 10;
-
-// The version of a store. [01:ST2] [02:W4.5]
-pub const VERSION: u8 = 2;
+use header::HEADER;
+use header::any;
+use header::bad_header;
+use header::bad_sizes;
+use header::length_for;
+use header::number;
 
 // The width of a row of M. [01:ST6]
-pub const M_WIDTH: usize = 61;
+pub const M_WIDTH: usize = header::M_WIDTH;
 
 // The width of a row of V. [01:ST8]
-pub const V_WIDTH: usize = 49;
+pub const V_WIDTH: usize = header::V_WIDTH;
 
 // The width of a row of C. [01:ST9]
-pub const C_WIDTH: usize = 61;
+pub const C_WIDTH: usize = header::C_WIDTH;
 
 // The width of a row of S. [01:ST12]
-pub const S_WIDTH: usize = 45;
+pub const S_WIDTH: usize = header::S_WIDTH;
 
 // The width of a row of R. [02:W4.3]
-pub const R_WIDTH: usize = 61;
+pub const R_WIDTH: usize = header::R_WIDTH;
 
 // The most rows that a table can have. [01:ST2]
-pub const MOST_ROWS: usize = 4096;
+pub const MOST_ROWS: usize = header::MOST_ROWS;
 
 // Where a table stands in the slice, how many rows it has, and how many of them are free. [01:ST4 FM6]
 pub struct Part {
@@ -73,64 +73,15 @@ pub enum Checked {
     Refused(Refusal),
 }
 
-// Whether one of five holds.
-fn any(a: bool, b: bool, c: bool, d: bool, e: bool) -> bool
-    ensures { λ r. ⌜ r ≡ (a || (b || (c || (d || e)))) ⌝ }
+// Writes the header of a store and zeroes the rest. [01:ST16]
+fn write(p: u64, m: u64, c: u64, s: u64, r: u64, slice: &mut [u8])
+    requires { ⌜ (sizesBad (record { p = p; m = m; c = c; s = s; r = r }) ≡ false) × (length (now slice) ≡ lengthFor (record { p = p; m = m; c = c; s = s; r = r })) ⌝ }
+    ensures { λ _. ⌜ now (slice .exit) ≡ fresh (record { p = p; m = m; c = c; s = s; r = r }) ⌝ }
 {
-    if a {
-        return true;
-    }
-    if b {
-        return true;
-    }
-    if c {
-        return true;
-    }
-    if d {
-        return true;
-    }
-    e
-}
-
-// Whether a number of rows is outside 1 to 4,096.
-fn bad_rows(n: u64) -> bool
-    ensures { λ r. ⌜ r ≡ rowsBad n ⌝ }
-{
-    if n < 1 { true } else { (MOST_ROWS as u64) < n }
-}
-
-// Whether p, m, c, s or r is out of range. [01:KT3 ST2] [02:W4.2]
-fn bad_sizes(p: u64, m: u64, c: u64, s: u64, r: u64) -> bool
-    ensures { λ b. ⌜ b ≡ sizesBad (record { p = p; m = m; c = c; s = s; r = r }) ⌝ }
-{
-    any(15 < p, bad_rows(m), bad_rows(c), bad_rows(s), bad_rows(r))
-}
-
-// The length of a store with these sizes. [01:ST3] [02:W4.8]
-pub fn length_for(m: usize, c: usize, s: usize, r: usize) -> usize
-    requires { ⌜ ((m ≤ 65535) × (c ≤ 65535)) × ((s ≤ 65535) × (r ≤ 65535)) ⌝ }
-    ensures { λ n. ⌜ n ≡ lengthFor (record { p = 0; m = m; c = c; s = s; r = r }) ⌝ }
-{
-    HEADER + M_WIDTH * m + V_WIDTH * m + C_WIDTH * c + S_WIDTH * s + R_WIDTH * r
-}
-
-// The header: the version, p, then m, c, s, r, two bytes each, big-endian. [01:ST2] [02:W4.5 W4.7]
-fn header(p: u64, m: u64, c: u64, s: u64, r: u64) -> [u8; HEADER]
-    requires { ⌜ sizesBad (record { p = p; m = m; c = c; s = s; r = r }) ≡ false ⌝ }
-    ensures { λ h. ⌜ h ≡ headerOf (record { p = p; m = m; c = c; s = s; r = r }) ⌝ }
-{
-    [
-        VERSION,
-        p as u8,
-        (m / 256) as u8,
-        (m % 256) as u8,
-        (c / 256) as u8,
-        (c % 256) as u8,
-        (s / 256) as u8,
-        (s % 256) as u8,
-        (r / 256) as u8,
-        (r % 256) as u8,
-    ]
+    let n = slice.len();
+    let h = header::header(p, m, c, s, r);
+    octets::copy(&mut slice[0..HEADER], &h);
+    octets::clear(&mut slice[HEADER..n]);
 }
 
 // Makes a store: writes the header and zeroes the rest; refusals 7 and 8 leave the slice. [01:ST16 RI8 RI9]
@@ -141,43 +92,11 @@ pub fn make(p: u64, m: u64, c: u64, s: u64, r: u64, slice: &mut [u8]) -> Complet
     if bad_sizes(p, m, c, s, r) {
         return Completion::Refused(Refusal::SizeRange);
     }
-    let n = slice.len();
-    if n != length_for(m as usize, c as usize, s as usize, r as usize) {
+    if slice.len() != length_for(m as usize, c as usize, s as usize, r as usize) {
         return Completion::Refused(Refusal::SliceLength);
     }
-    let h = header(p, m, c, s, r);
-    octets::copy(&mut slice[0..HEADER], &h);
-    octets::clear(&mut slice[HEADER..n]);
+    write(p, m, c, s, r, slice);
     Completion::Done
-}
-
-// The number of two bytes, big-endian, at a place of the header.
-fn number(store: &[u8], at: usize) -> u64
-    requires { ⌜ (at < headerLength) × (at + 1 < length (now store)) ⌝ }
-    ensures { λ r. ⌜ (r ≡ 256 * getD (now (store .entry)) at 0 + getD (now (store .entry)) (at + 1) 0) × (r ≤ 65535) ⌝ }
-{
-    256 * octets::wide(store[at]) + octets::wide(store[at + 1])
-}
-
-// The condition of 10. [01:RS2] [02:W4.5 W4.6]
-fn bad_header(store: &[u8]) -> bool
-    ensures { λ r. ⌜ r ≡ headerBad (now (store .entry)) ⌝ }
-{
-    let n = store.len();
-    if n < HEADER {
-        return true;
-    }
-    let m = number(store, 2);
-    let c = number(store, 4);
-    let s = number(store, 6);
-    let r = number(store, 8);
-    any(
-        false,
-        false,
-        store[0] != VERSION,
-        bad_sizes(octets::wide(store[1]), m, c, s, r),
-        n != length_for(m as usize, c as usize, s as usize, r as usize),
-    )
 }
 
 // One pass over the marks of the table of n rows of w bytes that starts at a place.

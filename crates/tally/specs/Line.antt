@@ -2,7 +2,7 @@
 use Prim.Native.Nat.{ℕ}
 use mathlib.Core.List.{List, _++_}
 use Rattle.text.specs.Ascii.{ascii}
-use Rattle.compact.specs.declared.Tally.{Tally}
+use Rattle.answer.specs.declared.Tally.{Tally}
 use Rattle.buffer.specs.Decimal.{counted}
 
 -- anchors written and counters freed

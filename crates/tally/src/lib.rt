@@ -1,7 +1,7 @@
 // The line of what a compaction has done, as bytes in a lent slice: on standard output where it was done, in
 // the message where it met damage.
+use answer::Tally;
 use buffer::put_counted;
-use compact::Tally;
 ghost use Prim.Native.Nat.{_+_, _≤_};
 ghost use lib.ListN.{length};
 ghost use Rattle.buffer.specs.Put.{Put};

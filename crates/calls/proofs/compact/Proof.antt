@@ -10,7 +10,7 @@ use Rattle.scheme.specs.Refusals.{keyTests}
 use Rattle.scheme.specs.Compaction.{compact}
 use Rattle.scheme.specs.Run.{compactCall}
 use Rattle.suite.specs.Program.{program}
-use Rattle.calls.proofs.Making.{made, unmade, token-made, call-unmade, call-made, compaction-length}
+use Rattle.client.proofs.Making.{made, unmade, token-made, call-unmade, call-made, compaction-length}
 use borrow.Author.Needs.{needs}
 use Rattle.calls.proofs.compact.Statement.{statement}
 use Rattle.calls.proofs.compact.Tie as tie

@@ -12,7 +12,7 @@ use Rattle.scheme.specs.Run.{insertCall}
 use Rattle.scheme.proofs.Tokens.{token-length}
 use Rattle.suite.specs.Program.{program}
 use Rattle.client.specs.Making.{fieldOf}
-use Rattle.calls.proofs.Making.{made, unmade, token-made, call-unmade, call-made, nonce-length}
+use Rattle.client.proofs.Making.{made, unmade, token-made, call-unmade, call-made, nonce-length}
 use borrow.Author.Needs.{needs}
 use Rattle.calls.proofs.insert.Statement.{statement}
 use Rattle.calls.proofs.insert.Tie as tie

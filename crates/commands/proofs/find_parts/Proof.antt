@@ -8,7 +8,7 @@ use Rattle.scheme.specs.Run.{jointCall}
 use Rattle.suite.specs.Program.{program}
 use Rattle.parts.specs.Parts.{partsOf, partsTests, partsBytes}
 use Rattle.parts.proofs.Laws.{parts-were}
-use Rattle.calls.proofs.Making.{made, unmade, call-unmade, call-made}
+use Rattle.client.proofs.Making.{made, unmade, call-unmade, call-made}
 use borrow.Author.Needs.{needs}
 use Rattle.commands.proofs.find_parts.Statement.{statement}
 use Rattle.commands.proofs.find_parts.Tie as tie

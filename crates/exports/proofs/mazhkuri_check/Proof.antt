@@ -2,7 +2,7 @@
 use mathlib.Core.Path.{ap, _∙_}
 use Rattle.answer.specs.Answer.{Answer}
 use Rattle.encoding.specs.Encoding.{summed, numbersLent}
-use Rattle.exports.proofs.Signed.{fits-as, told}
+use Rattle.encoding.proofs.Signed.{fits-as, told}
 use Rattle.exports.proofs.Bounds.{check-fits}
 use borrow.Author.Needs.{needs}
 use Rattle.exports.proofs.mazhkuri_check.Statement.{statement}

@@ -1,7 +1,7 @@
 -- The call's own contract, with its answer as a number.
 use mathlib.Core.Path.{ap}
 use Rattle.answer.specs.Answer.{withoutRows}
-use Rattle.exports.proofs.Signed.{fits-as, told}
+use Rattle.encoding.proofs.Signed.{fits-as, told}
 use Rattle.exports.proofs.Bounds.{count-answer-fits}
 use borrow.Author.Needs.{needs}
 use Rattle.exports.proofs.mazhkuri_count.Statement.{statement}

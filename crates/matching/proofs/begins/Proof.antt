@@ -10,7 +10,7 @@ use lib.Seq.{take-all}
 use borrow.Author.Tests.{lt-ltb, le-ltb, not-true, not-false}
 use Rattle.table.specs.Lists.{same}
 use Rattle.table.specs.Table.{rows, used, placeOf}
-use Rattle.matching.proofs.Keys.{row-reach, inside, key-text, key-before, begins-not, begins-first, begins-by}
+use Rattle.repeats.proofs.Keys.{row-reach, inside, key-text, key-before, begins-not, begins-first, begins-by}
 use Rattle.matching.proofs.begins.Statement.{statement}
 use Rattle.matching.proofs.begins.Tie as tie
 

@@ -7,7 +7,7 @@ use lib.ListN.{length, drop, replicate}
 use Rattle.table.specs.Table.{Table, rows, used}
 use Rattle.matching.specs.Matching.{unflagged}
 use Rattle.table.proofs.Rows.{rows-length, rows-wide}
-use Rattle.matching.proofs.Keys.{few, all-from, keys-length, tail-long}
+use Rattle.repeats.proofs.Keys.{few, all-from, keys-length, tail-long}
 use Rattle.matching.proofs.Flags.{hinted-length, reached-length, unflagged-lacking}
 use borrow.Author.Needs.{needs}
 use Rattle.matching.proofs.compare_tags.Statement.{statement}

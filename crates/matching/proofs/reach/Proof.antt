@@ -13,7 +13,7 @@ use Rattle.octets.proofs.Parts.{length-part}
 use Rattle.table.specs.Lists.{bit}
 use Rattle.table.specs.Table.{Table, rows, used, placeOf}
 use Rattle.table.proofs.Rows.{rows-length}
-use Rattle.matching.proofs.Keys.{inside, tail-text, keys-length}
+use Rattle.repeats.proofs.Keys.{inside, tail-text, keys-length}
 use Rattle.matching.proofs.Flags.{Reaching, reach-start, reach-turn, reach-end}
 use borrow.Author.Needs.{needs}
 use Rattle.matching.proofs.reach.Statement.{statement}

@@ -8,7 +8,7 @@ use lib.ListN.{length, getD, take}
 use Rattle.table.specs.Lists.{same}
 use Rattle.table.specs.Table.{Table, rows, used, placeOf}
 use Rattle.table.proofs.Counting.{same-true}
-use Rattle.matching.proofs.Keys.{row-reach, inside, key-text, key-before, key-long, place-same, place-first}
+use Rattle.repeats.proofs.Keys.{row-reach, inside, key-text, key-before, key-long, place-same, place-first}
 use Rattle.matching.proofs.start.Statement.{statement}
 use Rattle.matching.proofs.start.Tie as tie
 

@@ -13,7 +13,7 @@ use Rattle.table.specs.Table.{Table, rows, used, placeOf}
 use Rattle.table.proofs.Rows.{rows-length}
 use Rattle.table.proofs.Counting.{same-refl}
 use Rattle.matching.specs.Matching
-use Rattle.matching.proofs.Keys.{used-length, few, key-long, place-le}
+use Rattle.repeats.proofs.Keys.{used-length, few, key-long, place-le}
 use Rattle.matching.proofs.Flags.{unflagged-start, unflagged-turn, unflagged-end}
 use borrow.Author.Needs.{needs}
 use Rattle.matching.proofs.unflagged.Statement.{statement}

@@ -2,7 +2,7 @@
 use mathlib.Core.Path.{refl, sym, ap, _∙_}
 use Rattle.outcome.specs.Told.{told, withRoom}
 use Rattle.outcome.proofs.Rooms.{told-compacted, room-compacted}
-use Rattle.compact.specs.Outcome.{compactionAnswer}
+use Rattle.answer.specs.Answer.{compactionAnswer}
 use borrow.Author.Needs.{needs}
 use Rattle.outcome.proofs.of_compaction.Statement.{statement}
 use Rattle.outcome.proofs.of_compaction.Tie as tie

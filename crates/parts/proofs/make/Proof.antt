@@ -10,7 +10,7 @@ use Rattle.answer.specs.Verdict.{verdict, answerOr}
 use Rattle.scheme.specs.Run.{partOf, partTokenTests}
 use Rattle.suite.specs.Program.{program}
 use Rattle.parts.specs.Parts.{partAt, partsOf}
-use Rattle.calls.proofs.Making.{made, unmade, token-made}
+use Rattle.client.proofs.Making.{made, unmade, token-made}
 use Rattle.parts.proofs.Laws.{Going, going-none, going-on, going-stops, going-passed, going-all, parts-made, parts-refused}
 use borrow.Author.Needs.{needs}
 use Rattle.parts.proofs.make.Statement.{statement}

@@ -11,7 +11,7 @@ use Rattle.scheme.specs.Run.{partOf, partTokenTests}
 use Rattle.suite.specs.Program.{program}
 use Rattle.client.specs.Making.{fieldOf, makingAnswer}
 use Rattle.parts.specs.Parts.{partAt}
-use Rattle.calls.proofs.Making.{made, unmade}
+use Rattle.client.proofs.Making.{made, unmade}
 use Rattle.parts.proofs.Laws.{part-length, held, kept, put}
 use borrow.Author.Needs.{needs}
 use Rattle.parts.proofs.make_part.Statement.{statement}

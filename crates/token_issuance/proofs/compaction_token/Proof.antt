@@ -9,7 +9,7 @@ use Rattle.scheme.specs.Keys.{compactionToken}
 use Rattle.scheme.specs.Refusals.{keyTests}
 use Rattle.suite.specs.Program.{program}
 use Rattle.client.specs.Making.{fieldOf, makingAnswer}
-use Rattle.calls.proofs.Making.{compaction-length}
+use Rattle.client.proofs.Making.{compaction-length}
 use Rattle.request.specs.declared.Request.the-variants.{CompactionToken}
 use Rattle.buffer.proofs.Laws.{said}
 use Rattle.report.specs.Run.{fieldIn, madeText}

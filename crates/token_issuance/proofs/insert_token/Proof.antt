@@ -9,7 +9,7 @@ use Rattle.scheme.specs.Keys.{insertToken}
 use Rattle.scheme.specs.Refusals.{insertTokenTests}
 use Rattle.suite.specs.Program.{program}
 use Rattle.client.specs.Making.{fieldOf, makingAnswer}
-use Rattle.calls.proofs.Making.{nonce-length}
+use Rattle.client.proofs.Making.{nonce-length}
 use Rattle.scheme.proofs.Tokens.{token-length}
 use Rattle.request.specs.declared.Request.the-variants.{InsertToken}
 use Rattle.buffer.proofs.Laws.{said}
