@@ -3,10 +3,12 @@
 use Prim.Native.Nat.{ℕ, zero, suc, _+_, _*_, _-_, _/_, _%_, _<_, _≤_}
 use mathlib.Core.Path.{_≡_, refl, sym, ap, ap₂, subst, _∙_}
 use mathlib.Core.Bool.{Bool, true, false, cond}
-use mathlib.Core.List.{List, [], _++_}
+use mathlib.Core.List.{List, [], _∷_, _++_}
 use native.Mathlib.Numerals.{add-one}
 use native.Mathlib.Omega.{arith}
 use lib.Dec.{ltb, eqb}
+use denote.Enum.Declared.{tagOf}
+use types.Run.{OneOf, miss}
 use borrow.Author.Tests.{ltb-false}
 use lib.ListN.{length, getD, take, replicate}
 use lib.Seq.{take-add}
@@ -21,6 +23,7 @@ use Rattle.words.specs.Words.{commandOf, wordsFit}
 use Rattle.words.specs.Decimal.{decimalOf}
 use Rattle.words.specs.declared.Parsed.{Parsed}
 use Rattle.words.specs.declared.Parsed.the-variants.{Number, Bad}
+use Rattle.words.proofs.Command.{the-type}
 use Rattle.words.specs.declared.Command.{Command}
 use Rattle.words.specs.declared.Command.the-variants.{New as New₀, Key as Key₀, Insert as Insert₀, Find as Find₀, Count as Count₀, Erase as Erase₀, Compact as Compact₀, Order as Order₀, Token as Token₀, Show as Show₀, Check as Check₀, Help as Help₀, Unknown}
 use Rattle.request.specs.Ids.{idOf, idsOf}
@@ -98,6 +101,25 @@ pub making-of : (line : List ℕ) (c d : Command) (n : ℕ) (r : Request) → c 
     → r ≡ makingOf line
 unfolding makingOf
 making-of line c d n r e k h p = p ∙ ap₂ (λ (x : Command) (m : ℕ). makingBy x m line) (sym h ∙ e) k
+
+-- no other command's token is made
+abbrev unmade : List ℕ
+unmade = 0 ∷ 1 ∷ 5 ∷ 7 ∷ 8 ∷ 9 ∷ 10 ∷ 11 ∷ 12 ∷ []
+
+pub none-made : (c : Command) (n : ℕ) (line : List ℕ) → OneOf unmade (tagOf the-type c) → Misused Token₀ ≡ makingBy c n line
+none-made New₀ n line h = refl
+none-made Key₀ n line h = refl
+none-made Insert₀ n line h = absurd (miss unmade 2 tt h)
+none-made Find₀ n line h = absurd (miss unmade 3 tt h)
+none-made Count₀ n line h = absurd (miss unmade 4 tt h)
+none-made Erase₀ n line h = refl
+none-made Compact₀ n line h = absurd (miss unmade 6 tt h)
+none-made Order₀ n line h = refl
+none-made Token₀ n line h = refl
+none-made Show₀ n line h = refl
+none-made Check₀ n line h = refl
+none-made Help₀ n line h = refl
+none-made Unknown n line h = refl
 
 -- every request is bounded
 bounded-number : (d : Parsed) (i : ℕ) (f : ℕ → Request) → ((n : ℕ) → Bounded (f n)) → Bounded (withNumber d i f)

@@ -258,23 +258,15 @@ fn making(line: &[u8]) -> Request
     let n = line::count(line);
     let misused = Request::Misused(Command::Token);
     match words::command_of(line::word(line, 1)) {
-        Command::New => misused,
-        Command::Key => misused,
         Command::Insert => if n == 7 { insert_token(line) } else { misused },
         Command::Find => if n == 5 { Request::FindToken } else { misused },
         Command::Count => if n == 5 { Request::CountToken } else { misused },
-        Command::Erase => misused,
         Command::Compact => if n == 3 {
             Request::CompactionToken
         } else {
             misused
         },
-        Command::Order => misused,
-        Command::Token => misused,
-        Command::Show => misused,
-        Command::Check => misused,
-        Command::Help => misused,
-        Command::Unknown => misused,
+        _ => misused,
     }
 }
 

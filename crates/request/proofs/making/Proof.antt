@@ -2,63 +2,41 @@
 use mathlib.Core.Path.{refl, ap, _∙_}
 use borrow.Author.Tests.{eq-eqb, ne-eqb}
 use Rattle.words.specs.Words.{commandOf}
-use Rattle.request.proofs.Laws.{making-of}
+use Rattle.request.proofs.Laws.{making-of, none-made}
 use borrow.Author.Needs.{needs}
 use Rattle.request.proofs.making.Statement.{statement}
 use Rattle.request.proofs.making.Tie as tie
 
 returns : tie.Need-returns
-returns c = making-of (c .before .before .before .before .before .before .args .line .now) _ _ (c .before .before .before .before .count .result) _ (c .before .before .command-of .ensures ∙ ap commandOf (c .before .before .before .word .ensures)) (c .before .before .before .before .count .ensures) (c .enum-told .given .1) refl
+returns c = making-of (c .before .before .before .before .before .before .before .before .args .line .now) _ _ (c .before .before .before .before .before .before .count .result) _ (c .before .before .before .before .command-of .ensures ∙ ap commandOf (c .before .before .before .before .before .word .ensures)) (c .before .before .before .before .before .before .count .ensures) (c .before .before .enum-told .given .1) (simp (eq-eqb (c .before .before .before .before .before .before .count .result) 7 (c .before .if1 .taken)) (c .insert-token .ensures))
 
 returns-2 : tie.Need-returns-2
-returns-2 c = making-of (c .before .before .before .before .before .before .args .line .now) _ _ (c .before .before .before .before .count .result) _ (c .before .before .command-of .ensures ∙ ap commandOf (c .before .before .before .word .ensures)) (c .before .before .before .before .count .ensures) (c .enum-told2 .given .1) refl
+returns-2 c = making-of (c .before .before .before .before .before .before .before .args .line .now) _ _ (c .before .before .before .before .before .count .result) _ (c .before .before .before .command-of .ensures ∙ ap commandOf (c .before .before .before .before .word .ensures)) (c .before .before .before .before .before .count .ensures) (c .before .enum-told .given .1) (simp (ne-eqb (c .before .before .before .before .before .count .result) 7 (c .if1 .left)))
 
 returns-3 : tie.Need-returns-3
-returns-3 c = making-of (c .before .before .before .before .before .before .before .before .args .line .now) _ _ (c .before .before .before .before .before .before .count .result) _ (c .before .before .before .before .command-of .ensures ∙ ap commandOf (c .before .before .before .before .before .word .ensures)) (c .before .before .before .before .before .before .count .ensures) (c .before .before .enum-told3 .given .1) (simp (eq-eqb (c .before .before .before .before .before .before .count .result) 7 (c .before .if1 .taken)) (c .insert-token .ensures))
+returns-3 c = making-of (c .before .before .before .before .before .before .before .args .line .now) _ _ (c .before .before .before .before .before .count .result) _ (c .before .before .before .command-of .ensures ∙ ap commandOf (c .before .before .before .before .word .ensures)) (c .before .before .before .before .before .count .ensures) (c .before .enum-told2 .given .1) (simp (eq-eqb (c .before .before .before .before .before .count .result) 5 (c .if2 .taken)))
 
 returns-4 : tie.Need-returns-4
-returns-4 c = making-of (c .before .before .before .before .before .before .before .args .line .now) _ _ (c .before .before .before .before .before .count .result) _ (c .before .before .before .command-of .ensures ∙ ap commandOf (c .before .before .before .before .word .ensures)) (c .before .before .before .before .before .count .ensures) (c .before .enum-told3 .given .1) (simp (ne-eqb (c .before .before .before .before .before .count .result) 7 (c .if1 .left)))
+returns-4 c = making-of (c .before .before .before .before .before .before .before .args .line .now) _ _ (c .before .before .before .before .before .count .result) _ (c .before .before .before .command-of .ensures ∙ ap commandOf (c .before .before .before .before .word .ensures)) (c .before .before .before .before .before .count .ensures) (c .before .enum-told2 .given .1) (simp (ne-eqb (c .before .before .before .before .before .count .result) 5 (c .if2 .left)))
 
 returns-5 : tie.Need-returns-5
-returns-5 c = making-of (c .before .before .before .before .before .before .before .args .line .now) _ _ (c .before .before .before .before .before .count .result) _ (c .before .before .before .command-of .ensures ∙ ap commandOf (c .before .before .before .before .word .ensures)) (c .before .before .before .before .before .count .ensures) (c .before .enum-told4 .given .1) (simp (eq-eqb (c .before .before .before .before .before .count .result) 5 (c .if2 .taken)))
+returns-5 c = making-of (c .before .before .before .before .before .before .before .args .line .now) _ _ (c .before .before .before .before .before .count .result) _ (c .before .before .before .command-of .ensures ∙ ap commandOf (c .before .before .before .before .word .ensures)) (c .before .before .before .before .before .count .ensures) (c .before .enum-told3 .given .1) (simp (eq-eqb (c .before .before .before .before .before .count .result) 5 (c .if3 .taken)))
 
 returns-6 : tie.Need-returns-6
-returns-6 c = making-of (c .before .before .before .before .before .before .before .args .line .now) _ _ (c .before .before .before .before .before .count .result) _ (c .before .before .before .command-of .ensures ∙ ap commandOf (c .before .before .before .before .word .ensures)) (c .before .before .before .before .before .count .ensures) (c .before .enum-told4 .given .1) (simp (ne-eqb (c .before .before .before .before .before .count .result) 5 (c .if2 .left)))
+returns-6 c = making-of (c .before .before .before .before .before .before .before .args .line .now) _ _ (c .before .before .before .before .before .count .result) _ (c .before .before .before .command-of .ensures ∙ ap commandOf (c .before .before .before .before .word .ensures)) (c .before .before .before .before .before .count .ensures) (c .before .enum-told3 .given .1) (simp (ne-eqb (c .before .before .before .before .before .count .result) 5 (c .if3 .left)))
 
 returns-7 : tie.Need-returns-7
-returns-7 c = making-of (c .before .before .before .before .before .before .before .args .line .now) _ _ (c .before .before .before .before .before .count .result) _ (c .before .before .before .command-of .ensures ∙ ap commandOf (c .before .before .before .before .word .ensures)) (c .before .before .before .before .before .count .ensures) (c .before .enum-told5 .given .1) (simp (eq-eqb (c .before .before .before .before .before .count .result) 5 (c .if3 .taken)))
+returns-7 c = making-of (c .before .before .before .before .before .before .before .args .line .now) _ _ (c .before .before .before .before .before .count .result) _ (c .before .before .before .command-of .ensures ∙ ap commandOf (c .before .before .before .before .word .ensures)) (c .before .before .before .before .before .count .ensures) (c .before .enum-told4 .given .1) (simp (eq-eqb (c .before .before .before .before .before .count .result) 3 (c .if4 .taken)))
 
 returns-8 : tie.Need-returns-8
-returns-8 c = making-of (c .before .before .before .before .before .before .before .args .line .now) _ _ (c .before .before .before .before .before .count .result) _ (c .before .before .before .command-of .ensures ∙ ap commandOf (c .before .before .before .before .word .ensures)) (c .before .before .before .before .before .count .ensures) (c .before .enum-told5 .given .1) (simp (ne-eqb (c .before .before .before .before .before .count .result) 5 (c .if3 .left)))
+returns-8 c = making-of (c .before .before .before .before .before .before .before .args .line .now) _ _ (c .before .before .before .before .before .count .result) _ (c .before .before .before .command-of .ensures ∙ ap commandOf (c .before .before .before .before .word .ensures)) (c .before .before .before .before .before .count .ensures) (c .before .enum-told4 .given .1) (simp (ne-eqb (c .before .before .before .before .before .count .result) 3 (c .if4 .left)))
 
 returns-9 : tie.Need-returns-9
-returns-9 c = making-of (c .before .before .before .before .before .before .args .line .now) _ _ (c .before .before .before .before .count .result) _ (c .before .before .command-of .ensures ∙ ap commandOf (c .before .before .before .word .ensures)) (c .before .before .before .before .count .ensures) (c .enum-told6 .given .1) refl
-
-returns-10 : tie.Need-returns-10
-returns-10 c = making-of (c .before .before .before .before .before .before .before .args .line .now) _ _ (c .before .before .before .before .before .count .result) _ (c .before .before .before .command-of .ensures ∙ ap commandOf (c .before .before .before .before .word .ensures)) (c .before .before .before .before .before .count .ensures) (c .before .enum-told7 .given .1) (simp (eq-eqb (c .before .before .before .before .before .count .result) 3 (c .if4 .taken)))
-
-returns-11 : tie.Need-returns-11
-returns-11 c = making-of (c .before .before .before .before .before .before .before .args .line .now) _ _ (c .before .before .before .before .before .count .result) _ (c .before .before .before .command-of .ensures ∙ ap commandOf (c .before .before .before .before .word .ensures)) (c .before .before .before .before .before .count .ensures) (c .before .enum-told7 .given .1) (simp (ne-eqb (c .before .before .before .before .before .count .result) 3 (c .if4 .left)))
-
-returns-12 : tie.Need-returns-12
-returns-12 c = making-of (c .before .before .before .before .before .before .args .line .now) _ _ (c .before .before .before .before .count .result) _ (c .before .before .command-of .ensures ∙ ap commandOf (c .before .before .before .word .ensures)) (c .before .before .before .before .count .ensures) (c .enum-told8 .given .1) refl
-
-returns-13 : tie.Need-returns-13
-returns-13 c = making-of (c .before .before .before .before .before .before .args .line .now) _ _ (c .before .before .before .before .count .result) _ (c .before .before .command-of .ensures ∙ ap commandOf (c .before .before .before .word .ensures)) (c .before .before .before .before .count .ensures) (c .enum-told9 .given .1) refl
-
-returns-14 : tie.Need-returns-14
-returns-14 c = making-of (c .before .before .before .before .before .before .args .line .now) _ _ (c .before .before .before .before .count .result) _ (c .before .before .command-of .ensures ∙ ap commandOf (c .before .before .before .word .ensures)) (c .before .before .before .before .count .ensures) (c .enum-told10 .given .1) refl
-
-returns-15 : tie.Need-returns-15
-returns-15 c = making-of (c .before .before .before .before .before .before .args .line .now) _ _ (c .before .before .before .before .count .result) _ (c .before .before .command-of .ensures ∙ ap commandOf (c .before .before .before .word .ensures)) (c .before .before .before .before .count .ensures) (c .enum-told11 .given .1) refl
-
-returns-16 : tie.Need-returns-16
-returns-16 c = making-of (c .before .before .before .before .before .before .args .line .now) _ _ (c .before .before .before .before .count .result) _ (c .before .before .command-of .ensures ∙ ap commandOf (c .before .before .before .word .ensures)) (c .before .before .before .before .count .ensures) (c .enum-told12 .given .1) refl
-
-returns-17 : tie.Need-returns-17
-returns-17 c = making-of (c .before .before .before .before .before .before .args .line .now) _ _ (c .before .before .before .before .count .result) _ (c .before .before .command-of .ensures ∙ ap commandOf (c .before .before .before .word .ensures)) (c .before .before .before .before .count .ensures) (c .enum-told13 .given .1) refl
+returns-9 c =
+    let named = c .before .command-of .result in
+    making-of (c .before .before .before .before .before .args .line .now) named named (c .before .before .before .count .result) _ (c .before .command-of .ensures ∙ ap commandOf (c .before .before .word .ensures)) (c .before .before .before .count .ensures) refl (none-made named _ _ (c .match .keys5))
 
 pub making-spec : {M : Type 1} → statement M
 making-spec =
     tie.close
-    (tie.spec (λ c κs. search needs) (λ c κs. search needs) (λ c κs. search needs) (λ c. search needs) (λ c. search needs) (λ c. search needs) (λ c κs. search needs) (λ c. search needs) (λ c. search needs) (λ c. search needs) (λ c. search needs) (λ c. search needs) (λ c. search needs) (λ c. search needs) (λ c. search needs) (λ c. search needs) (λ c. search needs) returns returns-2 returns-3 returns-4 returns-5 returns-6 returns-7 returns-8 returns-9 returns-10 returns-11 returns-12 returns-13 returns-14 returns-15 returns-16 returns-17)
+    (tie.spec (λ c κs. search needs) (λ c κs. search needs) (λ c κs. search needs) (λ c. search needs) (λ c κs. search needs) (λ c. search needs) (λ c. search needs) (λ c. search needs) returns returns-2 returns-3 returns-4 returns-5 returns-6 returns-7 returns-8 returns-9)
