@@ -11,10 +11,10 @@ ghost use Rattle.scheme.specs.Refusals.{insertInputTests, tokenTests};
 ghost use Rattle.scheme.specs.Keys.{insertTokenLength};
 ghost use Rattle.admission.specs.Tests.{testedOf, roomTests};
 use answer::Refusal;
-use counter::GREATEST;
 use format::ID;
 use format::INSERT_TOKEN;
 use format::NONCE;
+use numbers::GREATEST;
 use store::Shape;
 
 // What tests make of a call: it may go on, or the first of them that holds refuses it.

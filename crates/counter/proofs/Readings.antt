@@ -8,15 +8,12 @@ use native.Mathlib.Nat.{zero-add}
 use native.Mathlib.Omega.{arith}
 use borrow.Author.Tests.{lt-ltb, le-ltb, ne-eqb, ltb-false}
 use lib.Dec.{ltb, eqb}
-use lib.ListN.{length, getD, take, drop, length-drop}
-use lib.Seq.{take-all}
-use Rattle.octets.specs.Number.{number}
+use lib.ListN.{length, getD, drop}
 use Rattle.hmac.specs.declared.Keyed.{Keyed}
 use Rattle.table.specs.Table.{Table, body, lookup, placeOf}
 use Rattle.table.proofs.Counting.{neither}
 use Rattle.table.proofs.Rows.{place-held}
 use Rattle.table.proofs.Walk.{place-found}
-use Rattle.scheme.specs.Suite.{valueOf}
 use Rattle.scheme.specs.Keys.{CT, CE}
 use Rattle.scheme.specs.Store.{counterTag, anchorTag, plainIn}
 use Rattle.scheme.specs.Reading.{limit, walk, Numbers, Reading, numbersAt, anchorsHeld, anchorNumbers, startOf, countersHeld, counterNumbers, isDamage, reading}
@@ -29,7 +26,8 @@ use Rattle.format.specs.Tags.{Prepared, KeysOf}
 use Rattle.format.specs.Rows.{textIn}
 use Rattle.format.proofs.Tags.{counter-tag-is, anchor-tag-is}
 use Rattle.lookups.specs.Walks.{counterTags, anchorTags, heldIn, lastPlace, placesOf, noted, talliedBy}
-use Rattle.counter.specs.Outcome.{numbersIn, numbersOr, anchorBad, counterBad, placesNoted, rowsTold}
+use Rattle.numbers.specs.Numbers.{numbersIn, numbersOr, anchorBad, counterBad}
+use Rattle.counter.specs.Outcome.{placesNoted, rowsTold}
 use Rattle.lookups.specs.declared.Lookup.{Lookup}
 use Rattle.lookups.proofs.Walks.{walk-held, walk-le, tallied-sum}
 
@@ -39,15 +37,6 @@ counter-tags k cl p = λ j a. counter-tag-is k cl (record { 0 = a }) p j
 
 anchor-tags : (k : Keyed) (cl : List ℕ) → Prepared k (CT program cl) → anchorTags k ≡ anchorTag program cl
 anchor-tags k cl p = λ j b. anchor-tag-is k cl (record { 0 = b }) p j
-
--- the two numbers of the plaintext
-pub numbers-are : (ce b plain : List ℕ) (a n : ℕ) → length plain ≡ 16 → plain ≡ textIn ce b
-    → a ≡ number (take 8 plain) → n ≡ number (take 8 (drop 8 plain)) → _≡_ {A = Numbers} (record { a = a; n = n }) (numbersIn ce b)
-unfolding numbersIn valueOf
-numbers-are ce b plain a n l e p q =
-    let x = p ∙ ap (λ (m : List ℕ). number (take 8 m)) e in
-    let y = q ∙ ap number (take-all 8 (drop 8 plain) (omega (arith, length-drop 8 plain))) ∙ ap (λ (m : List ℕ). number (drop 8 m)) e in
-    λ j. record { a = x j; n = y j }
 
 numbers-in : (cl b : List ℕ) → numbersIn (CE program cl) b ≡ numbersAt program cl (some b)
 unfolding numbersIn textIn numbersAt plainIn program

@@ -1,69 +1,21 @@
 // The reading of a counter out of table C (document 01, "Reading a counter"), with the rows looked at for it (document 02,
 // "Stop early, and say the rows read").
 ghost use mathlib.Core.Path.{_≡_};
-ghost use mathlib.Core.List.{[]};
-ghost use Prim.Native.Nat.{_*_, _≤_, _<_};
-ghost use lib.ListN.{length, getD};
+ghost use Prim.Native.Nat.{_*_, _≤_};
+ghost use lib.ListN.{length};
 ghost use Rattle.scheme.specs.Store.{tableC, widthOf};
-ghost use Rattle.table.specs.Table.{rows, body};
+ghost use Rattle.table.specs.Table.{rows};
 ghost use Rattle.table.specs.Order.{Searchable};
 ghost use Rattle.scheme.specs.Reading.{reading};
 ghost use Rattle.suite.specs.Program.{program};
 ghost use Rattle.format.specs.Tags.{KeysOf};
-ghost use Rattle.counter.specs.Outcome.{numbersIn, numbersOr, numbersOf, anchorBad, counterBad, readingOf, placesNoted, shareRead, rowsIn, rowsTold, shareTold};
+ghost use Rattle.counter.specs.Outcome.{readingOf, placesNoted, shareRead, rowsIn, rowsTold, shareTold};
 use format::AnchorNumber;
 use format::Keys;
 use format::Position;
-use format::row;
 use hmac::Keyed;
 use lookups::Lookup;
-
-// The two numbers in a row of C. [01:ST10 ST11]
-pub struct Numbers {
-    pub a: u64,
-    pub n: u64,
-}
-
-// The numbers in the row of C at a place.
-fn numbers_at(t: &[u8], c: usize, i: usize, ce: &[u8; 32]) -> Numbers
-    requires { ⌜ (i < c) × (length (now t) ≡ widthOf tableC * c) ⌝ }
-    ensures { λ r. ⌜ numbersOf r ≡ numbersIn (now (ce .entry)) (body (getD (rows (widthOf tableC) c (now (t .entry))) i [])) ⌝ }
-{
-    let plain = row::text_at(t, c, i, ce);
-    Numbers {
-        a: octets::get(&plain[0..8]),
-        n: octets::get(&plain[8..16]),
-    }
-}
-
-// The numbers in the row of C at a place; others where the table has no such row.
-fn numbers_or(t: &[u8], c: usize, i: usize, ce: &[u8; 32], other: Numbers) -> Numbers
-    requires { ⌜ length (now t) ≡ widthOf tableC * c ⌝ }
-    ensures { λ r. ⌜ numbersOf r ≡ numbersOr (now (ce .entry)) (rows (widthOf tableC) c (now (t .entry))) i (numbersOf other) ⌝ }
-{
-    if i < c {
-        numbers_at(t, c, i, ce)
-    } else {
-        other
-    }
-}
-
-// The greatest number of an anchor, and the greatest count. [01:RS6]
-pub const GREATEST: u64 = 4_294_967_295;
-
-// A number of anchor B is above the greatest. [01:RS6]
-fn anchor_damaged(x: Numbers) -> bool
-    ensures { λ r. ⌜ r ≡ anchorBad (numbersOf x) ⌝ }
-{
-    if GREATEST < x.a { true } else { GREATEST < x.n }
-}
-
-// The first number of counter Start + k isn't 0, or its count is above the greatest. [01:RS6]
-fn counter_damaged(x: Numbers) -> bool
-    ensures { λ r. ⌜ r ≡ counterBad (numbersOf x) ⌝ }
-{
-    if x.a == 0 { GREATEST < x.n } else { true }
-}
+use numbers::Numbers;
 
 // A counter: B, Start, k and the count; and the tally of the rows looked at. [01:RC1 RC2 RC3 RC4] [02:W3.8]
 pub struct Counter {
@@ -101,14 +53,14 @@ pub fn read_by(
     let ct = keys.ct;
     let ce = keys.ce;
     let anchors = lookups::anchors_held(t, c, u, by, ct);
-    let anchor = numbers_or(t, c, anchors.at, &ce, Numbers { a: 0, n: 0 });
-    if anchor_damaged(anchor) {
+    let anchor = numbers::numbers_or(t, c, anchors.at, &ce, Numbers { a: 0, n: 0 });
+    if numbers::anchor_damaged(anchor) {
         return Reading::Damage;
     }
     let start = Position(anchor.a);
     let counters = lookups::counters_held(t, c, u, by, ct, start, places);
-    let counter = numbers_or(t, c, counters.at, &ce, Numbers { a: 0, n: anchor.n });
-    if counter_damaged(counter) {
+    let counter = numbers::numbers_or(t, c, counters.at, &ce, Numbers { a: 0, n: anchor.n });
+    if numbers::counter_damaged(counter) {
         return Reading::Damage;
     }
     let b = anchors.b;

@@ -13,7 +13,8 @@ use Rattle.table.proofs.Counting.{neither}
 use Rattle.scheme.specs.Reading.{limit, anchorNumbers, counterNumbers, countersHeld}
 use Rattle.suite.specs.Program.{program}
 use Rattle.lookups.specs.Walks.{anchorTags, counterTags}
-use Rattle.counter.specs.Outcome.{numbersOf, anchorBad, placesNoted}
+use Rattle.numbers.specs.Numbers.{numbersOf, anchorBad}
+use Rattle.counter.specs.Outcome.{placesNoted}
 use Rattle.counter.proofs.Readings.{anchors-are, anchor-numbers-are, counters-are, counter-numbers-are, damaged-anchor, damaged-counter, counted, places-kept, places-are, rows-damage, rows-counter, rows-are}
 use Rattle.lookups.proofs.Walks.{tally-small}
 use borrow.Author.Needs.{needs}

@@ -1,7 +1,7 @@
 -- The first number decides, or the second.
 use borrow.Author.Tests.{eq-eqb, ne-eqb}
-use Rattle.counter.proofs.counter_damaged.Statement.{statement}
-use Rattle.counter.proofs.counter_damaged.Tie as tie
+use Rattle.numbers.proofs.counter_damaged.Statement.{statement}
+use Rattle.numbers.proofs.counter_damaged.Tie as tie
 
 returns : tie.Need-returns
 returns c = rw (eq-eqb (c .before .before .before .args .x .a) 0 (c .before .if1 .taken))

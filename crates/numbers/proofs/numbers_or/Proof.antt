@@ -5,10 +5,10 @@ use lib.ListN.{length}
 use Rattle.scheme.specs.Store.{tableC, widthOf}
 use Rattle.table.specs.Table.{rows}
 use Rattle.table.proofs.Rows.{rows-length}
-use Rattle.counter.specs.Outcome.{numbersOr}
+use Rattle.numbers.specs.Numbers.{numbersOr}
 use borrow.Author.Needs.{needs}
-use Rattle.counter.proofs.numbers_or.Statement.{statement}
-use Rattle.counter.proofs.numbers_or.Tie as tie
+use Rattle.numbers.proofs.numbers_or.Statement.{statement}
+use Rattle.numbers.proofs.numbers_or.Tie as tie
 
 returns : tie.Need-returns
 unfolding numbersOr

@@ -2,8 +2,8 @@
 use native.Mathlib.Omega.{arith}
 use borrow.Author.Tests.{lt-ltb, le-ltb}
 use Rattle.scheme.specs.Reading.{limit}
-use Rattle.counter.proofs.anchor_damaged.Statement.{statement}
-use Rattle.counter.proofs.anchor_damaged.Tie as tie
+use Rattle.numbers.proofs.anchor_damaged.Statement.{statement}
+use Rattle.numbers.proofs.anchor_damaged.Tie as tie
 
 returns : tie.Need-returns
 returns c = rw (lt-ltb limit (c .before .before .args .x .a) (omega arith))

@@ -5,10 +5,10 @@ use native.Mathlib.Omega.{arith}
 use lib.ListN.{length, take, set}
 use Rattle.closing.specs.Flags.{flaggedAt}
 use Rattle.closing.proofs.Flags.{flagged-at-length}
-use Rattle.treatment.proofs.Places.{place-at, flag-turn}
+use Rattle.replacing.proofs.Places.{place-at, flag-turn}
 use borrow.Author.Needs.{needs}
-use Rattle.treatment.proofs.flag_places.Statement.{statement}
-use Rattle.treatment.proofs.flag_places.Tie as tie
+use Rattle.replacing.proofs.flag_places.Statement.{statement}
+use Rattle.replacing.proofs.flag_places.Tie as tie
 
 abbrev Inv-loop : tie.InvT-loop
 Inv-loop places k flags₀ j₀ flags j = (j ≤ k) × (flags ≡ flaggedAt (take j places) flags₀)

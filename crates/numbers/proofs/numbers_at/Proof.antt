@@ -3,10 +3,10 @@ use mathlib.Core.List.{[]}
 use lib.ListN.{getD}
 use Rattle.scheme.specs.Store.{tableC, widthOf}
 use Rattle.table.specs.Table.{rows, body}
-use Rattle.counter.proofs.Readings.{numbers-are}
+use Rattle.numbers.proofs.Laws.{numbers-are}
 use borrow.Author.Needs.{needs}
-use Rattle.counter.proofs.numbers_at.Statement.{statement}
-use Rattle.counter.proofs.numbers_at.Tie as tie
+use Rattle.numbers.proofs.numbers_at.Statement.{statement}
+use Rattle.numbers.proofs.numbers_at.Tie as tie
 
 returns : tie.Need-returns
 returns c =

@@ -14,10 +14,10 @@ use Rattle.table.proofs.Rows.{rows-length}
 use Rattle.table.proofs.Order.{rows-counted}
 use Rattle.table.proofs.Cuts.{rows-used}
 use Rattle.scheme.specs.Store.{tableC, widthOf}
-use Rattle.treatment.proofs.Places.{one-below, one-is, one-number, shut-form, shut-room, many-is, many-number}
+use Rattle.replacing.proofs.Places.{one-below, one-is, one-number, shut-form, shut-room, many-is, many-number}
 use borrow.Author.Needs.{needs}
-use Rattle.treatment.proofs.replace.Statement.{statement}
-use Rattle.treatment.proofs.replace.Tie as tie
+use Rattle.replacing.proofs.replace.Statement.{statement}
+use Rattle.replacing.proofs.replace.Tie as tie
 
 small : (c : ℕ) (t : List ℕ) → c ≤ 4096 → length (rows (widthOf tableC) c t) ≤ 4096
 small c t h = omega (arith, rows-length (widthOf tableC) c t)
