@@ -28,7 +28,8 @@ use Rattle.store.specs.Check.{checkedOf}
 use Rattle.store.proofs.Laws.{tableM, tableV, tableC, tableS, tableR, unfit, fit-verdict, fit-sizes, free-rows, fits}
 use Rattle.counter.proofs.Readings.{reading-bounds}
 use Rattle.admission.specs.Tests.{roomTests}
-use Rattle.insert.specs.Tests.{Accepted, Lengths, Room}
+use Rattle.placing.specs.Placed.{Lengths, Room}
+use Rattle.insert.specs.Tests.{Accepted}
 
 -- ---- what passed tests tell
 

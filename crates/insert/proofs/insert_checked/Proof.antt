@@ -8,7 +8,7 @@ use Rattle.scheme.specs.Insert.{insertReading}
 use Rattle.suite.specs.Program.{program}
 use Rattle.store.proofs.Laws.{tableC, Fits, fits, free-le, part-searchable}
 use Rattle.counter.specs.Outcome.{readingOf}
-use Rattle.insert.specs.Tests.{Lengths}
+use Rattle.placing.specs.Placed.{Lengths}
 use Rattle.insert.proofs.Answers.{lengths, reading-is, refused-shares, refused-damage}
 use borrow.Author.Needs.{needs}
 use Rattle.insert.proofs.insert_checked.Statement.{statement}

@@ -12,7 +12,7 @@ use Rattle.scheme.specs.Store.{counterRow}
 use Rattle.scheme.specs.Insert.{counterNonce}
 use Rattle.suite.specs.Program.{program}
 use Rattle.admission.specs.Tests.{testedOf}
-use Rattle.insert.specs.Tests.{Lengths}
+use Rattle.placing.specs.Placed.{Lengths}
 use Rattle.insert.proofs.Answers.{lengths, Roomy, roomy, reading-sums, refused-room, accepted}
 use borrow.Author.Needs.{needs}
 use Rattle.insert.proofs.insert_read.Statement.{statement}

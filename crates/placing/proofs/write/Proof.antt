@@ -14,11 +14,11 @@ use Rattle.scheme.specs.Insert.{entryRows, reverseRows, labelRows, labelNonces}
 use Rattle.suite.specs.Program.{program}
 use Rattle.store.specs.Tables.{tableOf, InOrder, Replaced}
 use Rattle.store.proofs.Stores.{LaidStore, still-in-order}
-use Rattle.insert.specs.Tests.{placedStore}
-use Rattle.insert.proofs.Stores.{sorted-is-ascending, all-inserted}
+use Rattle.placing.specs.Placed.{placedStore}
+use Rattle.placing.proofs.Stores.{sorted-is-ascending, all-inserted}
 use borrow.Author.Needs.{needs}
-use Rattle.insert.proofs.write.Statement.{statement}
-use Rattle.insert.proofs.write.Tie as tie
+use Rattle.placing.proofs.write.Statement.{statement}
+use Rattle.placing.proofs.write.Tie as tie
 
 abbrev count : tie.Start → ℕ
 count s = length (s .args .ids .now) / 16

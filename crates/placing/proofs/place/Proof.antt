@@ -8,9 +8,9 @@ use Rattle.store.specs.Check.{partIn}
 use Rattle.store.specs.Tables.{InOrder}
 use Rattle.store.proofs.Laws.{tableM, tableV, tableC, tableS, laid-fit}
 use Rattle.store.proofs.Stores.{LaidStore, same-long, still-in-order}
-use Rattle.insert.proofs.Stores.{with-added, only-ascending, placed}
-use Rattle.insert.proofs.place.Statement.{statement}
-use Rattle.insert.proofs.place.Tie as tie
+use Rattle.placing.proofs.Stores.{with-added, only-ascending, placed}
+use Rattle.placing.proofs.place.Statement.{statement}
+use Rattle.placing.proofs.place.Tie as tie
 
 -- the store before each table is lent, and after the last
 abbrev store₀ : (s : tie.Start) → LaidStore (s .args .z)

@@ -7,8 +7,8 @@ use lib.ListN.{length, length-replicate}
 use lib.Seq.{length-take-le}
 use Rattle.scheme.specs.Store.{tableM, widthOf}
 use borrow.Author.Needs.{needs}
-use Rattle.insert.proofs.sort_rows.Statement.{statement}
-use Rattle.insert.proofs.sort_rows.Tie as tie
+use Rattle.placing.proofs.sort_rows.Statement.{statement}
+use Rattle.placing.proofs.sort_rows.Tie as tie
 
 small : (s : tie.Start) → s .args .w * s .args .n ≤ 64 * widthOf tableM
 small s = omega (arith, mul-le-mul-left (s .args .w) (s .pre .1 .0), s .pre .1 .1)

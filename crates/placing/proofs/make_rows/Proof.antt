@@ -3,8 +3,8 @@ use mathlib.Core.Path.{ap, _∙_}
 use lib.Dec.{lit≤}
 use Rattle.table.specs.Order.{sorted}
 use borrow.Author.Needs.{needs}
-use Rattle.insert.proofs.make_rows.Statement.{statement}
-use Rattle.insert.proofs.make_rows.Tie as tie
+use Rattle.placing.proofs.make_rows.Statement.{statement}
+use Rattle.placing.proofs.make_rows.Tie as tie
 
 sort-rows-requires : tie.Need-sort-rows-requires
 sort-rows-requires c κs =

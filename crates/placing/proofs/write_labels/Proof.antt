@@ -13,10 +13,10 @@ use Rattle.scheme.specs.Store.{tableM, tableR, widthOf}
 use Rattle.scheme.specs.Insert.{labelRows}
 use Rattle.suite.specs.Program.{program}
 use Rattle.store.specs.Tables.{tableOf, Replaced}
-use Rattle.insert.proofs.Stores.{sorted-is-ascending, with-sorted}
+use Rattle.placing.proofs.Stores.{sorted-is-ascending, with-sorted}
 use borrow.Author.Needs.{needs}
-use Rattle.insert.proofs.write_labels.Statement.{statement}
-use Rattle.insert.proofs.write_labels.Tie as tie
+use Rattle.placing.proofs.write_labels.Statement.{statement}
+use Rattle.placing.proofs.write_labels.Tie as tie
 
 abbrev start : tie.After-blank-entries → tie.Start
 start c = c .before .before .before .before .before

@@ -17,7 +17,7 @@ use Rattle.store.specs.declared.Shape.{Shape}
 use Rattle.store.specs.Check.{partIn, spanIn}
 use Rattle.store.specs.Tables.{tableOf, Replaced}
 use Rattle.store.proofs.Stores.{LaidStore, part-rows, replace}
-use Rattle.insert.specs.Tests.{placedStore}
+use Rattle.placing.specs.Placed.{placedStore}
 
 -- a table that came back with new rows
 pub with-added : (z : Shape) (g : LaidStore z) (k : Which) (new : List Row) (after : List ℕ)

@@ -1,8 +1,8 @@
 -- The part is lent, and comes back with the new rows.
 use Rattle.store.proofs.Stores.{replaced}
 use borrow.Author.Needs.{needs}
-use Rattle.insert.proofs.add_rows.Statement.{statement}
-use Rattle.insert.proofs.add_rows.Tie as tie
+use Rattle.placing.proofs.add_rows.Statement.{statement}
+use Rattle.placing.proofs.add_rows.Tie as tie
 
 returns : tie.Need-returns
 returns c =
