@@ -18,7 +18,6 @@ use format::Keys;
 use format::Position;
 use format::row;
 use lookups::Lookup;
-use store::C_WIDTH;
 use store::MOST_ROWS;
 
 // What was done with one CL: the reading was damage; k was 0; or k counters were freed and an anchor
