@@ -10,7 +10,7 @@ use types.Run.{OneOf, miss}
 use Rattle.demand.proofs.Needs.{the-type as needs}
 use Rattle.demand.specs.declared.Needs.{Needs}
 use Rattle.demand.specs.declared.Needs.the-variants.{KeyAlone}
-use Rattle.request.specs.Token.{namesFile}
+use Rattle.operands.specs.Token.{namesFile}
 
 -- there is an `@` in a word that names a file
 pub named : (word : List ℕ) → namesFile word ≡ true → 1 ≤ length word

@@ -3,8 +3,8 @@
 use demand::Needs;
 use files::Loaded;
 use libc::STDERR_FILENO;
+use operands::token;
 use outcome::Outcome;
-use request::token;
 use words::line;
 ghost use mathlib.Core.Path.{_≡_};
 ghost use mathlib.Core.Bool.{true, false};
@@ -13,7 +13,7 @@ ghost use Rattle.io.specs.Counts.{Counts};
 ghost use Rattle.words.specs.Line.{wordAt};
 ghost use Rattle.request.specs.Request.{requestOf};
 ghost use Rattle.files.specs.System.{OfSystemAt};
-ghost use Rattle.request.specs.Token.{namesFile};
+ghost use Rattle.operands.specs.Token.{namesFile};
 ghost use Rattle.demand.specs.Needs.{takesKey, takesToken, changes};
 ghost use Rattle.access.specs.Unasked.{Unasked};
 

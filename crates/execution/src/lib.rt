@@ -14,7 +14,7 @@ ghost use mathlib.Core.Path.{_≡_};
 ghost use mathlib.Core.List.{[]};
 ghost use Prim.Native.Nat.{_*_, _≤_};
 ghost use lib.ListN.{length};
-ghost use Rattle.request.specs.Ids.{idsOf};
+ghost use Rattle.operands.specs.Ids.{idsOf};
 ghost use Rattle.report.specs.Run.{Ends};
 
 // An insert whose ids go to a lent slice first.
@@ -33,7 +33,7 @@ fn insert_ids(
     ensures { λ r. ⌜ Ends (Request.Insert u n) (now (line .entry)) (now (store .entry)) (now (key .entry)) (now (random .entry)) (now (out .entry)) (now (err .entry)) r (now (store .exit)) (now (out .exit)) (now (err .exit)) ⌝ }
     ensures { λ _. ⌜ now (ids .exit) ≡ idsOf 6 n (now (line .entry)) ⌝ }
 {
-    request::ids(line, 6, n, ids);
+    operands::ids(line, 6, n, ids);
     let a = octets::least(12, random.len());
     let o = commands::insert(
         store,
@@ -95,7 +95,7 @@ pub fn erase(line: &[u8], store: &mut [u8], out: &mut [u8], err: &mut [u8]) -> R
     ensures { λ r. ⌜ Ends Request.Erase (now (line .entry)) (now (store .entry)) [] [] (now (out .entry)) (now (err .entry)) r (now (store .exit)) (now (out .exit)) (now (err .exit)) ⌝ }
 {
     let mut id = [0u8; 16];
-    request::id(line::word(line, 2), &mut id);
+    operands::id(line::word(line, 2), &mut id);
     let o = commands::erase(store, &id);
     answered(o, 0, out, err)
 }

@@ -21,8 +21,8 @@ use Rattle.store.specs.declared.Checked.{Checked}
 use Rattle.store.specs.declared.Checked.the-variants.{Fit, Refused as Refused₀}
 use Rattle.text.specs.Ascii.{ascii}
 use Rattle.words.specs.Line.{wordAt}
-use Rattle.request.specs.Ids.{idOf, idsOf}
-use Rattle.request.specs.Token.{tokenOf, tokenText}
+use Rattle.operands.specs.Ids.{idOf, idsOf}
+use Rattle.operands.specs.Token.{tokenOf, tokenText}
 use Rattle.request.specs.declared.Request.{Request}
 use Rattle.request.specs.declared.Request.the-variants.{Help, Misused, NotNumber, NotId, New, Key, Insert, Find, Count, Erase, Compact, Order, Show, Check, InsertToken, FindToken, CountToken, CompactionToken, InsertBy, FindBy, CountBy, CompactBy}
 use Rattle.advice.specs.Advise.{noRoom, roomFor, roomOf}

@@ -1,23 +1,17 @@
--- Laws of what a line asks for: an id that a word is or is not, ids one after the other, the first word that is none, numbers, a token
--- that was printed.
+-- Laws of what a line asks for: the first word that is no id, numbers, a token's making, and that every request is bounded.
 use Prim.Native.Nat.{ℕ, zero, suc, _+_, _*_, _-_, _/_, _%_, _<_, _≤_}
 use mathlib.Core.Path.{_≡_, refl, sym, ap, ap₂, subst, _∙_}
 use mathlib.Core.Bool.{Bool, true, false, cond}
-use mathlib.Core.List.{List, [], _∷_, _++_}
+use mathlib.Core.List.{List, [], _∷_}
 use native.Mathlib.Numerals.{add-one}
 use native.Mathlib.Omega.{arith}
 use lib.Dec.{ltb, eqb}
 use denote.Enum.Declared.{tagOf}
 use types.Run.{OneOf, miss}
 use borrow.Author.Tests.{ltb-false}
-use lib.ListN.{length, getD, take, replicate}
-use lib.Seq.{take-add}
 use Rattle.octets.specs.Compare.{same}
-use Rattle.octets.specs.Part.{back}
-use Rattle.octets.proofs.Parts.{take-back, part-back}
 use Rattle.text.specs.Ascii.{ascii}
-use Rattle.text.specs.Hex.{isIdOf, unhexOf, hexOf}
-use Rattle.text.proofs.Digits.{is-digits, unhex-back}
+use Rattle.text.specs.Hex.{isIdOf}
 use Rattle.words.specs.Line.{wordAt, wordCount}
 use Rattle.words.specs.Words.{commandOf, wordsFit}
 use Rattle.words.specs.Decimal.{decimalOf}
@@ -26,26 +20,9 @@ use Rattle.words.specs.declared.Parsed.the-variants.{Number, Bad}
 use Rattle.words.proofs.Command.{the-type}
 use Rattle.words.specs.declared.Command.{Command}
 use Rattle.words.specs.declared.Command.the-variants.{New as New₀, Key as Key₀, Insert as Insert₀, Find as Find₀, Count as Count₀, Erase as Erase₀, Compact as Compact₀, Order as Order₀, Token as Token₀, Show as Show₀, Check as Check₀, Help as Help₀, Unknown}
-use Rattle.request.specs.Ids.{idOf, idsOf}
-use Rattle.request.specs.Token.{tokenOf}
 use Rattle.request.specs.Request.{withNumber, withIds, idsFrom, firstBad, idsGiven, newOf, insertOf, insertByOf, findOf, countOf, eraseOf, insertTokenOf, makingBy, makingOf, pickRequest, hasToken, requestBy, requestWith, requestOf, Bounded}
 use Rattle.request.specs.declared.Request.{Request}
 use Rattle.request.specs.declared.Request.the-variants.{Misused, NotId, Insert, Find, Count, Erase, Compact, FindToken, CountToken, CompactionToken, InsertBy, FindBy, CountBy, CompactBy}
-
--- a word that is an id, and one that is none
-pub id-is : (word : List ℕ) (b : Bool) → b ≡ isIdOf word → idOf word ≡ cond b (unhexOf word 16) (replicate 16 0)
-id-is word b e = ap (λ (x : Bool). cond x (unhexOf word 16) (replicate 16 0)) (sym e)
-
--- one id more
-pub ids-more : (to line ys : List ℕ) (first i a e : ℕ) → a ≡ 16 * i → e ≡ a + 16 → e ≤ length to → length ys ≡ 16 → take (16 * i) to ≡ idsOf first i line
-    → ys ≡ idOf (wordAt (first + i) line) → take (16 * (i + 1)) (back to a e ys) ≡ idsOf first (i + 1) line
-unfolding idsOf
-ids-more to line ys first i a e ha he fits l before new =
-    let k : 16 * (i + 1) ≡ a + (e - a) = omega arith in
-    ap (λ (n : ℕ). take n (back to a e ys)) k
-    ∙ take-add a (e - a) (back to a e ys)
-    ∙ ap₂ (λ (x y : List ℕ). x ++ y) (take-back to a e ys (omega arith) fits (omega arith) ∙ ap (λ (n : ℕ). take n to) ha ∙ before) (part-back to a e ys (omega arith) fits (omega arith) ∙ new)
-    ∙ ap (λ (n : ℕ). idsOf first n line) (sym (add-one i))
 
 -- the first word that is no id: one that is, one that is none, no word left
 module _ (line : List ℕ) (at : ℕ) where
@@ -89,12 +66,6 @@ module _ (line : List ℕ) (c : Command) (t b : Bool) (k : ℕ) (e : c ≡ comma
 
   pub misused : b ≡ false → Misused c ≡ requestOf line
   misused h = sym (ap (λ (x : Bool). pickRequest x (requestBy c t line) (Misused c)) h) ∙ asked-as
-
--- a token that was printed is read back, whatever its length
-pub token-again : (token : List ℕ) → ((i : ℕ) → getD token i 0 < 256) → tokenOf (length token) (hexOf token (2 * length token)) ≡ token
-unfolding tokenOf
-token-again token bytes =
-    ap (λ (b : Bool). cond b (unhexOf (hexOf token (2 * length token)) (length token)) []) (is-digits token bytes) ∙ unhex-back token bytes
 
 -- a token's making, where its command is this one
 pub making-of : (line : List ℕ) (c d : Command) (n : ℕ) (r : Request) → c ≡ commandOf (wordAt 1 line) → n ≡ wordCount line → c ≡ d → r ≡ makingBy d n line

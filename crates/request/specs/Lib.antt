@@ -1,3 +1,1 @@
-pub mod Ids
-pub mod Token
 pub mod Request

@@ -1,15 +1,10 @@
 // What a command line asks for: the command with its numbers, or which word is wrong.
 ghost use mathlib.Core.Path.{_≡_};
 ghost use mathlib.Core.Bool.{true, false};
-ghost use Prim.Native.Nat.{_+_, _*_, _≤_};
-ghost use lib.ListN.{length};
+ghost use Prim.Native.Nat.{_+_, _≤_};
 ghost use Rattle.words.specs.Decimal.{decimalOf};
 ghost use Rattle.words.specs.Line.{wordAt};
 ghost use Rattle.request.specs.Request.{firstBad, idsGiven, newOf, insertOf, insertByOf, findOf, countOf, eraseOf, insertTokenOf, makingOf, requestBy, requestOf, Bounded};
-ghost use Rattle.request.specs.Ids.{idOf, idsOf};
-
-pub mod token;
-
 use words::Command;
 use words::Parsed;
 use words::line;
@@ -67,32 +62,6 @@ pub enum Request {
         rows: bool,
     },
     CompactBy,
-}
-
-// The id that a word stands for, zeros where it is none.
-pub fn id(word: &[u8], to: &mut [u8])
-    requires { ⌜ length (now to) ≡ 16 ⌝ }
-    ensures { λ _. ⌜ now (to .exit) ≡ idOf (now (word .entry)) ⌝ }
-{
-    if text::is_id(word) {
-        text::unhex(word, to);
-    } else {
-        octets::clear(to);
-    }
-}
-
-// The ids of n words from word `first` on.
-pub fn ids(line: &[u8], first: usize, n: usize, to: &mut [u8])
-    requires { ⌜ (length (now to) ≡ 16 * n) × (first + n ≤ 4096) ⌝ }
-    ensures { λ _. ⌜ now (to .exit) ≡ idsOf first n (now (line .entry)) ⌝ }
-{
-    let mut i = 0;
-    while i < n {
-        let a = 16 * i;
-        let e = a + 16;
-        id(line::word(line, first + i), &mut to[a..e]);
-        i += 1;
-    }
 }
 
 // Which word from word i on is the first that is no id, of n words; the word after them where all are.

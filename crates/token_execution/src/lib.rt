@@ -4,18 +4,18 @@ use format::COMPACTION_TOKEN;
 use format::COUNT_TOKEN;
 use format::FIND_TOKEN;
 use format::INSERT_TOKEN;
+use operands::token;
 use report::Ran;
 use report::answered;
 use report::blank;
 use report::told_count;
 use report::told_ids;
 use request::Request;
-use request::token;
 ghost use mathlib.Core.Path.{_≡_};
 ghost use mathlib.Core.List.{[]};
 ghost use Prim.Native.Nat.{_*_, _≤_};
 ghost use lib.ListN.{length};
-ghost use Rattle.request.specs.Ids.{idsOf};
+ghost use Rattle.operands.specs.Ids.{idsOf};
 ghost use Rattle.report.specs.Run.{Ends};
 
 // An insert with the line's token, whose ids go to a lent slice first.
@@ -33,7 +33,7 @@ fn insert_ids_by(
     ensures { λ r. ⌜ Ends (Request.InsertBy n) (now (line .entry)) (now (store .entry)) (now (key .entry)) (now (random .entry)) (now (out .entry)) (now (err .entry)) r (now (store .exit)) (now (out .exit)) (now (err .exit)) ⌝ }
     ensures { λ _. ⌜ now (ids .exit) ≡ idsOf 4 n (now (line .entry)) ⌝ }
 {
-    request::ids(line, 4, n, ids);
+    operands::ids(line, 4, n, ids);
     let mut token = [0u8; INSERT_TOKEN];
     let t = token::read(line, key, &mut token);
     let o = server::insert(store, ids, random, &token[..t]);

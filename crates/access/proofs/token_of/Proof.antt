@@ -3,7 +3,7 @@ use mathlib.Core.Path.{refl, sym, ap, _∙_}
 use mathlib.Core.Bool.{true≢false}
 use native.Mathlib.Omega.{arith}
 use borrow.Author.Tests.{not-false}
-use Rattle.request.specs.Token.{namesFile}
+use Rattle.operands.specs.Token.{namesFile}
 use Rattle.access.proofs.Laws.{named}
 use borrow.Author.Needs.{needs}
 use Rattle.access.proofs.token_of.Statement.{statement}

@@ -5,7 +5,7 @@ use mathlib.Core.List.{List, []}
 use Rattle.scheme.specs.Call.{Call}
 use Rattle.scheme.specs.Run.{perform}
 use Rattle.suite.specs.Program.{program}
-use Rattle.request.specs.Ids.{idOf}
+use Rattle.operands.specs.Ids.{idOf}
 use Rattle.request.specs.declared.Request.the-variants.{Erase}
 use Rattle.report.proofs.Arms.{ended}
 use borrow.Author.Needs.{needs}

@@ -4,7 +4,7 @@ use native.Mathlib.Omega.{arith}
 use lib.ListN.{take, drop}
 use lib.Seq.{length-take-le}
 use Rattle.store.specs.Check.{checkedOf}
-use Rattle.request.specs.Ids.{idsOf}
+use Rattle.operands.specs.Ids.{idsOf}
 use Rattle.request.specs.declared.Request.the-variants.{Insert}
 use Rattle.report.proofs.Arms.{ended}
 use Rattle.execution.proofs.Arms.{clipped, rest, inserted}

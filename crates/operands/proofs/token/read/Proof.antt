@@ -5,10 +5,10 @@ use mathlib.Core.Path.{_≡_, sym, ap, subst, _∙_}
 use mathlib.Core.Bool.{Bool, true, false, cond}
 use lib.ListN.{length, take}
 use Rattle.words.specs.Line.{wordAt}
-use Rattle.request.specs.Token.{namesFile, trimmed, tokenOf, tokenLent, tokenText}
+use Rattle.operands.specs.Token.{namesFile, trimmed, tokenOf, tokenLent, tokenText}
 use borrow.Author.Needs.{needs}
-use Rattle.request.proofs.token.read.Statement.{statement}
-use Rattle.request.proofs.token.read.Tie as tie
+use Rattle.operands.proofs.token.read.Statement.{statement}
+use Rattle.operands.proofs.token.read.Tie as tie
 
 module _ (line held : List ℕ) {word : List ℕ} {b : Bool} (w : word ≡ wordAt 3 line) (n : b ≡ namesFile word) where
   chosen : {x : Bool} → b ≡ x → tokenText line held ≡ cond x (trimmed held) (wordAt 3 line)

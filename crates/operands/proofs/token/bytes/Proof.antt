@@ -9,10 +9,10 @@ use lib.ListN.{length, take}
 use lib.Seq.{take-all}
 use Rattle.text.proofs.Laws.{hex-length}
 use Rattle.text.specs.Hex.{unhexOf}
-use Rattle.request.specs.Token.{tokenOf, tokenLent}
+use Rattle.operands.specs.Token.{tokenOf, tokenLent}
 use borrow.Author.Needs.{needs}
-use Rattle.request.proofs.token.bytes.Statement.{statement}
-use Rattle.request.proofs.token.bytes.Tie as tie
+use Rattle.operands.proofs.token.bytes.Statement.{statement}
+use Rattle.operands.proofs.token.bytes.Tie as tie
 
 returns : tie.Need-returns
 unfolding tokenOf tokenLent

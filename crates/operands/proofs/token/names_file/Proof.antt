@@ -5,10 +5,10 @@ use Prim.Native.Nat.{ℕ, _<_}
 use mathlib.Core.Bool.{false}
 use native.Mathlib.Omega.{arith}
 use lib.ListN.{length}
-use Rattle.request.specs.Token.{namesFile}
+use Rattle.operands.specs.Token.{namesFile}
 use borrow.Author.Needs.{needs}
-use Rattle.request.proofs.token.names_file.Statement.{statement}
-use Rattle.request.proofs.token.names_file.Tie as tie
+use Rattle.operands.proofs.token.names_file.Statement.{statement}
+use Rattle.operands.proofs.token.names_file.Tie as tie
 
 none : (word : List ℕ) → length word < 1 → false ≡ namesFile word
 none [] h = refl

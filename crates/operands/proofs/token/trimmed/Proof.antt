@@ -7,10 +7,10 @@ use borrow.Author.Tests.{eq-eqb, ne-eqb}
 use native.Mathlib.Omega.{arith}
 use lib.ListN.{length, getD, take}
 use lib.Seq.{length-take-le}
-use Rattle.request.specs.Token.{trimmed}
+use Rattle.operands.specs.Token.{trimmed}
 use borrow.Author.Needs.{needs}
-use Rattle.request.proofs.token.trimmed.Statement.{statement}
-use Rattle.request.proofs.token.trimmed.Tie as tie
+use Rattle.operands.proofs.token.trimmed.Statement.{statement}
+use Rattle.operands.proofs.token.trimmed.Tie as tie
 
 none : (text : List ℕ) → length text < 1 → text ≡ trimmed text
 none [] h = refl

@@ -2,7 +2,7 @@
 ghost use mathlib.Core.Path.{_≡_};
 ghost use Prim.Native.Nat.{_≤_};
 ghost use lib.ListN.{length, take};
-ghost use Rattle.request.specs.Token.{namesFile, trimmed as Token·trimmed, tokenOf, tokenLent, tokenText};
+ghost use Rattle.operands.specs.Token.{namesFile, trimmed as Token·trimmed, tokenOf, tokenLent, tokenText};
 use words::line;
 
 // Whether a word is `@` and a file's name.

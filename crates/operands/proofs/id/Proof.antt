@@ -6,10 +6,10 @@ use lib.ListN.{length, replicate}
 use Prim.Native.Nat.{ℕ}
 use Rattle.text.specs.Hex.{unhexOf}
 use Rattle.text.proofs.Laws.{hex-length}
-use Rattle.request.proofs.Laws.{id-is}
+use Rattle.operands.proofs.Laws.{id-is}
 use borrow.Author.Needs.{needs}
-use Rattle.request.proofs.id.Statement.{statement}
-use Rattle.request.proofs.id.Tie as tie
+use Rattle.operands.proofs.id.Statement.{statement}
+use Rattle.operands.proofs.id.Tie as tie
 
 unhex-requires : tie.Need-unhex-requires
 unhex-requires c κs =

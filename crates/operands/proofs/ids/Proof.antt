@@ -4,11 +4,11 @@ use mathlib.Core.Path.{_≡_, refl, sym, ap, _∙_}
 use native.Mathlib.Omega.{arith}
 use lib.ListN.{length, take}
 use lib.Seq.{take-all}
-use Rattle.request.specs.Ids.{idOf, idsOf}
-use Rattle.request.proofs.Laws.{ids-more}
+use Rattle.operands.specs.Ids.{idOf, idsOf}
+use Rattle.operands.proofs.Laws.{ids-more}
 use borrow.Author.Needs.{needs}
-use Rattle.request.proofs.ids.Statement.{statement}
-use Rattle.request.proofs.ids.Tie as tie
+use Rattle.operands.proofs.ids.Statement.{statement}
+use Rattle.operands.proofs.ids.Tie as tie
 
 abbrev Inv-loop : tie.InvT-loop
 Inv-loop line first n to₀ i₀ to i = (i ≤ n) × (length to ≡ 16 * n) × (take (16 * i) to ≡ idsOf first i line)
