@@ -157,23 +157,23 @@ close-requires c κs =
 
 returns : tie.Need-returns
 returns c =
-    let s = c .before .before .before .before .before .before .before .before .before .before .before .before .before .before .before .before .before .before .before .before .before .before .before .before .before .before .before .before .before .before .before .before .before in
+    let s = c .before .before .before .before .before .before .before .before .before .before .before .before .before .before .before .before .before .before .before .before .before .before .before .before .before .before .before .before .before .before .before .before in
     let a = s .args in
     let b = a .store .now in
     let n = a .z .s .rows - a .z .s .free in
-    let log = c .before .before .before .before .before .before .before .before .before .before .before .before .before .before .before .before .before .before .before .before .before .before .before .open-log .last .1 .1 .1 .1 .0 in
+    let log = c .before .before .before .before .before .before .before .before .before .before .before .before .before .before .before .before .before .before .before .before .before .before .open-log .last .1 .1 .1 .1 .0 in
     let l = rows 32 n log in
-    let el = log-is (c .before .before .before .before .before .before .before .before .before .before .before .before .before .before .before .before .before .before .before .before .before .before .before) in
-    let ysC = c .before .before .before .before .before .before .before .before .before .before .before .before .before .treat-firsts .last .0 in
-    let r = c .before .before .before .before .before .before .before .before .before .before .before .before .before .treat-firsts .result in
+    let el = log-is (c .before .before .before .before .before .before .before .before .before .before .before .before .before .before .before .before .before .before .before .before .before .before) in
+    let ysC = c .before .before .before .before .before .before .before .before .before .before .before .before .treat-firsts .last .0 in
+    let r = c .before .before .before .before .before .before .before .before .before .before .before .before .treat-firsts .result in
     let t = rows (widthOf tableC) (a .z .c .rows) (take (a .z .c .end - a .z .c .start) (drop (a .z .c .start) b)) in
-    let first = c .before .before .before .before .before .before .before .before .before .before .before .before .before .before .before .before .before .before .before .find .last .1 .1 .0 in
-    let ef = c .before .before .before .before .before .before .before .before .flag-before .ensures ∙ ap (λ (x : List ℕ). flagsUnder (r .upto) x ++ drop n (replicate 4096 0)) (found-front l n first _ (c .before .before .before .before .before .before .before .before .before .before .before .before .before .before .before .before .before .before .before .find .ensures) (rows-length 32 n log)) in (
-      c .outcome .ensures ∙ answer-is b (a .nonces .now) (a .token .now) (a .z) (s .pre .0) l el t (rows (widthOf tableC) (a .z .c .rows) ysC) (part-C s .same) (r .totals) (r .stopped) (c .before .before .before .before .before .before .before .before .before .before .before .before .before .treat-firsts .ensures .0) (r .upto) (c .before .before .before .before .before .before .before .before .before .before .before .before .before .treat-firsts .ensures .1),
-      store-is b (a .nonces .now) (a .token .now) (a .z) (s .pre .0) l el t (rows (widthOf tableC) (a .z .c .rows) ysC) (part-C s .same) (r .totals) (r .stopped) (c .before .before .before .before .before .before .before .before .before .before .before .before .before .treat-firsts .ensures .0) (r .upto) (c .before .before .before .before .before .before .before .before .before .before .before .before .before .treat-firsts .ensures .1)
-          (c .before .before .before .before .before .before .before .before .flag-before .last .1 .1 .1 .0) 4096 (omega (arith, part-S s .most, ap length (part-S s .same), rows-length (widthOf tableS) (a .z .s .rows) (take (a .z .s .end - a .z .s .start) (drop (a .z .s .start) b)))) ef
-          _ (rows (widthOf tableS) (a .z .s .rows) (c .before .before .before .before .close .last .0)) (laid-rows _ _ _ (laid₁ (c .before .before .before .before .before .before .before .before .before .before .before .before .before)) tableS) (c .before .before .before .before .close .ensures) _
-          (laid-back _ _ _ (laid₁ (c .before .before .before .before .before .before .before .before .before .before .before .before .before)) tableS (c .before .before .before .before .close .last .0) (c .before .before .before .before .close .kept .0) .bytes),
+    let first = c .before .before .before .before .before .before .before .before .before .before .before .before .before .before .before .before .before .before .find .last .1 .1 .0 in
+    let ef = c .before .before .before .before .before .before .before .flag-before .ensures ∙ ap (λ (x : List ℕ). flagsUnder (r .upto) x ++ drop n (replicate 4096 0)) (found-front l n first _ (c .before .before .before .before .before .before .before .before .before .before .before .before .before .before .before .before .before .before .find .ensures) (rows-length 32 n log)) in (
+      c .outcome .ensures ∙ answer-is b (a .nonces .now) (a .token .now) (a .z) (s .pre .0) l el t (rows (widthOf tableC) (a .z .c .rows) ysC) (part-C s .same) (r .totals) (r .stopped) (c .before .before .before .before .before .before .before .before .before .before .before .before .treat-firsts .ensures .0) (r .upto) (c .before .before .before .before .before .before .before .before .before .before .before .before .treat-firsts .ensures .1),
+      store-is b (a .nonces .now) (a .token .now) (a .z) (s .pre .0) l el t (rows (widthOf tableC) (a .z .c .rows) ysC) (part-C s .same) (r .totals) (r .stopped) (c .before .before .before .before .before .before .before .before .before .before .before .before .treat-firsts .ensures .0) (r .upto) (c .before .before .before .before .before .before .before .before .before .before .before .before .treat-firsts .ensures .1)
+          (c .before .before .before .before .before .before .before .flag-before .last .1 .1 .1 .0) 4096 (omega (arith, part-S s .most, ap length (part-S s .same), rows-length (widthOf tableS) (a .z .s .rows) (take (a .z .s .end - a .z .s .start) (drop (a .z .s .start) b)))) ef
+          _ (rows (widthOf tableS) (a .z .s .rows) (c .before .before .before .close .last .0)) (laid-rows _ _ _ (laid₁ (c .before .before .before .before .before .before .before .before .before .before .before .before)) tableS) (c .before .before .before .close .ensures) _
+          (laid-back _ _ _ (laid₁ (c .before .before .before .before .before .before .before .before .before .before .before .before)) tableS (c .before .before .before .close .last .0) (c .before .before .before .close .kept .0) .bytes),
     )
 
 pub treat-logged-spec : {M : Type 1} → statement M
