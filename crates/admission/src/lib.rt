@@ -13,7 +13,7 @@ use numbers::GREATEST;
 use store::Shape;
 
 // What tests make of a call: it may go on, or the first of them that holds refuses it.
-#[derive(Drop)]
+#[derive(Clone, Copy)]
 pub enum Tested {
     Passed,
     Refused(Refusal),

@@ -7,7 +7,7 @@ use store::Checked;
 
 // A store's p, how many more entries and how many more rows of R it has room for, its used rows of S, and whether
 // it is a store of version 1.
-#[derive(Drop)]
+#[derive(Clone, Copy)]
 pub struct Room {
     pub p: u64,
     pub entries: usize,
@@ -17,7 +17,7 @@ pub struct Room {
 }
 
 // What to say of a refusal.
-#[derive(Drop)]
+#[derive(Clone, Copy)]
 pub enum Advice {
     Key,
     Field,

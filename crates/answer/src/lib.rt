@@ -5,7 +5,7 @@ ghost use Rattle.answer.specs.Answer.{number_of};
 
 // One case for each number of document 01, "Refusals from the input" and "Refusals from the
 // state", and of document 02. [01:RI2 RI3 RI4 RI5 RI6 RI7 RI8 RI9 RI10 RS2 RS3 RS4 RS5 RS6 RS7 RS8 RS9 RS10 RS11]
-#[derive(Drop)]
+#[derive(Clone, Copy)]
 pub enum Refusal {
     // 1: the key is not 32 bytes long.
     KeyLength,
@@ -52,28 +52,28 @@ pub enum Refusal {
 }
 
 // The answer of a call that gives no value.
-#[derive(Drop)]
+#[derive(Clone, Copy)]
 pub enum Completion {
     Done,
     Refused(Refusal),
 }
 
 // The answer of a call that gives one number.
-#[derive(Drop)]
+#[derive(Clone, Copy)]
 pub enum Counted {
     Number(u64),
     Refused(Refusal),
 }
 
 // The answer of a call that gives one number, and how many rows were looked at for it. [02:W3.8]
-#[derive(Drop)]
+#[derive(Clone, Copy)]
 pub enum Tallied {
     Number { n: u64, rows: u64 },
     Refused(Refusal),
 }
 
 // What a check counts: rows of a store that do not go together. [check:2 check:3 check:4 check:5 check:6 check:7 check:8]
-#[derive(Drop)]
+#[derive(Clone, Copy)]
 pub struct Faults {
     // Rows of M whose tag a row of M before them has.
     pub mm: u64,
@@ -92,21 +92,21 @@ pub struct Faults {
 }
 
 // The answer of a check.
-#[derive(Drop)]
+#[derive(Clone, Copy)]
 pub enum Inspected {
     Numbers(Faults),
     Refused(Refusal),
 }
 
 // How many anchors were written and counters freed. [01:OP13]
-#[derive(Drop)]
+#[derive(Clone, Copy)]
 pub struct Tally {
     pub anchors: u64,
     pub counters: u64,
 }
 
 // The answer of a compaction.
-#[derive(Drop)]
+#[derive(Clone, Copy)]
 pub enum Compaction {
     Done(Tally),
     Refused(Refusal),

@@ -10,7 +10,7 @@ ghost use Rattle.chacha20_block.specs.Block.{word_at, initial_state, sums, bytes
 use std::num::wrapping_add_u32;
 
 // The state: its 16 words, x12 the counter.
-#[derive(Drop)]
+#[derive(Clone, Copy)]
 pub struct State {
     pub x0: u32,
     pub x1: u32,
@@ -31,7 +31,7 @@ pub struct State {
 }
 
 // The four words of a quarter round.
-#[derive(Drop)]
+#[derive(Clone, Copy)]
 pub struct Quad {
     pub a: u32,
     pub b: u32,

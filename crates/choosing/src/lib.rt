@@ -10,7 +10,7 @@ use format::{FIND_TOKEN, PART_TOKEN};
 use store::{Checked, Shape};
 
 // The number of a part, and what its shares count.
-#[derive(Drop)]
+#[derive(Clone, Copy)]
 pub struct Choice {
     pub at: usize,
     pub counts: Counts,

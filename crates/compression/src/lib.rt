@@ -80,7 +80,7 @@ const K: [u32; 64] = [
 ];
 
 // A hash value: its eight words, a to h in a compression, H0 to H7 between blocks.
-#[derive(Drop)]
+#[derive(Clone, Copy)]
 pub struct State {
     pub a: u32,
     pub b: u32,

@@ -8,7 +8,7 @@ use crate::functions::{small0, small1};
 use std::num::wrapping_add_u32;
 
 // Four words of a schedule.
-#[derive(Drop)]
+#[derive(Clone, Copy)]
 pub struct Quad {
     pub a: u32,
     pub b: u32,
@@ -17,7 +17,7 @@ pub struct Quad {
 }
 
 // Sixteen words of a schedule: those of a group of turns.
-#[derive(Drop)]
+#[derive(Clone, Copy)]
 pub struct Group {
     pub p: Quad,
     pub q: Quad,

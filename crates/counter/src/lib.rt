@@ -15,7 +15,7 @@ use lookups::Lookup;
 use numbers::Numbers;
 
 // A counter: B, Start, k and the count; and the tally of the rows looked at. [01:RC1 RC2 RC3 RC4] [02:W3.8]
-#[derive(Drop)]
+#[derive(Clone, Copy)]
 pub struct Counter {
     pub b: AnchorNumber,
     pub start: Position,
@@ -25,7 +25,7 @@ pub struct Counter {
 }
 
 // What a reading gives. [01:RC5 FM8]
-#[derive(Drop)]
+#[derive(Clone, Copy)]
 pub enum Reading {
     Counter(Counter),
     Damage,

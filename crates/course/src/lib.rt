@@ -53,7 +53,7 @@ fn added(t: Tally, r: Treated) -> Tally
 }
 
 // Where the treatment stands: the totals, how many rows of C are used, and whether damage stopped it.
-#[derive(Drop)]
+#[derive(Clone, Copy)]
 struct Standing {
     totals: Tally,
     used: usize,
@@ -103,7 +103,7 @@ fn treat_row(
 
 // How far the CL of the log were treated: the totals, the row that it ended before, and whether damage
 // stopped it there.
-#[derive(Drop)]
+#[derive(Clone, Copy)]
 pub struct Progress {
     pub totals: Tally,
     pub upto: usize,

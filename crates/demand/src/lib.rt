@@ -8,7 +8,7 @@ use outcome::Outcome;
 use request::Request;
 
 // What a request needs of the system.
-#[derive(Drop)]
+#[derive(Clone, Copy)]
 pub enum Needs {
     Words,
     // A key file that must not be there.

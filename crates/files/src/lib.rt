@@ -17,7 +17,7 @@ const PATH: usize = 4096;
 const NAME: usize = 4120;
 
 // How many bytes of a file stand at the start of the lent slice, and whether that is all that was asked.
-#[derive(Drop)]
+#[derive(Clone, Copy)]
 pub struct Loaded {
     pub n: usize,
     pub whole: bool,

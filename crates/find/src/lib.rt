@@ -32,7 +32,7 @@ const FEW: usize = BUCKETS + MOST_ROWS;
 const MANY: usize = BUCKETS + 16 * MOST_ROWS;
 
 // What the shares count, and the sum; or that one is damaged.
-#[derive(Drop)]
+#[derive(Clone, Copy)]
 pub struct Counts {
     pub damaged: bool,
     pub of: [u64; 16],

@@ -39,15 +39,15 @@ pub const MARK_TOKEN: usize = 32;
 pub const PART_TOKEN: usize = 128;
 
 // Entry address: the number in the tag of an M row. [01:ST17 FM10]
-#[derive(Drop)]
+#[derive(Clone, Copy)]
 pub struct Address(pub u64);
 
 // Counter position: the number in the tag of a counter row, and Start in an anchor. [01:ST17 FM10]
-#[derive(Drop)]
+#[derive(Clone, Copy)]
 pub struct Position(pub u64);
 
 // Anchor number: the number in the tag of an anchor row, up to B. [01:ST17 FM10]
-#[derive(Drop)]
+#[derive(Clone, Copy)]
 pub struct AnchorNumber(pub u64);
 
 // F of a number, with a prepared key: keys of keys, shares and tags. [01:KF6 KT2 KT5 KT6]
@@ -103,7 +103,7 @@ pub fn r_mark(rl: Keyed, nonce: &[u8], id: &[u8]) -> [u8; 32]
 }
 
 // The keys of one CL: CT prepared, and CE. [01:KT6]
-#[derive(Drop)]
+#[derive(Clone, Copy)]
 pub struct Keys {
     pub ct: Keyed,
     pub ce: [u8; 32],

@@ -43,7 +43,7 @@ fn reverse_row(id: &[u8], tag: &[u8]) -> [u8; V_WIDTH]
 }
 
 // The rows of M and of V for one id.
-#[derive(Drop)]
+#[derive(Clone, Copy)]
 pub struct IdRows {
     pub entry: [u8; M_WIDTH],
     pub reverse: [u8; V_WIDTH],

@@ -11,7 +11,7 @@ use answer::{Completion, Refusal};
 use compression::State;
 
 // A prepared key: the hash values after the two key blocks.
-#[derive(Drop)]
+#[derive(Clone, Copy)]
 pub struct Keyed {
     pub inner: State,
     pub outer: State,

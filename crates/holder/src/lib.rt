@@ -10,7 +10,7 @@ use buffer::{put, put_counted};
 use words::Parsed;
 
 // Whose a lock is: a process's on this host, one's on another, or nobody's that it names.
-#[derive(Drop)]
+#[derive(Clone, Copy)]
 pub enum Holder {
     Here(u64),
     Elsewhere(u64),

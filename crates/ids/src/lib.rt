@@ -12,14 +12,14 @@ use hmac::Keyed;
 use store::{M_WIDTH, MOST_ROWS};
 
 // The keys of a find token for entries, prepared: F(F(KM, 1), x) and F(F(KM, 2), x). [01:KT8]
-#[derive(Drop)]
+#[derive(Clone, Copy)]
 pub struct EntryKeys {
     pub mt: Keyed,
     pub me: Keyed,
 }
 
 // A share's keys for entries: MT prepared, and ME. [01:KT5]
-#[derive(Drop)]
+#[derive(Clone, Copy)]
 struct Share {
     u: u64,
     mt: Keyed,

@@ -24,7 +24,7 @@ pub fn number_once(key: &[u8; 32], n: u64) -> [u8; 32]
 }
 
 // F(F(KM, 1), x), F(F(KM, 2), x) and F(KC, x), for a label x: a find token's parts. [01:KT2 KT8]
-#[derive(Drop)]
+#[derive(Clone, Copy)]
 pub struct FieldKeys {
     pub mt: [u8; 32],
     pub me: [u8; 32],

@@ -9,7 +9,7 @@ ghost use Rattle.lacking.specs.Meetings.{meeting_of, met_before};
 use repeats::alike;
 
 // How a text stands to the text of a row that a walk has come to.
-#[derive(Drop)]
+#[derive(Clone, Copy)]
 enum Meeting {
     Same,
     // The row's comes before it.

@@ -16,7 +16,7 @@ use walking::Walked;
 
 // How a row is looked up: by a search in the order of rows, or by a walk from the first row on, which
 // tallies the rows looked at.
-#[derive(Drop)]
+#[derive(Clone, Copy)]
 pub enum Lookup {
     Search,
     Walk,
@@ -39,7 +39,7 @@ fn place(t: &[u8], c: usize, u: usize, by: Lookup, tag: &[u8; 32]) -> Walked
 }
 
 // B, the place of anchor B's row, c where B is 0, and the tally of rows.
-#[derive(Drop)]
+#[derive(Clone, Copy)]
 pub struct Anchors {
     pub b: AnchorNumber,
     pub at: usize,
@@ -79,7 +79,7 @@ pub fn anchors_held(t: &[u8], c: usize, u: usize, by: Lookup, ct: Keyed) -> Anch
 }
 
 // k, the place of counter Start + k's row, c where k is 0, and the tally of rows.
-#[derive(Drop)]
+#[derive(Clone, Copy)]
 pub struct Counters {
     pub k: u64,
     pub at: usize,

@@ -15,7 +15,7 @@ const MOST_ROWS: usize = 4096;
 const BUCKETS: usize = 16384;
 
 // The rows of two tables whose tag the other lacks.
-#[derive(Drop)]
+#[derive(Clone, Copy)]
 pub struct Unmatched {
     // Of the table that is searched.
     pub left: u64,

@@ -27,7 +27,7 @@ const ERR: usize = 65792;
 const RANDOM: usize = 49152;
 
 // What a run gave, and whether the system did what was asked of it.
-#[derive(Drop)]
+#[derive(Clone, Copy)]
 struct Served {
     ran: Ran,
     kept: bool,

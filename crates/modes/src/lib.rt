@@ -6,7 +6,7 @@ ghost use Rattle.modes.specs.Modes.{mode_of, private_rights};
 pub const SAME: u32 = 0xffff_ffff;
 
 // What a file is to have: what a new file gets by itself, or this mode, owner and group.
-#[derive(Drop)]
+#[derive(Clone, Copy)]
 pub enum Rights {
     Fresh,
     Of(u32, u32, u32),
@@ -14,7 +14,7 @@ pub enum Rights {
 }
 
 // How far a file could be given to an owner and a group.
-#[derive(Drop)]
+#[derive(Clone, Copy)]
 pub enum Given {
     Both,
     Group,

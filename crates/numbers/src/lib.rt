@@ -8,7 +8,7 @@ ghost use Rattle.numbers.specs.Numbers.{numbers_in, numbers_or, numbers_of, anch
 use format::row;
 
 // The two numbers in a row of C. [01:ST10 ST11]
-#[derive(Drop)]
+#[derive(Clone, Copy)]
 pub struct Numbers {
     pub a: u64,
     pub n: u64,

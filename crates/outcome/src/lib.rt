@@ -8,7 +8,7 @@ use advice::Room;
 use answer::{Compaction, Completion, Counted, Faults, Inspected, Refusal, Tallied, Tally};
 
 // What became of a command.
-#[derive(Drop)]
+#[derive(Clone, Copy)]
 pub enum Outcome {
     Number(u64),
     // A count, and the rows that were looked at for it. [02:W3.8]

@@ -9,7 +9,7 @@ ghost use Rattle.report.specs.Run.{lent, found_text, count_text, check_text, Hol
 use outcome::Outcome;
 
 // The outcome, and how many bytes each lent slice holds of what is printed.
-#[derive(Drop)]
+#[derive(Clone, Copy)]
 pub struct Ran {
     pub outcome: Outcome,
     pub out: usize,

@@ -11,7 +11,7 @@ use crate::write;
 use format::{Address, AnchorNumber, FIND_TOKEN, Position};
 use hmac::Keyed;
 
-#[derive(Drop)]
+#[derive(Clone, Copy)]
 pub enum Kind {
     Entry,
     Counter,
@@ -70,7 +70,7 @@ fn repeats(list: &[u64]) -> bool
 }
 
 // The prepared keys of a pair of field and share: MT and CT.
-#[derive(Drop)]
+#[derive(Clone, Copy)]
 struct PairKeys {
     mt: Keyed,
     ct: Keyed,

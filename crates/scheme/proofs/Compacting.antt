@@ -44,7 +44,7 @@ distinct_starts cl cls (y ∷ ys) e =
     record {
       rest = ys;
       is = ap (λ (w : List ℕ). w ∷ ys) (sym h);
-      left = rw h (t ∙ sym (distinct_without y ys) ∙ ap distinct (sym (without_self y ys)));
+      left = subst (λ (w : List ℕ). cls ≡ distinct (without w (y ∷ ys))) (sym h) (t ∙ sym (distinct_without y ys) ∙ ap distinct (sym (without_self y ys)));
     }
 
 module _ (x : Setting) where

@@ -290,9 +290,9 @@ module _ (b : List ℕ) where
       ∙ take-append-drop (w * m) (drop a b)
 
   -- each table of a list lies inside
-  inside : (a : ℕ) (ks : List Which) → Starts (rows_of z) (start_of z) a ks → end_from (rows_of z) a ks ≡ length b → (k : Which) → At k ks → start_of z k + width_of k * rows_of z k ≤ length b
-  inside a _ q e k (here {js} m) = omega (arith, q.0, grows (rows_of z) (a + width_of k * rows_of z k) js)
-  inside a _ q e k (there {j} {js} ne m) = inside (a + width_of j * rows_of z j) js q.1 e k m
+  inside : (k : Which) (a : ℕ) (ks : List Which) → Starts (rows_of z) (start_of z) a ks → end_from (rows_of z) a ks ≡ length b → At k ks → start_of z k + width_of k * rows_of z k ≤ length b
+  inside k a _ q e (here {js} m) = omega (arith, q.0, grows (rows_of z) (a + width_of k * rows_of z k) js)
+  inside k a _ q e (there {j} {js} ne m) = inside k (a + width_of j * rows_of z j) js q.1 e m
 
   pub laid_cut : length b ≡ length_for z → Laid (span_of z) b (cut b)
   unfolding cut joined length_for
@@ -301,7 +301,7 @@ module _ (b : List ℕ) where
     head = length-take-le header_length b (omega (arith, grows (rows_of z) header_length plan));
     wide = λ k.
         rows_are_wide (width_of k) (rows_of z k) (drop (start_of z k) b)
-        (omega (arith, inside header_length plan (starts z) (sym e) k (planned k), length-drop (start_of z k) b));
+        (omega (arith, inside k header_length plan (starts z) (sym e) (planned k), length-drop (start_of z k) b));
     start = λ k. refl;
     end = λ k. refl;
   }

@@ -30,7 +30,7 @@ pub const R_WIDTH: usize = header::R_WIDTH;
 pub const MOST_ROWS: usize = header::MOST_ROWS;
 
 // Where a table stands in the slice, how many rows it has, and how many of them are free. [01:ST4 FM6]
-#[derive(Drop)]
+#[derive(Clone, Copy)]
 pub struct Part {
     pub start: usize,
     pub end: usize,
@@ -39,7 +39,7 @@ pub struct Part {
 }
 
 // p of a store, and its tables in the order in which they stand.
-#[derive(Drop)]
+#[derive(Clone, Copy)]
 pub struct Shape {
     pub p: u64,
     pub m: Part,
@@ -50,21 +50,21 @@ pub struct Shape {
 }
 
 // A table, and whether a mark above the greatest stands in it.
-#[derive(Drop)]
+#[derive(Clone, Copy)]
 struct Surveyed {
     bad: bool,
     part: Part,
 }
 
 // All tables, and whether a mark above the greatest stands in one.
-#[derive(Drop)]
+#[derive(Clone, Copy)]
 struct Surveys {
     bad: bool,
     shape: Shape,
 }
 
 // A store that passed the checks, or the refusal.
-#[derive(Drop)]
+#[derive(Clone, Copy)]
 pub enum Checked {
     Fit(Shape),
     Refused(Refusal),

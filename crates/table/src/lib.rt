@@ -6,7 +6,7 @@ ghost use Rattle.table.specs.Table.{rows, is_free, body, free_rows, mark_bad};
 ghost use Rattle.table.specs.Order.{precedes as precedes_bytes};
 
 // What one pass over the marks tells.
-#[derive(Drop)]
+#[derive(Clone, Copy)]
 pub struct Marks {
     // Whether a mark above the greatest stands.
     pub bad: bool,

@@ -17,7 +17,7 @@ use store::MOST_ROWS;
 
 // What was done with one CL: the reading was damage; k was 0; or k counters were freed and an anchor
 // written.
-#[derive(Drop)]
+#[derive(Clone, Copy)]
 pub enum Treated {
     Damage,
     Skipped,
@@ -25,14 +25,14 @@ pub enum Treated {
 }
 
 // What was done with one CL, and how many rows of C are used after it.
-#[derive(Drop)]
+#[derive(Clone, Copy)]
 pub struct Outcome {
     pub treated: Treated,
     pub used: usize,
 }
 
 // What the next anchor says.
-#[derive(Drop)]
+#[derive(Clone, Copy)]
 struct NextAnchor {
     number: AnchorNumber,
     position: Position,

@@ -9,7 +9,7 @@ ghost use Rattle.table.specs.Looked.{looked_at};
 use search::settled;
 
 // Where a walk has come to, and how many rows were looked at on the way.
-#[derive(Drop)]
+#[derive(Clone, Copy)]
 pub struct Walked {
     pub at: usize,
     pub rows: u64,

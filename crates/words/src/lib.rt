@@ -7,14 +7,14 @@ ghost use Rattle.words.specs.Decimal.{decimal_of, step_of};
 ghost use Rattle.words.specs.Words.{command_of, reader_of, words_fit};
 
 // What a word is as a decimal.
-#[derive(Drop)]
+#[derive(Clone, Copy)]
 pub enum Parsed {
     Number(u64),
     Bad,
 }
 
 // What a word is as a command.
-#[derive(Drop)]
+#[derive(Clone, Copy)]
 pub enum Command {
     New,
     Key,
