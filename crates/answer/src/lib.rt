@@ -1,5 +1,7 @@
 // What a call answers: done, with its values, or refused, by a number of document 01.
 // The definitions of specs/Answer.antt give each case the paper's number and values.
+#![tactic(auto)]
+
 ghost use Rattle.std.specs.Prelude.{◌≡◌};
 ghost use Rattle.answer.specs.Answer.{number_of};
 

@@ -1,3 +1,4 @@
 pub mod Compare
 pub mod Numbers
 pub mod Parts
+pub mod Rules

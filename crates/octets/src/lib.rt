@@ -1,11 +1,14 @@
 // Bytes: compare, copy, zero, and numbers big-endian (document 01, "Keyed function and cipher":
 // a number inside a message or plaintext is 8 bytes, big-endian; "Store": the header's are 2).
+#![tactic(auto)]
+
 ghost use Rattle.std.specs.Prelude.{◌≡◌, ◌≤◌, ◌<◌, ◌+◌, ◌-◌, min, length, replicate};
 ghost use Rattle.octets.specs.Compare.{same as same_bytes};
 ghost use Rattle.octets.specs.Number.{bytes, number};
 ghost use Rattle.octets.specs.Part.{written};
 
 // Writes x over the whole of a slice, big-endian: its last bytes, as many as there is room for.
+#[tactic(auto, using(crate::proofs::Numbers::put_byte, crate::proofs::Numbers::put_done, crate::proofs::Rules::put_rules))]
 pub fn put(to: &mut [u8], x: u64)
     ensures { to.new ≡ bytes (length to.old) x }
 {
@@ -40,6 +43,7 @@ pub fn wide(x: u8) -> u64
 }
 
 // The number of which a slice of at most 8 bytes is the bytes, big-endian.
+#[tactic(auto, using(crate::proofs::Numbers::get_byte, crate::proofs::Numbers::get_done, crate::proofs::Numbers::one_more, crate::proofs::Numbers::fits_eight))]
 pub fn get(from: &[u8]) -> u64
     requires { length from.now ≤ 8 }
     ensures { result ≡ number from.now }

@@ -1,5 +1,7 @@
 // One table of the store: rows of any width over a lent part that holds n rows of w bytes (document
 // 01, "Store"). The definitions stand in specs/Table.antt, the laws in proofs/Rows.antt and Walk.antt.
+#![tactic(auto)]
+
 ghost use Rattle.std.specs.Prelude.{◌≡◌, not, ◌&&◌, ◌+◌, ◌*◌, ◌<◌, ◌≤◌, eqb, ltb, length, take, set};
 ghost use Rattle.table.specs.Lists.{bit, same as same_bytes};
 ghost use Rattle.table.specs.Table.{rows, is_free, body, free_rows, mark_bad};
@@ -81,6 +83,7 @@ pub fn precedes(a: &[u8], b: &[u8]) -> bool
 }
 
 // Writes a row; every other row keeps its bytes. [01:ST15]
+#[tactic(auto, using(crate::proofs::Walk::rows_back))]
 pub fn put_row(t: &mut [u8], w: usize, n: usize, i: usize, row: &[u8])
     requires { (i < n) × ((length row.now ≡ w) × (length t.old ≡ w * n)) }
     ensures { rows w n t.new ≡ set (rows w n t.old) i row.now }

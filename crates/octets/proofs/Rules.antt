@@ -1,0 +1,4 @@
+-- The lemmas that functions' attributes name.
+use lib.ListN.{length-set}
+
+pub ruleset put_rules = (length-set)
