@@ -101,7 +101,7 @@ pub fn number(store: &[u8], at: usize) -> u64
 }
 
 // The condition of 10. [01:RS2] [02:W4.5 W4.6]
-#[tactic(auto, using(crate::proofs::Laws::sizes_read, crate::proofs::Laws::header_read, crate::proofs::Rules::bad_header_rules), unfolding(scheme::specs::Store::header_bad))]
+#[tactic(auto, using(crate::proofs::Rules::bad_header_rules), unfolding(scheme::specs::Store::header_bad))]
 pub fn bad_header(store: &[u8]) -> bool
     ensures { result ≡ header_bad store.now }
 {
