@@ -1,5 +1,3 @@
--- TODO returns-in-Refused: one term for the clauses ['result_value', 'store_after']
--- TODO returns-in-Refused-sizes: one term for the clauses ['result_value', 'store_after']
 -- 4 to 6, then 10 and 11, then the rest.
 use mathlib.Core.Path.{sym, ap, ◌∙◌}
 use Rattle.answer.specs.Answer.{refusal}

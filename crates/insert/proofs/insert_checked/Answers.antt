@@ -1,5 +1,3 @@
--- TODO returns-then-wide-p: one term for the clauses ['result_value', 'store_after']
--- TODO returns-in_default: one term for the clauses ['result_value', 'store_after']
 -- 12, then the reading; a damaged one is 13.
 use mathlib.Core.Path.{◌≡◌, refl, sym, ap, ◌∙◌}
 use native.Mathlib.Omega.{arith}

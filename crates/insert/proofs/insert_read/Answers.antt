@@ -1,5 +1,3 @@
--- TODO returns-in-Refused: one term for the clauses ['result_value', 'store_after']
--- TODO returns-in-Passed: one term for the clauses ['result_value', 'store_after']
 -- The tests of the definition, then the rows of the definition.
 use Prim.Native.Nat.{ℕ, ◌+◌, ◌*◌, ◌/◌, ◌≤◌}
 use mathlib.Core.Path.{sym, ap, ap₂, ◌∙◌}
