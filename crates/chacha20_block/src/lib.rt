@@ -1,6 +1,8 @@
 // The ChaCha20 block function (RFC 8439, 2.1 to 2.3): the state of a key, a counter and a nonce, and the
 // 64 bytes of stream that a state gives. The definitions of specs/ follow the RFC's sections; a state
 // there is the list of the struct's words.
+#![tactic(auto)]
+
 ghost use Rattle.std.specs.Prelude.{◌≡◌, ◌+◌, ◌<◌, ◌≤◌, ◌++◌, length, take, drop, slice_set};
 ghost use Rattle.chacha20_block.specs.Words.{◌⊞◌, rotl as rotated};
 ghost use Rattle.chacha20_block.specs.Quarter.{four, quarter_round};
@@ -39,6 +41,7 @@ pub struct Quad {
     pub d: u32,
 }
 
+#[tactic(auto, unfolding(crate::specs::Words::rotl))]
 fn rotl(x: u32, n: u32) -> u32
     requires { (0 < n) × (n < 32) }
     ensures { result ≡ rotated x n }
@@ -47,6 +50,7 @@ fn rotl(x: u32, n: u32) -> u32
 }
 
 // 2.1. The sums drop the carry. [01:KF4 FM5]
+#[tactic(auto, unfolding(crate::specs::Quarter::quarter_round))]
 fn quarter(a: u32, b: u32, c: u32, d: u32) -> Quad
     ensures { four result ≡ quarter_round a b c d }
 {
@@ -67,6 +71,7 @@ fn quarter(a: u32, b: u32, c: u32, d: u32) -> Quad
 }
 
 // 2.3: a column round of each column, then a diagonal round of each diagonal.
+#[tactic(auto, unfolding(crate::specs::Rounds::columns, crate::specs::Rounds::diagonals, crate::specs::Quarter::quarter_at))]
 fn double_round(s: State) -> State
     ensures { words result ≡ diagonals (columns (words s)) }
 {
@@ -98,6 +103,7 @@ fn double_round(s: State) -> State
     }
 }
 
+#[tactic(auto, unfolding(crate::specs::Rounds::double_rounds))]
 fn rounds(start: State) -> State
     ensures { words result ≡ double_rounds 10 (words start) }
 {
@@ -110,6 +116,7 @@ fn rounds(start: State) -> State
     s
 }
 
+#[tactic(auto, unfolding(crate::specs::Block::sums))]
 fn added(s: State, t: State) -> State
     ensures { words result ≡ sums (words s) (words t) }
 {
@@ -134,6 +141,7 @@ fn added(s: State, t: State) -> State
 }
 
 // The four bytes of a word, lowest first, at a place of the block.
+#[tactic(auto, using(crate::proofs::Lists::put_four), unfolding(crate::specs::Block::bytes_of))]
 fn put(out: &mut [u8], at: usize, x: u32)
     requires { at + 4 ≤ length out.old }
     ensures { out.new ≡ take at out.old ++ (bytes_of x ++ drop (at + 4) out.old) }
@@ -173,6 +181,7 @@ fn wide(x: u8) -> u32
     x as u32
 }
 
+#[tactic(auto, unfolding(crate::specs::Block::word_at))]
 fn word(s: &[u8], at: usize) -> u32
     requires { at + 4 ≤ length s.now }
     ensures { result ≡ word_at s.now at }
@@ -184,6 +193,7 @@ fn word(s: &[u8], at: usize) -> u32
 }
 
 // The state of the first block, whose counter is 1. [01:KF2]
+#[tactic(auto, unfolding(crate::specs::Block::initial_state))]
 pub fn first_state(key: &[u8], nonce: &[u8]) -> State
     requires { (length key.now ≡ 32) × (length nonce.now ≡ 12) }
     ensures { words result ≡ initial_state key.now 1 nonce.now }

@@ -3,6 +3,7 @@ ghost use Rattle.std.specs.Prelude.{◌≡◌};
 ghost use Rattle.compression.specs.Words.{Ch, Maj, Σ0, Σ1, σ0, σ1};
 
 // The standard's form with fewer operations.
+#[tactic(auto, using(crate::proofs::Bits::ch_same))]
 pub fn ch(x: u32, y: u32, z: u32) -> u32
     ensures { result ≡ Ch x y z }
 {
@@ -10,6 +11,7 @@ pub fn ch(x: u32, y: u32, z: u32) -> u32
 }
 
 // The standard's form with fewer operations.
+#[tactic(auto, using(crate::proofs::Bits::maj_same))]
 pub fn maj(x: u32, y: u32, z: u32) -> u32
     ensures { result ≡ Maj x y z }
 {

@@ -1,4 +1,6 @@
 // The compression of one block (FIPS 180-4, 6.2.2).
+#![tactic(auto)]
+
 ghost use Rattle.std.specs.Prelude.{◌≡◌, ◌+◌, ◌<◌, ◌≤◌, slice_index};
 ghost use Rattle.compression.specs.Constants.{K as constants};
 ghost use Rattle.compression.specs.Compression.{words, step, added, compress_at};
@@ -93,6 +95,7 @@ pub struct State {
 }
 
 // One turn of step 3. [01:KF4 FM5]
+#[tactic(auto, using(crate::proofs::Laws::sum), unfolding(crate::specs::Compression::step, crate::specs::Compression::T1, crate::specs::Compression::T2))]
 fn step(s: State, k: u32, w: u32) -> State
     ensures { words result ≡ step k w (words s) }
 {
@@ -125,6 +128,7 @@ fn turn<'a>(s: State, k: &'a [u32; 64], t: usize, w: u32) -> State
 }
 
 // Sixteen turns from turn t on, written out and called at one place, so that the compiler inlines them.
+#[tactic(auto, unfolding(crate::specs::Groups::turns))]
 fn turns<'a>(s: State, k: &'a [u32; 64], t: usize, w: Group) -> State
     requires { t + 16 ≤ 64 }
     ensures { words result ≡ turns t k.now (group w) (words s) }
@@ -158,6 +162,7 @@ fn turns<'a>(s: State, k: &'a [u32; 64], t: usize, w: Group) -> State
 }
 
 // The 64 turns of step 3, sixteen at a time, of a block's words.
+#[tactic(auto, using(crate::proofs::Laws::group_more, crate::proofs::Laws::group_none), unfolding(crate::specs::Groups::due, crate::specs::Constants::K))]
 fn rounds(s: State, first: Group) -> State
     ensures { words result ≡ groups 4 0 constants (group first) (words s) }
 {
@@ -174,6 +179,7 @@ fn rounds(s: State, first: Group) -> State
 }
 
 // Step 4: the words added one by one.
+#[tactic(auto, unfolding(crate::specs::Compression::added))]
 fn added(s: State, v: State) -> State
     ensures { words result ≡ added (words s) (words v) }
 {
@@ -191,6 +197,7 @@ fn added(s: State, v: State) -> State
 
 // The hash value after the block of 64 bytes at a place of a slice, read where it stands. Where no 64 bytes
 // stand there the hash value stays. [02:W5.1 W5.3]
+#[tactic(auto, using(crate::proofs::Laws::block_groups, crate::proofs::Laws::no_block))]
 pub fn compress(s: State, m: &[u8], at: usize) -> State
     ensures { words result ≡ compress_at (words s) m.now at }
 {

@@ -33,6 +33,7 @@ fn wide(x: u8) -> u32
 }
 
 // The word at a place, big-endian.
+#[tactic(auto, using(crate::proofs::Laws::word_here))]
 fn word(m: &[u8], at: usize) -> u32
     requires { at + 4 ≤ length m.now }
     ensures { result ≡ word (drop at m.now) 0 }
@@ -78,6 +79,7 @@ fn next(a: u32, b: u32, c: u32, d: u32) -> u32
 }
 
 // The four words that follow sixteen.
+#[tactic(auto, unfolding(crate::specs::Groups::slides, crate::specs::Groups::slide, crate::specs::Schedule::next))]
 fn more(p: Quad, q: Quad, r: Quad, s: Quad) -> Quad
     ensures { sixteen q r s result ≡ slides 4 (sixteen p q r s) }
 {
@@ -100,6 +102,7 @@ fn onward(w: Group) -> Group
 }
 
 // The words of the group at turn t, of those of the group before it.
+#[tactic(auto, using(crate::proofs::Laws::due_first, crate::proofs::Laws::due_later))]
 pub fn due(w: Group, t: usize) -> Group
     ensures { group result ≡ due t (group w) }
 {

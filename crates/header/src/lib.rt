@@ -1,5 +1,7 @@
 // The header of a store: its bytes, what they say of the sizes, the length that these ask for, and the condition of 10 (document 01,
 // "Store"; document 02, "Find by several fields").
+#![tactic(auto)]
+
 ghost use Rattle.std.specs.Prelude.{◌≡◌, false, not, ◌||◌, ◌+◌, ◌*◌, ◌<◌, ◌≤◌, length, get_or};
 ghost use Rattle.scheme.specs.Store.{header_length, rows_bad, sizes_bad, length_for, header_of, header_bad};
 
@@ -54,6 +56,7 @@ fn bad_rows(n: u64) -> bool
 }
 
 // Whether p, m, c, s or r is out of range. [01:KT3 ST2] [02:W4.2]
+#[tactic(auto, unfolding(scheme::specs::Store::sizes_bad))]
 pub fn bad_sizes(p: u64, m: u64, c: u64, s: u64, r: u64) -> bool
     ensures { result ≡ sizes_bad (record { p = p; m = m; c = c; s = s; r = r }) }
 {
@@ -61,6 +64,7 @@ pub fn bad_sizes(p: u64, m: u64, c: u64, s: u64, r: u64) -> bool
 }
 
 // The length of a store with these sizes. [01:ST3] [02:W4.8]
+#[tactic(auto, unfolding(scheme::specs::Store::length_for))]
 pub fn length_for(m: usize, c: usize, s: usize, r: usize) -> usize
     requires { ((m ≤ 65535) × (c ≤ 65535)) × ((s ≤ 65535) × (r ≤ 65535)) }
     ensures { result ≡ length_for (record { p = 0; m = m; c = c; s = s; r = r }) }
@@ -69,6 +73,7 @@ pub fn length_for(m: usize, c: usize, s: usize, r: usize) -> usize
 }
 
 // The header: the version, p, then m, c, s, r, two bytes each, big-endian. [01:ST2] [02:W4.5 W4.7]
+#[tactic(auto, using(crate::proofs::Laws::in_range), unfolding(scheme::specs::Store::header_of))]
 pub fn header(p: u64, m: u64, c: u64, s: u64, r: u64) -> [u8; HEADER]
     requires { sizes_bad (record { p = p; m = m; c = c; s = s; r = r }) ≡ false }
     ensures { result ≡ header_of (record { p = p; m = m; c = c; s = s; r = r }) }
@@ -96,6 +101,7 @@ pub fn number(store: &[u8], at: usize) -> u64
 }
 
 // The condition of 10. [01:RS2] [02:W4.5 W4.6]
+#[tactic(auto, using(crate::proofs::Rules::bad_header_rules), unfolding(scheme::specs::Store::header_bad))]
 pub fn bad_header(store: &[u8]) -> bool
     ensures { result ≡ header_bad store.now }
 {

@@ -1,5 +1,7 @@
 // HMAC over SHA-256 (RFC 2104): the keyed function F of document 01. A key that serves many
 // messages is prepared once; each message then costs no compression for the key's two blocks.
+#![tactic(auto)]
+
 ghost use Rattle.std.specs.Prelude.{◌≡◌, map, ℕ, ◌≤◌, length, replicate};
 ghost use Rattle.std.specs.Int.Bits.{bit_xor};
 ghost use Rattle.answer.specs.Answer.{completion};
@@ -18,6 +20,7 @@ pub struct Keyed {
 }
 
 // Writes the key's block over 64 zeros: the key, or its hash where it is longer than a block.
+#[tactic(auto, using(crate::proofs::Laws::block_is, crate::proofs::Laws::used_short, crate::proofs::Laws::used_long, crate::proofs::Rules::block_rules), unfolding(sha256::specs::Hash::hash))]
 fn block(key: &[u8], to: &mut [u8])
     requires { (length key.now ≤ 65536) × (to.old ≡ replicate 64 0) }
     ensures { to.new ≡ block key.now }
@@ -51,6 +54,7 @@ fn padded(b: [u8; 64], x: u8) -> State
 }
 
 // The two hash values of a key.
+#[tactic(auto, unfolding(crate::specs::Hmac::inner_hash, crate::specs::Hmac::outer_hash, crate::specs::Hmac::pad))]
 pub fn prepare(key: &[u8]) -> Keyed
     requires { length key.now ≤ 65536 }
     ensures { (words result.inner ≡ inner_hash key.now) × (words result.outer ≡ outer_hash key.now) }
@@ -63,6 +67,7 @@ pub fn prepare(key: &[u8]) -> Keyed
 }
 
 // The tag of a message under a prepared key.
+#[tactic(auto, unfolding(crate::specs::Hmac::tag))]
 pub fn tag(k: Keyed, m: &[u8], to: &mut [u8])
     requires { (length m.now ≤ 65536) × (length to.old ≡ 32) }
     ensures { to.new ≡ tag (words k.inner) (words k.outer) m.now }
@@ -84,6 +89,7 @@ pub fn tagged(k: Keyed, m: &[u8]) -> [u8; 32]
 
 // F(key, message), for a key and a message of at most 65,536 bytes each; refusal 9 above, with the
 // tag left as lent. [01:KF7]
+#[tactic(auto, using(crate::proofs::Laws::from_prepared, crate::proofs::Rules::mac_rules), unfolding(crate::specs::Hmac::mac_answer, crate::specs::Hmac::mac_tag, crate::specs::Hmac::mac_tests))]
 pub fn mac(key: &[u8], message: &[u8], out: &mut [u8; 32]) -> Completion
     ensures result_value { completion result ≡ mac_answer key.now message.now }
     ensures out_after { out.new ≡ mac_tag key.now message.now out.old }

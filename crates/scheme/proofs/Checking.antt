@@ -15,7 +15,6 @@ use Rattle.table.proofs.Repeats.{once_all, repeats_none, lacking_same}
 use Rattle.scheme.specs.Store.{Which, table_m, table_v, table_c, table_r, state_tests, reverse_id, reverse_tag, label_id}
 use Rattle.scheme.specs.Check
 use Rattle.scheme.specs.Check.{tags_in, reverse_tags, reverse_ids, label_ids, repeated_entries, repeated_counters, reverses_without_entry, entries_without_reverse, reverses_without_label, labels_without_reverse, labels_in_excess, faults, check_verdict}
-use Rattle.scheme.specs.Call
 use Rattle.scheme.specs.Call.{Call}
 use Rattle.scheme.specs.Ledger.{Ledger, listed, ledger_step}
 use Rattle.scheme.specs.Run.{told_by}

@@ -9,7 +9,6 @@ use lib.ListN.{length}
 use Rattle.table.specs.Lists.{All, flat}
 use Rattle.scheme.specs.Suite.{Suite}
 use Rattle.scheme.specs.Labels.{Field}
-use Rattle.scheme.specs.Call
 use Rattle.scheme.specs.Call.{Call}
 use Rattle.scheme.specs.Ledger.{Ledger, empty, ledger_tells, ledger_step, ledger_after}
 use Rattle.scheme.specs.Store.{fresh}

@@ -17,7 +17,6 @@ use Rattle.table.proofs.Rows.{free_at_all, free_at-length}
 use Rattle.table.proofs.Order.{Ascending}
 use Rattle.table.proofs.Arranging.{Added, free_at_ascending, closed-used}
 use Rattle.scheme.specs.Store.{table_c, table_s, width_of, cl_in, anchor_row}
-use Rattle.scheme.specs.Reading
 use Rattle.scheme.specs.Reading.{Reading, reading}
 use Rattle.scheme.specs.Compaction.{held_places, freed_counters, next_anchor, anchored_table, log_of, free_log, Treated, by_reading, treat_all}
 use Rattle.scheme.specs.Ledger.{Pair}

@@ -19,7 +19,6 @@ use Rattle.scheme.specs.Refusals.{Result, key_tests, compaction_input_tests, tok
 use Rattle.answer.specs.Verdict.{Test, ◌⇒◌, verdict}
 use Rattle.scheme.specs.Compaction
 use Rattle.scheme.specs.Compaction.{logged, compacted_store, compact_verdict, Treated, treat_all, treated}
-use Rattle.scheme.specs.Call
 use Rattle.scheme.specs.Call.{Call}
 use Rattle.scheme.specs.Ledger.{Ledger, ledger_compact_verdict, after_compaction, ledger_step}
 use Rattle.scheme.specs.Run.{made_or, compact_call, told_by}

@@ -2,7 +2,7 @@
 use Prim.Native.Nat.{ℕ, zero, suc, ◌+◌, ◌*◌, ◌≤◌}
 use mathlib.Core.Path.{◌≡◌, refl, sym, ap, ap₂, subst, ◌∙◌, fun_ext}
 use mathlib.Core.Bool.{Bool, true, false, cond, not, ◌||◌, true≢false}
-use mathlib.Core.Logic.{◌⊎◌, ⊎_elim}
+use mathlib.Core.Logic.{⊎_elim}
 use mathlib.Core.Option.{Option, none, some}
 use mathlib.Core.List.{List, [], ◌∷◌, ◌++◌, map, Memᴰ}
 use native.Mathlib.Nat.{zero-add}
@@ -22,7 +22,6 @@ use Rattle.scheme.specs.Labels.{Field, field_lengths_bad}
 use Rattle.scheme.specs.Store.{Sizes, Which, plan, table_m, table_v, table_c, table_s, table_r, width_of, rows_of, start_of, sizes_of, Store, cut, joined, header_bad, marks_bad, form_bad, state_tests, fresh}
 use Rattle.scheme.specs.Refusals.{id_count, ids_in, length_not, insert_token_tests, insert_input_tests, id_tests, field_token_tests}
 use Rattle.answer.specs.Verdict.{Test, verdict, answer_or}
-use Rattle.scheme.specs.Call
 use Rattle.scheme.specs.Call.{Call, Part, Told}
 use Rattle.scheme.specs.Ledger.{Pair, Entry, Ledger, Bounds, empty, entry_of, removed, ledger_insert_verdict, appended, after_insert, after_erase, after_compaction, ledger_lists, ledger_ids, ledger_sum, ledger_has, least_made, ledger_joint_ids, ledger_joint_verdict, ledger_find_verdict, ledger_compact_verdict, next_or, ledger_step, ledger_tells, ledger_after}
 use Rattle.scheme.specs.Claim.{Claim, bounds_of}

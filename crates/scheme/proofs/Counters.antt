@@ -15,7 +15,6 @@ use Rattle.table.specs.Table.{Row, Table, used, body, has_tag, lookup, holds}
 use Rattle.table.proofs.Counting.{same_true, same_refl, same-eq, ne_same, none_first, same_length}
 use Rattle.table.proofs.Arranging.{Added, added_same, added_other, added_found}
 use Rattle.scheme.specs.Store.{table_c, width_of, counter_tag, anchor_tag, counted_row, counter_row}
-use Rattle.scheme.specs.Reading
 use Rattle.scheme.specs.Reading.{Numbers, Reading, walk, numbers_at, anchors_held, anchor_numbers, start_of, counters_held, counter_numbers, is_damage, reading, limit}
 use Rattle.scheme.specs.Ledger.{Pair}
 use Rattle.scheme.specs.Premise.{Kind, counter, anchor}

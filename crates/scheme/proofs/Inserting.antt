@@ -22,14 +22,12 @@ use Rattle.scheme.specs.Suite.{Suite, number8}
 use Rattle.scheme.specs.Labels.{Field, field_lengths_bad}
 use Rattle.scheme.specs.Keys.{KS, insert_token, insert_token_length}
 use Rattle.scheme.specs.Store.{Store, Sizes, table_m, table_v, table_c, table_s, table_r, width_of, joined, put_in, state_tests, cut, entry_tag, entry_row, reverse_row, counter_row, log_row, label_row, r_mark, cl_in}
-use Rattle.scheme.specs.Reading
 use Rattle.scheme.specs.Reading.{Reading, damaged, count_of, position_of, limit}
 use Rattle.scheme.specs.Refusals.{Result, id_count, ids_in, insert_token_tests, insert_input_tests, token_tests, length_not}
 use Rattle.answer.specs.Verdict.{Test, ◌⇒◌, verdict}
 use Rattle.scheme.specs.Insert
 use Rattle.scheme.specs.Insert.{entry_rows, reverse_rows, label_rows, counter_nonce, label_nonces, new_entries, new_reverses, new_counter, new_log, new_labels, inserted_store, insert_reading, new_count, insert_state_tests, insert_verdict}
 use Rattle.scheme.specs.Compaction.{log_of}
-use Rattle.scheme.specs.Call
 use Rattle.scheme.specs.Call.{Call}
 use Rattle.scheme.specs.Ledger.{Pair, same_pair, Entry, Ledger, listed, H, with_pair, ledger_insert_verdict, appended, after_insert, ledger_step}
 use Rattle.scheme.specs.Premise.{counter, Labelling, labellings}

@@ -1,13 +1,13 @@
 -- A test and a joint find tell what the ledger tells.
-use Prim.Native.Nat.{ℕ, suc, ◌*◌, ◌/◌, ◌%◌, ◌≤◌}
+use Prim.Native.Nat.{ℕ, ◌*◌, ◌%◌, ◌≤◌}
 use mathlib.Core.Path.{◌≡◌, refl, sym, ap, ap₂, subst, ◌∙◌}
-use mathlib.Core.Bool.{Bool, true, false, cond, not, ◌&&◌, ◌||◌, or-true}
+use mathlib.Core.Bool.{Bool, true, false, cond, ◌&&◌, ◌||◌, or-true}
 use mathlib.Core.Logic.{◌⊎◌, ⊎_elim}
 use mathlib.Core.Option.{Option, none, some}
 use mathlib.Core.List.Memᴰ
 use mathlib.Core.List.{List, [], ◌∷◌, ◌++◌, append-nil, map, Memᴰ}
 use native.Mathlib.Omega.{arith}
-use lib.Dec.{ltb, eqb}
+use lib.Dec.{ltb}
 use lib.ListN.{length, get_or, drop, length-map}
 use borrow.Author.Tests.{eq-eqb}
 use Rattle.answer.specs.Answer.{Answer, done}
@@ -17,28 +17,25 @@ use Rattle.table.specs.Table.{rows}
 use Rattle.table.proofs.Counting.{select_agree, same_refl}
 use Rattle.table.proofs.Rows.{flat-length, rows-flat}
 use Rattle.scheme.specs.Labels.{Field, same_field, field_lengths_bad}
-use Rattle.scheme.specs.Keys.{RL, field_cl, find_cl, mark_token, mark_token_length, part_token, part_find, part_rl}
-use Rattle.scheme.specs.Store.{table_r, cut, sizes_of, state_tests}
+use Rattle.scheme.specs.Keys.{RL, field_cl, find_cl, mark_token, mark_token_length, part_token, part_find}
+use Rattle.scheme.specs.Store.{table_r, cut, state_tests}
 use Rattle.scheme.specs.Refusals.{Result, id_tests, field_token_tests, token_tests, part_count, parts_in, part_tests}
-use Rattle.scheme.specs.Find.{ids_found}
 use Rattle.scheme.specs.Test
 use Rattle.scheme.specs.Test.{tests, test_verdict}
 use Rattle.scheme.specs.JointFind
 use Rattle.scheme.specs.JointFind.{least_at, without, part_damaged, part_sum, part_ids, part_test, chosen_at, chosen_part, ids_kept, joint_verdict}
-use Rattle.scheme.specs.Call
 use Rattle.scheme.specs.Call.{Call, Part}
-use Rattle.scheme.specs.Ledger.{Bounds, Pair, same_pair, Entry, entry_of, unseen, Ledger, ledger_lists, ledger_ids, ledger_has, ledger_joint_ids, ledger_joint_verdict, least_made, ledger_sum, ledger_step}
-use Rattle.scheme.specs.Run.{made_or, part_of, part_token_tests, test_call, joint_call, told_by}
+use Rattle.scheme.specs.Ledger.{Bounds, Pair, same_pair, Entry, entry_of, unseen, Ledger, ledger_lists, ledger_ids, ledger_has, ledger_joint_ids, ledger_joint_verdict, ledger_sum, ledger_step}
+use Rattle.scheme.specs.Run.{part_of, part_token_tests, test_call, joint_call, told_by}
 use Rattle.scheme.specs.Premise.{PartFits, fields_of}
 use Rattle.scheme.specs.Claim.{bounds_of}
 use Rattle.scheme.proofs.Setting.{Setting, same_pair-true, same_field_refl}
 use Rattle.scheme.proofs.Marks.{has_in, tests_is}
 use Rattle.scheme.proofs.Simulation.{Sim, later}
 use Rattle.scheme.proofs.Verdicts.{or_else, or_none, both_none, verdict-append, length_refused}
-use Rattle.scheme.proofs.Queries.{After, Made, field_made, cut_is, sizes_are, states_pass, told_eq, none_damaged, sum_is, token-CL, found_is}
+use Rattle.scheme.proofs.Queries.{After, Made, field_made, cut_is, states_pass, none_damaged, sum_is, token-CL, found_is}
 use Rattle.scheme.proofs.Tokens.{RL-length, part_find_lem, part_rl_lem, part_length}
-use Rattle.scheme.proofs.Least
-use Rattle.scheme.proofs.Least.{fields, sums, Chosen, chosen}
+use Rattle.scheme.proofs.Least.{fields, sums, chosen}
 
 -- ---- what a field's find gives, the ledger has under the field
 

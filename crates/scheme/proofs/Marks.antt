@@ -6,12 +6,12 @@ use mathlib.Core.Bool.{Bool, true, false, cond, not, ◌&&◌, ◌||◌, true≢
 use mathlib.Core.List.Memᴰ
 use mathlib.Core.List.{List, [], ◌∷◌, ◌++◌, map, Memᴰ}
 use native.Mathlib.Omega.{arith}
-use lib.ListN.{length, take, drop, length-drop, length-append}
+use lib.ListN.{length, take, drop, length-drop}
 use lib.Seq.{take_at, drop_at, drop-drop, length-take-le}
 use Rattle.table.specs.Lists.{same, select, count, any_of, flat, All, Same}
-use Rattle.table.specs.Table.{Row, Table, used, body, is_free}
+use Rattle.table.specs.Table.{Row, Table, used, body}
 use Rattle.table.specs.Order.{used_rows, closed}
-use Rattle.table.proofs.Counting.{same_true, same_refl, same-eq, ne_same, same_sym, count-append, count_map, select-map, select_agree, all_append, all_select, any_append, Same-refl, Same-trans, Same-select}
+use Rattle.table.proofs.Counting.{same_true, same-eq, ne_same, same_sym, count-append, select-map, select_agree, all_append, all_select, any_append, Same-select}
 use Rattle.table.proofs.Distinct.{any_same}
 use Rattle.table.proofs.Order.{used_is}
 use Rattle.table.proofs.Arranging.{AddedAll, with_rows_lem, used_same, closed_same}

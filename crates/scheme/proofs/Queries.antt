@@ -18,7 +18,6 @@ use Rattle.table.proofs.Counting.{count-le, Same-refl}
 use Rattle.scheme.specs.Labels.{Field, field_lengths_bad}
 use Rattle.scheme.specs.Keys.{MT, ME, CL, field_mt, field_me, field_cl, find_token, find_token_length, count_token, count_token_length, find_mt, find_me, find_cl}
 use Rattle.scheme.specs.Store.{Which, Store, table_m, table_v, table_c, table_s, table_r, width_of, cut, joined, put_in, sizes_of, header_bad, marks_bad, form_bad, mark_tests, state_tests, reverse_id, reverse_tag, label_id}
-use Rattle.scheme.specs.Reading
 use Rattle.scheme.specs.Reading.{Reading, reading, damaged, count_of}
 use Rattle.scheme.specs.Refusals.{Result, id_tests, field_token_tests, token_tests, length_not}
 use Rattle.answer.specs.Verdict.{Test, ◌⇒◌, ◌⇒◌carrying◌, verdict, answer_or, unless_refused}
@@ -28,7 +27,6 @@ use Rattle.scheme.specs.Find
 use Rattle.scheme.specs.Find.{share_reading, ids_of_share, ids_held, ids_found, find_verdict}
 use Rattle.scheme.specs.Count
 use Rattle.scheme.specs.Count.{count_verdict, sum_of_counts, rows_read}
-use Rattle.scheme.specs.Call
 use Rattle.scheme.specs.Call.{Call, Told}
 use Rattle.scheme.specs.Ledger.{Pair, Entry, Ledger, H, listed, removed, after_erase, ledger_lists, ledger_ids, ledger_sum, ledger_find_verdict, ledger_step}
 use Rattle.scheme.specs.Run.{find_call, count_call, told_by}

@@ -14,7 +14,7 @@ use Rattle.table.specs.Lists.{any_of, up_to}
 use Rattle.table.specs.Table.{Table}
 use Rattle.table.specs.Order.{used_rows}
 use Rattle.table.specs.Looked.{looked_at}
-use Rattle.table.proofs.Below.{below, up_to-below, sum_most}
+use Rattle.table.proofs.Below.{up_to-below, sum_most}
 use Rattle.table.proofs.Looked.{looked_most}
 use Rattle.scheme.specs.Suite.{Suite}
 use Rattle.scheme.specs.Keys.{count_token_length, share}

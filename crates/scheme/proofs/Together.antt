@@ -13,7 +13,6 @@ use Rattle.table.specs.Lists.{same, select, any_of, all_of, flat, All}
 use Rattle.table.proofs.Counting.{both, all_map}
 use Rattle.scheme.specs.Suite.{Suite}
 use Rattle.scheme.specs.Labels.{Field, same_field}
-use Rattle.scheme.specs.Call
 use Rattle.scheme.specs.Call.{Call, Part, Told}
 use Rattle.scheme.specs.Refusals.{id_tests}
 use Rattle.scheme.specs.Ledger.{Bounds, Pair, same_pair, Entry, Ledger, empty, entry_of, with_entry, removed, ledger_lists, ledger_ids, ledger_has, ledger_joint_ids, ledger_joint_verdict, ledger_insert_verdict, ledger_compact_verdict, appended, after_insert, after_erase, after_compaction, next_or, ledger_step, ledger_after}
@@ -23,7 +22,7 @@ use Rattle.scheme.specs.Corollaries.{accepted, told_at, Finds, JointIsEach}
 use Rattle.scheme.proofs.Setting.{same_pair-true, same_pair_refl, same_pair_sym, same_field-true}
 use Rattle.scheme.proofs.Marks.{has_in}
 use Rattle.scheme.proofs.Joining.{has_own, all_at}
-use Rattle.scheme.proofs.Least.{fields, Chosen, chosen}
+use Rattle.scheme.proofs.Least.{fields, chosen}
 use Rattle.scheme.proofs.Once.{mem_any, any_mem, distinct_has}
 use Rattle.scheme.proofs.Corollaries.{ran, told_at_lem, finds_as, find_tells, accepted-none, verdict_refuses, entered, ids_are, mem_up_to}
 

@@ -8,7 +8,6 @@ use Rattle.answer.specs.Answer.{Answer, done, refused}
 use Rattle.scheme.specs.Suite.{Suite}
 use Rattle.scheme.specs.Keys.{compaction_token_length}
 use Rattle.scheme.specs.Store.{Store, table_c, table_s, width_of, sizes_of, cut, joined, put_in, state_tests, counter_tag, anchor_row, cl_in}
-use Rattle.scheme.specs.Reading
 use Rattle.scheme.specs.Reading.{Reading, damage, reading}
 use Rattle.scheme.specs.Refusals.{Result, compaction_input_tests, token_tests}
 use Rattle.answer.specs.Verdict.{◌⇒◌, verdict, answer_or, unless_refused}

@@ -13,7 +13,6 @@ use Rattle.scheme.specs.Store.{Sizes, Which, table_m, table_v, table_c, table_r,
 use Rattle.scheme.specs.Refusals.{ids_in}
 use Rattle.scheme.specs.Erase.{erase}
 use Rattle.scheme.specs.Check.{tags_in, reverse_tags, reverse_ids, label_ids, check}
-use Rattle.scheme.specs.Call
 use Rattle.scheme.specs.Call.{Call, Part, Told}
 use Rattle.scheme.specs.Run.{store_tells, store_after}
 use Rattle.scheme.specs.Premise.{Premise, KeyFits}

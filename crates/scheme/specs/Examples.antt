@@ -12,7 +12,6 @@ use Rattle.scheme.specs.ReadingExamples.{reading_bytes, rows_bytes, later_bytes,
 use Rattle.scheme.specs.JointExamples.{least_bytes, test_cases, joint_bytes, joint_cases}
 use Rattle.scheme.specs.CheckExamples.{check_cases, check_bytes}
 use Rattle.scheme.specs.Store.{Sizes, fresh}
-use Rattle.scheme.specs.Call
 use Rattle.scheme.specs.Call.{Call, Part, Told}
 use Rattle.scheme.specs.Ledger.{empty, ledger_tells}
 use Rattle.scheme.specs.Run.{store_tells}

@@ -1,6 +1,6 @@
 -- Examples of tests and joint finds (document 02, "Find by several fields"): refusals on both sides of their limits, and stores that no list of
 -- calls makes, where a row of R is missing or a part is damaged. The claim does not see these.
-use Rattle.std.specs.Prelude.{ℕ, ◌*◌, List, [], ◌∷◌, ◌++◌, length, take, set}
+use Rattle.std.specs.Prelude.{ℕ, ◌*◌, List, [], ◌∷◌, ◌++◌, length, set}
 use Rattle.table.specs.Lists.{flat}
 use Rattle.answer.specs.Answer.{Answer, refused}
 use Rattle.scheme.specs.Suite.{Suite}
@@ -9,7 +9,7 @@ use Rattle.scheme.specs.Test
 use Rattle.scheme.specs.JointFind
 use Rattle.scheme.specs.JointFind.{least_at}
 use Rattle.scheme.specs.Example.{Equation, ◌is◌, Case, ◌gives◌, zeros, places, eight, number, by}
-use Rattle.scheme.specs.RefusalExamples.{one, slice, row_c, above_limit}
+use Rattle.scheme.specs.RefusalExamples.{one, slice, row_c}
 
 -- two ids
 abbrev pub id_a : List ℕ

@@ -7,7 +7,6 @@ use Rattle.answer.specs.Answer.{Answer, done}
 use Rattle.scheme.specs.Labels.{Field, same_field}
 use Rattle.scheme.specs.Refusals.{id_count, ids_in, insert_token_tests, field_token_tests, key_tests, insert_input_tests, id_tests, compaction_input_tests}
 use Rattle.answer.specs.Verdict.{◌⇒◌, ◌⇒◌carrying◌, verdict, answer_or, unless_refused}
-use Rattle.scheme.specs.Call
 use Rattle.scheme.specs.Call.{Call, Part, Told}
 
 -- a field with its value, and a share [01:LG1]

@@ -1,6 +1,6 @@
 -- The premise of the claim: the tags that a list of calls can meet differ (document 01, "The ledger", last paragraph).
 use Rattle.std.specs.Prelude.{ℕ, ◌+◌, ◌*◌, ◌≤◌, ◌≡◌, ◌⊎◌, false, length, take, drop}
-use mathlib.Core.List.{List, [], ◌∷◌, ◌++◌, map, Memᴰ}
+use mathlib.Core.List.{List, [], ◌∷◌, map, Memᴰ}
 use Rattle.table.specs.Lists.{flat, All}
 use Rattle.scheme.specs.Suite.{Suite}
 use Rattle.scheme.specs.Labels.{Field, field_lengths_bad}
@@ -8,7 +8,6 @@ use Rattle.scheme.specs.Keys.{MT, CL, RL}
 use Rattle.scheme.specs.Store.{entry_tag, counter_tag, anchor_tag, r_mark}
 use Rattle.scheme.specs.Refusals.{ids_in}
 use Rattle.scheme.specs.Insert.{label_nonces}
-use Rattle.scheme.specs.Call
 use Rattle.scheme.specs.Call.{Call, Part}
 
 -- the fields that a call names

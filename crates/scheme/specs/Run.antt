@@ -17,7 +17,6 @@ use Rattle.scheme.specs.Order
 use Rattle.scheme.specs.Check
 use Rattle.scheme.specs.Test
 use Rattle.scheme.specs.JointFind
-use Rattle.scheme.specs.Call
 use Rattle.scheme.specs.Call.{Call, Part, Told, compared}
 
 -- a token's making that is refused ends the call and changes nothing

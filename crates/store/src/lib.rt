@@ -1,6 +1,8 @@
 // The store, one lent slice: making it, the checks 10, 11 and 20 of every operation, and where its
 // tables stand; its header is in header (document 01, "Store"; document 02, "Rows in byte order" and "Find by several fields"). What the checks find is handed on by value: an operation lends a table as
 // `&mut store[start..end]` by the bounds of its `Part`, and works out none itself.
+#![tactic(auto)]
+
 ghost use Rattle.std.specs.Prelude.{◌≡◌, false, ◌+◌, ◌*◌, ◌-◌, ◌≤◌, length, drop};
 ghost use Rattle.answer.specs.Answer.{completion};
 ghost use Rattle.scheme.specs.Store.{sizes_bad, length_for, fresh, cut, form_bad, make as make_of};
@@ -71,6 +73,7 @@ pub enum Checked {
 }
 
 // Writes the header of a store and zeroes the rest. [01:ST16]
+#[tactic(auto, using(crate::proofs::Laws::made), unfolding(scheme::specs::Store::length_for))]
 fn write(p: u64, m: u64, c: u64, s: u64, r: u64, slice: &mut [u8])
     requires { (sizes_bad (record { p = p; m = m; c = c; s = s; r = r }) ≡ false) × (length slice.old ≡ length_for (record { p = p; m = m; c = c; s = s; r = r })) }
     ensures { slice.new ≡ fresh (record { p = p; m = m; c = c; s = s; r = r }) }
@@ -82,6 +85,7 @@ fn write(p: u64, m: u64, c: u64, s: u64, r: u64, slice: &mut [u8])
 }
 
 // Makes a store: writes the header and zeroes the rest; refusals 7 and 8 leave the slice. [01:ST16 RI8 RI9]
+#[tactic(auto, using(crate::proofs::Rules::make_rules))]
 pub fn make(p: u64, m: u64, c: u64, s: u64, r: u64, slice: &mut [u8]) -> Completion
     ensures result_value { completion result ≡ (make_of (record { p = p; m = m; c = c; s = s; r = r }) slice.old).answer }
     ensures slice_after { slice.new ≡ (make_of (record { p = p; m = m; c = c; s = s; r = r }) slice.old).store }
@@ -97,6 +101,7 @@ pub fn make(p: u64, m: u64, c: u64, s: u64, r: u64, slice: &mut [u8]) -> Complet
 }
 
 // One pass over the marks of the table of n rows of w bytes that starts at a place.
+#[tactic(auto, using(crate::proofs::Laws::surveyed))]
 fn survey(store: &[u8], start: usize, w: usize, n: usize, most: u8) -> Surveyed
     requires { (1 ≤ w) × (start + w * n ≤ length store.now) }
     ensures { result ≡ survey_of store.now start w n most }
@@ -116,6 +121,7 @@ fn survey(store: &[u8], start: usize, w: usize, n: usize, most: u8) -> Surveyed
 }
 
 // One pass over each table, one after the other, with the greatest mark that it allows. [01:ST3 ST5]
+#[tactic(auto, using(crate::proofs::Rules::survey_all_rules), unfolding(scheme::specs::Store::length_for))]
 fn survey_all(store: &[u8], p: u64, m: usize, c: usize, s: usize, r: usize) -> Surveys
     requires { length store.now ≡ length_for (record { p = p; m = m; c = c; s = s; r = r }) }
     ensures { result ≡ surveys_of store.now (record { p = p; m = m; c = c; s = s; r = r }) }
@@ -145,6 +151,7 @@ fn survey_all(store: &[u8], p: u64, m: usize, c: usize, s: usize, r: usize) -> S
 }
 
 // The checks 10 and 11, with what an operation needs to know of the store. [01:RS2 RS3] [02:W2.9]
+#[tactic(auto, using(crate::proofs::Rules::marked_rules))]
 pub fn marked(store: &[u8]) -> Checked
     ensures { result ≡ marked_of store.now }
 {
@@ -165,6 +172,7 @@ pub fn marked(store: &[u8]) -> Checked
 }
 
 // Whether the table of a part is in form. [02:W2.1 W2.2 W2.3]
+#[tactic(auto, using(table::proofs::Walk::rows_take, crate::proofs::Rules::formed_rules))]
 fn formed(store: &[u8], part: Part, w: usize) -> bool
     requires { ((8 ≤ w) × ((part.start ≤ part.end) × (part.end ≤ length store.now))) × ((part.end - part.start ≡ w * part.rows) × (part.free ≡ free_rows (rows w part.rows (drop part.start store.now)))) }
     ensures { result ≡ in_form w (rows w part.rows (drop part.start store.now)) }
@@ -175,6 +183,7 @@ fn formed(store: &[u8], part: Part, w: usize) -> bool
 }
 
 // Whether a table of a store is not in form: the condition of 20. [02:W2.11]
+#[tactic(auto, using(crate::proofs::Rules::bad_form_rules))]
 fn bad_form(store: &[u8], z: Shape) -> bool
     requires { marked_of store.now ≡ Checked.Fit z }
     ensures { result ≡ form_bad (cut store.now) }
@@ -190,6 +199,7 @@ fn bad_form(store: &[u8], z: Shape) -> bool
 
 // The checks 10, 11 and 20 of every operation, with what it needs to know of the store.
 // [01:RS2 RS3] [02:W2.11 W2.12]
+#[tactic(auto, using(crate::proofs::Laws::checked_refused, crate::proofs::Laws::checked_form, crate::proofs::Laws::checked_formed))]
 pub fn sizes(store: &[u8]) -> Checked
     ensures { result ≡ checked_of store.now }
 {
