@@ -1203,10 +1203,12 @@ def lock(b):
                   preexec_fn=lambda: resource.setrlimit(resource.RLIMIT_FSIZE, (limit, limit)))
     if shim:
         # a system that does not answer what it is asked is no reason to say that a process was stopped
-        for call, said in ((("statx", f"/proc/{gone}"), running.format(gone, at.name)), (("open", "/proc/sys/kernel/hostname"), elsewhere.format(gone, here, at.name))):
+        for call, name, said in (("statx", f"/proc/{gone}", running.format(gone, at.name)),
+                                 ("open", "/proc/sys/kernel/hostname", elsewhere.format(gone, here, at.name))):
             at.write_text(f"{gone} {here}\n")
-            made = [(c.name, name) for c in b.watched(erase)[3] for name in [[*c.words, ""][c.name == "statx"]]]
-            out, err, _, _ = b.watched(erase, made.index(call) + 1, fail=True)
+            made = [n for n, c in enumerate(b.watched(erase)[3], 1) if c.name == call and name in c.words]
+            expect(len(made) == 1, f"lock: {call} of {name} is made {len(made)} times")
+            out, err, _, _ = b.watched(erase, made[0], fail=True)
             expect(out == "failed\n" and err == said, f"lock: {call} fails: {out!r} {err!r}")
         at.unlink()
     if not shutil.which("cc"):
@@ -1291,8 +1293,8 @@ def compiled(folder):
         return {line.split()[0].split("@")[0] for line in lines}
 
     # what is no call of the system
-    others = {"memcpy", "memmove", "memset", "__errno_location", "__xpg_strerror_r", "__libc_start_main", "__sysv_signal", "__x86_get_cpuid_feature_leaf", "__cxa_finalize", "__gmon_start__",
-              "_ITM_registerTMCloneTable", "_ITM_deregisterTMCloneTable"}
+    others = {"memcpy", "memmove", "memset", "__errno_location", "__xpg_strerror_r", "__libc_start_main", "__sysv_signal",
+              "__x86_get_cpuid_feature_leaf", "__cxa_finalize", "__gmon_start__", "_ITM_registerTMCloneTable", "_ITM_deregisterTMCloneTable"}
     called = names("--undefined-only", BUILT) - others
     unseen = called - names("--defined-only", library)
     expect(called and not unseen, f"tests/calls.c does not stand before {unseen or 'any call'}")
