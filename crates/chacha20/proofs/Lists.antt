@@ -1,11 +1,11 @@
 -- Laws over plain lists that the loops ask for: a text XORed part by part.
-use Prim.Native.Nat.{ℕ, suc, ◌+◌, ◌-◌, ◌*◌, ◌≤◌, ◌<◌}
-use mathlib.Core.Path.{◌≡◌, refl, sym, ap, ◌∙◌}
+use Prim.Native.Nat.{ℕ, suc, ◌+◌, ◌-◌, ◌≤◌, ◌<◌}
+use mathlib.Core.Path.{◌≡◌, refl, ap, ◌∙◌}
 use mathlib.Core.List.{List, [], ◌∷◌, ◌++◌, append_assoc, append-nil}
 use native.Mathlib.Numerals.{add-one}
 use native.Mathlib.Omega.{arith}
 use lib.ListN.{length, get_or, take, drop, set, length-append, length-take, length-drop, drop_of_length-le}
-use lib.Seq.{sets-eq, take_all, take_at, drop_at, drop-cons, take-suc, take-suc-set, drop-set-lt, length-take-le}
+use lib.Seq.{take_all, take_at, drop_at, drop-cons, take-suc-set, drop-set-lt, length-take-le}
 use Rattle.chacha20_block.specs.Words.{◌⊕◌}
 use Rattle.chacha20.specs.Cipher.{xored}
 

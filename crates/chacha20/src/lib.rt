@@ -1,5 +1,7 @@
 // ChaCha20 (RFC 8439, 2.4) with first block counter 1: a lent text is XORed with the stream in place.
 // The blocks of the stream are chacha20_block's.
+#![tactic(auto)]
+
 ghost use Rattle.std.specs.Prelude.{◌≡◌, ◌≤◌, min, length};
 ghost use Rattle.answer.specs.Answer.{completion};
 ghost use Rattle.chacha20_block.specs.Rounds.{words};
@@ -11,6 +13,7 @@ use answer::{Completion, Refusal};
 use chacha20_block::{State, block, first_state, next_state};
 
 // A text of n bytes XORed with bytes of the stream.
+#[tactic(auto, using(crate::proofs::Lists::xored_more, crate::proofs::Lists::all_done, crate::proofs::Rules::xor_bytes_rules))]
 fn xor_bytes(text: &mut [u8], ks: &[u8], n: usize)
     requires { (length text.old ≡ n) × (n ≤ length ks.now) }
     ensures { text.new ≡ xored text.old ks.now }
@@ -53,6 +56,7 @@ pub fn apply_short(key: &[u8], nonce: &[u8], text: &mut [u8])
 }
 
 // E under a key and a nonce of checked length. [01:KF2 KF3]
+#[tactic(auto, using(crate::proofs::Lists::part_length, crate::proofs::Lists::all_done, crate::proofs::Stream::text_turn, crate::proofs::Rules::apply_checked_rules), unfolding(chacha20_block::specs::Block::initial_state, crate::specs::Cipher::E))]
 pub fn apply_checked(key: &[u8], nonce: &[u8], text: &mut [u8])
     requires { (length key.now ≡ 32) × (length nonce.now ≡ 12) }
     ensures { text.new ≡ E key.now nonce.now text.old }
@@ -69,6 +73,7 @@ pub fn apply_checked(key: &[u8], nonce: &[u8], text: &mut [u8])
 }
 
 // E: refused by 1, 4 and 9, and the text is then as it was lent. [01:KF3 KF7]
+#[tactic(auto, using(crate::proofs::Rules::apply_rules), unfolding(crate::specs::Call::cipher_tests, crate::specs::Call::cipher_answer, crate::specs::Call::cipher_text))]
 pub fn apply(key: &[u8], nonce: &[u8], text: &mut [u8]) -> Completion
     ensures result_value { completion result ≡ cipher_answer key.now nonce.now text.old }
     ensures text_after { text.new ≡ cipher_text key.now nonce.now text.old }

@@ -1,4 +1,6 @@
 // Search in a table in form (document 02, "Rows in byte order") whose used rows all have mark 1.
+#![tactic(auto)]
+
 ghost use Rattle.std.specs.Prelude.{◌≡◌, true, false, ◌*◌, ◌<◌, ◌≤◌, length};
 ghost use Rattle.table.specs.Table.{rows, mark_bad, place_of};
 ghost use Rattle.table.specs.Order.{used_rows, in_form, Searchable};
