@@ -1,5 +1,7 @@
 // The bytes of tokens, tags and rows (document 01, "Keys and tokens" and "Store"): their lengths, F of a
 // number, the tags under a prepared key, and the keys of a CL. The rows themselves are in row.
+#![tactic(auto)]
+
 ghost use Rattle.std.specs.Prelude.{◌≡◌, ◌∷◌, length};
 ghost use Rattle.scheme.specs.Suite.{number8};
 ghost use Rattle.format.specs.Tags.{numbered_by, entry_tag_by, counter_tag_by, anchor_tag_by, r_mark_by, KeysOf};

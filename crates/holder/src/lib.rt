@@ -75,6 +75,7 @@ fn body(line: &[u8]) -> &[u8]
 }
 
 // The host that a line names: what stands after its first space.
+#[tactic(auto, using(crate::proofs::Laws::beyond_found, crate::proofs::Laws::beyond_none))]
 pub fn host(line: &[u8]) -> &[u8]
     ensures { result.now ≡ host_of line.now }
 {
@@ -113,6 +114,7 @@ fn all_shown(text: &[u8]) -> bool
 }
 
 // Whether a text can be a host's name: a byte or more, all of which can be seen.
+#[tactic(auto, using(crate::proofs::Rules::is_name_rules))]
 fn is_name(text: &[u8]) -> bool
     ensures { result ≡ is_name text.now }
 {
@@ -136,6 +138,7 @@ fn positive(p: Parsed) -> Parsed
 }
 
 // The process that a line names, where it is such a line.
+#[tactic(auto, using(crate::proofs::Laws::picked, crate::proofs::Laws::unpicked))]
 pub fn process(line: &[u8]) -> Parsed
     ensures { result ≡ process_of line.now }
 {

@@ -1,0 +1,24 @@
+-- Nonce and id fill the message.
+use mathlib.Core.Path.{sym, ap, ◌∙◌}
+use mathlib.Core.List.{List, [], ◌++◌, append-nil}
+use Prim.Native.Nat.{ℕ, ◌+◌}
+use native.Mathlib.Omega.{arith}
+use lib.ListN.{length}
+use Rattle.octets.specs.Part.{written}
+use Rattle.octets.proofs.Parts.{three_written, written_none}
+use Rattle.format.specs.Tags.{tag_by, r_mark_by}
+use Rattle.format.proofs.r_mark.Goals as goal
+
+pub returns : goal.returns
+unfolding r_mark_by
+returns c =
+    let y = c in
+    let x = y in
+    let s = x in
+    let n = s.args.nonce.now in
+    let i = s.args.id.now in
+    c.tagged.ensures
+    ∙ ap (tag_by s.args.rl)
+    (three_written _ n i [] _ y.copy_at-2.new.to y.copy_at-2.new.to (omega (arith, s.requires.0, s.requires.1)) x.copy_at.ensures
+    (y.copy_at-2.ensures ∙ ap (λ (k : ℕ). written x.copy_at.new.to k i) (sym s.requires.0)) (sym (written_none y.copy_at-2.new.to (length n + length i)))
+    ∙ ap (λ (l : List ℕ). n ++ l) (append-nil i))
