@@ -9,8 +9,8 @@ use borrow.Author.Tests.{lt-ltb, le-ltb}
 use Rattle.table.specs.Lists.{same}
 use Rattle.lacking.specs.Meetings.{met_before}
 use Rattle.repeats.proofs.Keys.{row_before, row_reach, inside, key_text}
-use Rattle.lacking.proofs.was_met.Statement.{statement}
-use Rattle.lacking.proofs.was_met.Tie as tie
+use Rattle.lacking.proofs.was_met.Goals as goal
+use Rattle.lacking.proofs.was_met.Goals.{Else-j-lt1}
 
 none_before : (x : List ℕ) (l : List (List ℕ)) (j : ℕ) → j < 1 → false ≡ met_before x l j
 unfolding met_before
@@ -21,32 +21,31 @@ unfolding met_before
 one_before x l j h r e = rw (lt-ltb 0 j h) e
 
 -- the row before ends within the table
-row : (c : tie.Else1) →
-    let a = c.before.before.before.args in
+row : (c : Else-j-lt1) →
+    let a = c.args in
     (0 < a.j) × (a.w * (a.j - 1) + a.w ≤ length a.t.now) × (a.w * a.j + 1 - a.w ≡ a.w * (a.j - 1) + 1) × (a.w ≤ a.w * a.j)
-row c =
-    let s = c.before.before.before in
-    let a = s.args in
-    let h : 0 < a.j = omega (arith, c.if1.false) in
-    (h, (inside a.w a.n a.u a.t.now s.requires.0.1 s.requires.0.0.1 (a.j - 1) (omega (arith, s.requires.1.1))).1, row_before a.w a.j h, row_reach a.w a.j h)
+row c = let a = c.args in
+    let h : 0 < a.j = omega (arith, c.if-j-lt1.false) in
+    (h, (inside a.w a.n a.u a.t.now c.requires.0.1 c.requires.0.0.1 (a.j - 1) (omega (arith, c.requires.1.1))).1, row_before a.w a.j h, row_reach a.w a.j h)
 
-returns : tie.Need-returns
-returns c = none_before _ _ _ (omega (arith, c.if1.true))
+pub returns-then-j-lt1 : goal.returns-then-j-lt1
+returns-then-j-lt1 c = none_before _ _ _ (omega (arith, c.if-j-lt1.true))
 
-alike-requires : tie.Need-alike-requires
-alike-requires c κs =
-    let s = c.before.before.before in
-    (s.requires.1.0, omega (arith, row c, s.requires.0.0.0))
+pub alike-requires : goal.alike-requires
+alike-requires c =
+    (c.requires.1.0, omega (arith, row c, c.requires.0.0.0))
 
-returns-2 : tie.Need-returns-2
-returns-2 c =
-    let s = c.before.before.before.before in
-    let a = s.args in
-    let r = row c.before in
+pub returns : goal.returns
+returns c =
+    let a = c.args in
+    let r = row (goal.at.returns c).Else-j-lt1 in
     one_before _ _ a.j r.0 c.alike.result
     (c.alike.ensures
     ∙ ap (λ (k : ℕ). same (take 16 (drop a.a a.x.now)) (take 16 (drop k a.t.now))) r.2
-    ∙ ap (same (take 16 (drop a.a a.x.now))) (sym (key_text a.w a.n a.u a.t.now s.requires.0.1 s.requires.0.0.1 16 (a.j - 1) (omega (arith, s.requires.0.0.0)) (omega (arith, s.requires.1.1)))))
+    ∙ ap (same (take 16 (drop a.a a.x.now))) (sym (key_text a.w a.n a.u a.t.now c.requires.0.1 c.requires.0.0.1 16 (a.j - 1) (omega (arith, c.requires.0.0.0)) (omega (arith, c.requires.1.1)))))
 
-pub was-met-spec : {M : Type 1} → statement M
-was-met-spec = tie.close (tie.spec returns (λ c. omega (arith, row c)) (λ c. omega (arith, row c)) (λ c. omega (arith, row c)) alike-requires returns-2)
+pub overflow_mul-w : goal.overflow_mul-w
+overflow_mul-w c = omega (arith, row c)
+
+pub overflow_add-w : goal.overflow_add-w
+overflow_add-w c = omega (arith, row c)
