@@ -7,21 +7,16 @@ use native.Mathlib.Omega.{arith}
 use lib.ListN.{get_or, drop}
 use lib.Seq.{get_or-drop}
 use Rattle.matching.specs.Matching.{bucket_of}
-use borrow.Author.Rules.{rules}
-use Rattle.matching.proofs.bucket.Statement.{statement}
-use Rattle.matching.proofs.bucket.Tie as tie
+use Rattle.matching.proofs.bucket.Goals as goal
 
 bucket_is : (t : List ℕ) (a x y : ℕ) → x ≡ get_or t a 0 → y ≡ get_or t (a + 1) 0 → (256 * x + y) / 4 ≡ bucket_of (drop a t)
 unfolding bucket_of
 bucket_is t a x y e f =
     ap₂ (λ (m n : ℕ). (256 * m + n) / 4) (e ∙ sym (get_or-drop a t 0 0 ∙ ap (λ (i : ℕ). get_or t i 0) (add-zero a))) (f ∙ sym (get_or-drop a t 1 0))
 
-returns : tie.Need-returns
+pub returns : goal.returns
 returns c =
-    let a = c.before.before.before.before.before.args in
-    let x = c.before.before.wide in
-    let y = c.wide2 in
+    let a = c.args in
+    let x = c.wide-x in
+    let y = c.wide-y in
     (bucket_is a.t.now a.a x.result y.result x.ensures.0 y.ensures.0, omega (arith, x.ensures.1, y.ensures.1))
-
-pub bucket-spec : {M : Type 1} → statement M
-bucket-spec = tie.close (tie.spec (λ c. search rules) (λ c κs. search rules) (λ c. search rules) (λ c. search rules) (λ c κs. search rules) (λ c. search rules) (λ c. search rules) returns)
