@@ -1,6 +1,8 @@
 // The client, which holds the master key (document 01, "Keys and tokens"): the six token makings, refused
 // in the definition's order. Each writes to a lent array of the token's size; a refusal leaves it. The
 // bytes of tokens are in tokens.
+#![tactic(auto)]
+
 ghost use Rattle.std.specs.Prelude.{◌≡◌};
 ghost use Rattle.answer.specs.Answer.{completion};
 ghost use Rattle.scheme.specs.Keys.{insert_token, find_token, count_token, compaction_token, mark_token, part_token};

@@ -1,5 +1,7 @@
 // The rows of M and of V that an insert writes for its ids (document 01, "Operations": insert), made
 // one after the other. Those of R are in label.
+#![tactic(auto)]
+
 ghost use Rattle.std.specs.Prelude.{◌≡◌, ◌*◌, ◌≤◌, length};
 ghost use Rattle.table.specs.Table.{rows};
 ghost use Rattle.scheme.specs.Store.{table_m, table_v, width_of};

@@ -1,5 +1,7 @@
 // Keys and shares (document 01, "Keys and tokens"): the keys that tokens are made of, as F gives them,
 // and the range of shares.
+#![tactic(auto)]
+
 ghost use Rattle.std.specs.Prelude.{◌≡◌, ◌||◌, List, ℕ, ◌≤◌, ltb, length};
 ghost use Rattle.hmac.specs.Hmac.{F};
 ghost use Rattle.scheme.specs.Suite.{number8};

@@ -1,5 +1,7 @@
 // The lookups of a reading (document 01, "Reading a counter"): which anchors and which counters table C holds, one after the other, with the
 // rows looked at for it (document 02, "Stop early, and say the rows read").
+#![tactic(auto)]
+
 ghost use Rattle.std.specs.Prelude.{◌≡◌, suc, ◌*◌, ◌≤◌, min, length};
 ghost use Rattle.scheme.specs.Store.{table_c, width_of};
 ghost use Rattle.table.specs.Table.{rows, place_of};

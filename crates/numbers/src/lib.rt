@@ -1,5 +1,7 @@
 // The two numbers in a row of table C (document 01, "Store" and "Refusals from the state"): how they are read, and
 // which of them are damage.
+#![tactic(auto)]
+
 ghost use Rattle.std.specs.Prelude.{◌≡◌, [], ◌*◌, ◌<◌, length, get_or};
 ghost use Rattle.scheme.specs.Store.{table_c, width_of};
 ghost use Rattle.table.specs.Table.{rows, body};

@@ -1,5 +1,7 @@
 // The bytes of tokens (document 01, "Keys and tokens"), for a key, a field, a share and a nonce of valid
 // lengths: what the client's makings write where nothing refuses them.
+#![tactic(auto)]
+
 ghost use Rattle.std.specs.Prelude.{◌≡◌, List, ◌++◌, ℕ, ◌≤◌, ◌+◌, length};
 ghost use Rattle.hmac.specs.Hmac.{F};
 ghost use Rattle.scheme.specs.Suite.{number8};

@@ -1,5 +1,7 @@
 // The walk of a count's lookup through a table in form (document 02, "Stop early, and say the rows
 // read"): from the first row on, and rows are counted as they are looked at.
+#![tactic(auto)]
+
 ghost use Rattle.std.specs.Prelude.{◌≡◌, ◌+◌, ◌*◌, ◌≤◌, length, take, drop};
 ghost use Rattle.table.specs.Table.{rows, place_of};
 ghost use Rattle.table.specs.Order.{precedes as precedes_bytes, Searchable};

@@ -1,0 +1,30 @@
+-- Refused by the definition's tests, in its order.
+use mathlib.Core.Path.{sym, ◌∙◌}
+use borrow.Author.Tests.{eq-eqb, ne_eqb}
+use Rattle.scheme.specs.Keys.{KC, field_cl, count_token}
+use Rattle.scheme.specs.Refusals.{field_token_tests}
+use Rattle.suite.specs.Program.{program}
+use Rattle.format.proofs.Tags.{prepared}
+use Rattle.labels.proofs.Laws.{in_range}
+use Rattle.client.proofs.count_token.Goals as goal
+
+pub returns-then-key-ne-KEY : goal.returns-then-key-ne-KEY
+unfolding field_token_tests
+returns-then-key-ne-KEY c = let key = ne_eqb _ _ c.if-key-ne-KEY.true in record { result_value = simp key; token_after = simp key }
+
+pub returns-then-outside : goal.returns-then-outside
+unfolding field_token_tests
+returns-then-outside c =
+    let key = eq-eqb _ _ c.if-key-ne-KEY.false in
+    let field = sym c.outside.ensures ∙ c.if-outside.true in record { result_value = simp (key, field); token_after = simp (key, field) }
+
+pub field_key-requires : goal.field_key-requires
+field_key-requires c = in_range _ _ (sym c.outside.ensures ∙ c.if-outside.false)
+
+pub returns : goal.returns
+unfolding field_token_tests count_token field_cl KC program
+returns c =
+    let k = c in
+    let K = k.args.key.now in
+    let key = eq-eqb _ _ k.if-key-ne-KEY.false in
+    let field = sym k.outside.ensures ∙ k.if-outside.false in record { result_value = simp (key, field); token_after = simp (key, field) (c.field_key.ensures K (prepared k.prepare.result K k.prepare.ensures)) }
