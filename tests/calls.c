@@ -9,6 +9,7 @@
 #include <stdarg.h>
 #include <stdio.h>
 #include <stdlib.h>
+#include <sys/file.h>
 #include <sys/stat.h>
 #include <sys/syscall.h>
 #include <unistd.h>
@@ -61,16 +62,15 @@ static int due(void) {
   }
 CALL(int, close, (int fd), (fd), "%d", fd)
 CALL(int, fchown, (int fd, uid_t owner, gid_t group), (fd, owner, group), "%d", fd)
-CALL(int, fstat, (int fd, struct stat *s), (fd, s), "%d", fd)
+CALL(int, fdatasync, (int fd), (fd), "%d", fd)
+CALL(int, flock, (int fd, int how), (fd, how), "%d", fd)
 CALL(int, fsync, (int fd), (fd), "%d", fd)
 CALL(int, getentropy, (void *bytes, size_t n), (bytes, n), "%zu", n)
-CALL(int, gethostname, (char *name, size_t n), (name, n), "%zu", n)
-CALL(pid_t, getpgid, (pid_t process), (process), "%d", process)
+CALL(int, ftruncate, (int fd, off_t n), (fd, n), "%d", fd)
 CALL(pid_t, getpid, (void), (), "%d", 0)
-CALL(int, mkstemp, (char *name), (name), "%s", name)
-CALL(ssize_t, readlink, (const char *name, char *bytes, size_t n), (name, bytes, n), "%s", name)
 CALL(ssize_t, read, (int fd, void *bytes, size_t n), (fd, bytes, n), "%d", fd)
 CALL(int, rename, (const char *from, const char *name), (from, name), "%s %s", from, name)
+CALL(int, statx, (int fd, const char *name, int flags, unsigned mask, struct statx *s), (fd, name, flags, mask, s), "%d %s", fd, *name ? name : "-")
 CALL(int, unlink, (const char *name), (name), "%s", name)
 
 /* With the mode that the file had before. */

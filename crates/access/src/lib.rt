@@ -1,5 +1,7 @@
 // The files of a command, by the names that its line has: what is read of them, its store, its key or token; and the new
 // bytes of its store, written after a change alone.
+#![tactic(auto)]
+
 ghost use Rattle.std.specs.Prelude.{◌≡◌, true, false, min};
 ghost use Rattle.io.specs.Counts.{IsPrefixLen};
 ghost use Rattle.words.specs.Line.{word_at};
@@ -11,13 +13,14 @@ ghost use Rattle.access.specs.Unasked.{Unasked};
 
 use demand::Needs;
 use files::Loaded;
-use libc::STDERR_FILENO;
 use operands::token;
 use outcome::Outcome;
 use words::line;
 
+const STDERR_FILENO: i32 = 2;
+
 // The bytes of the file that the line's token names, where it names one.
-fn token_of(line: &[u8], to: &mut [u8]) -> Loaded
+fn token_of(rt: &HostRuntime, line: &[u8], to: &mut [u8]) -> Loaded
     ensures prefix_len { IsPrefixLen result.n to.new }
     ensures unasked { names_file (word_at 3 line.now) ≡ false → Unasked result }
 {
@@ -25,29 +28,29 @@ fn token_of(line: &[u8], to: &mut [u8]) -> Loaded
     if !token::names_file(word) {
         return Loaded { n: 0, whole: true };
     }
-    files::load(&word[1..], to)
+    files::load(rt, &word[1..], to)
 }
 
 // The bytes of the file with the key or the token, where the request takes one.
-pub fn key_of(line: &[u8], to: &mut [u8]) -> Loaded
+pub fn key_of(rt: &HostRuntime, line: &[u8], to: &mut [u8]) -> Loaded
     ensures prefix_len { IsPrefixLen result.n to.new }
     ensures unasked { takes_token (request_of line.now) ≡ false → takes_key (request_of line.now) ≡ false → Unasked result }
 {
     let q = request::read(line);
     if demand::takes_token(q) {
-        return token_of(line, to);
+        return token_of(rt, line, to);
     }
     if !demand::takes_key(q) {
         return Loaded { n: 0, whole: true };
     }
-    files::load(line::word(line, 2), to)
+    files::load(rt, line::word(line, 2), to)
 }
 
 // Room for a store of n bytes, which must not be there.
-fn absent(line: &[u8], n: usize, room: usize) -> Loaded
+fn absent(rt: &HostRuntime, line: &[u8], n: usize, room: usize) -> Loaded
     ensures { result.n ≡ min n room }
 {
-    let whole = files::is_missing(line::word(line, 1));
+    let whole = files::is_missing(rt, line::word(line, 1));
     if !whole {
         io::write_all(
             STDERR_FILENO,
@@ -61,7 +64,7 @@ fn absent(line: &[u8], n: usize, room: usize) -> Loaded
 }
 
 // The store's bytes, or room for a new one's; none where there is no store.
-pub fn fetch(line: &[u8], needs: Needs, to: &mut [u8]) -> Loaded
+pub fn fetch(rt: &HostRuntime, line: &[u8], needs: Needs, to: &mut [u8]) -> Loaded
     ensures prefix_len { IsPrefixLen result.n to.new }
     ensures unasked { needs ≡ Needs.KeyAlone → Unasked result }
 {
@@ -69,15 +72,15 @@ pub fn fetch(line: &[u8], needs: Needs, to: &mut [u8]) -> Loaded
         return Loaded { n: 0, whole: true };
     }
     let Needs::NewStore(n) = needs else {
-        return files::load(line::word(line, 1), to);
+        return files::load(rt, line::word(line, 1), to);
     };
-    absent(line, n, to.len())
+    absent(rt, line, n, to.len())
 }
 
 // Gives the store its new bytes, after a change alone.
-pub fn keep(line: &[u8], store: &[u8], o: Outcome) -> bool
+pub fn keep(rt: &HostRuntime, line: &[u8], store: &[u8], o: Outcome) -> bool
     requires { changes (request_of line.now) o ≡ true }
     ensures { OfSystemAt (word_at 1 line.now) result }
 {
-    files::replace(line::word(line, 1), store)
+    files::replace(rt, line::word(line, 1), store)
 }

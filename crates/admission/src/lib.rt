@@ -1,6 +1,8 @@
 // What an insert is refused by, of its input and for lack of room (document 01, "Refusals from the
 // input": 4, 5 and 6; "Refusals from the state": 14 to 17; document 02, "Find by several fields": 21), in the definition's
 // order.
+#![tactic(auto)]
+
 ghost use Rattle.std.specs.Prelude.{◌≡◌, not, ◌||◌, ◌++◌, ◌/◌, ◌%◌, eqb, ltb};
 ghost use Rattle.answer.specs.Verdict.{verdict};
 ghost use Rattle.scheme.specs.Refusals.{insert_input_tests, token_tests};

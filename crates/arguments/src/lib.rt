@@ -1,23 +1,39 @@
 // The words of the command line, as the system gives them, in one slice: each with a 0 after it, which
 // no word holds. What is wrong is told to standard error.
-ghost use Rattle.std.specs.Prelude.{◌≡◌, ◌-◌, ◌<◌, ◌≤◌, length, get_or};
+#![tactic(auto)]
+
+ghost use Rattle.std.specs.Prelude.{◌≡◌, ◌-◌, ◌<◌, ◌≤◌, length, slice_index_or};
+ghost use Rattle.files.specs.System.{OfSystem};
 ghost use Rattle.io.specs.Counts.{IsPrefixLen};
 
-use files::Loaded;
-use libc::STDERR_FILENO;
+use files::{Loaded, STDERR};
+use std::env::FillError;
+use std::rt::Env;
+
+// How many words the program was started with, its own name among them.
+fn count(rt: &HostRuntime) -> usize
+    ensures { OfSystem result }
+{
+    for i in 0..usize::MAX {
+        let mut none = [0u8; 1];
+        if let Err(FillError::NotPresent) = rt.arg(i, &mut none) {
+            return i;
+        }
+    }
+    usize::MAX
+}
 
 // Puts word i and a 0 at the start of a slice. Answers how many bytes these are; 0 where the word is not
 // there whole.
-fn put_word(i: usize, to: &mut [u8]) -> usize
-    ensures { (result ≤ length to.new) × (0 < result → get_or to.new (result - 1) 1 ≡ 0) }
+fn put_word(rt: &HostRuntime, i: usize, to: &mut [u8]) -> usize
+    ensures { (result ≤ length to.new) × (0 < result → slice_index_or to.new (result - 1) 1 ≡ 0) }
 {
-    let n = os::arg(i, to);
-    if os::errno() != 0 {
-        os::fail(b"a word of the command line");
+    let Ok(n) = rt.arg(i, to) else {
+        io::write_all(STDERR, b"a word of the command line: File name too long\n");
         return 0;
-    }
+    };
     if to.len() <= n {
-        io::write_all(STDERR_FILENO, b"the command line is too long\n");
+        io::write_all(STDERR, b"the command line is too long\n");
         return 0;
     }
     to[n] = 0;
@@ -25,14 +41,14 @@ fn put_word(i: usize, to: &mut [u8]) -> usize
 }
 
 // The words after the program's own name, as far as there is room.
-pub fn gather(to: &mut [u8]) -> Loaded
+pub fn gather(rt: &HostRuntime, to: &mut [u8]) -> Loaded
     ensures { IsPrefixLen result.n to.new }
 {
-    let count = os::arg_count();
+    let count = count(rt);
     let mut at = 0;
     let mut i = 1;
     while i < count {
-        let n = put_word(i, &mut to[at..]);
+        let n = put_word(rt, i, &mut to[at..]);
         if n == 0 {
             return Loaded { n: 0, whole: false };
         }

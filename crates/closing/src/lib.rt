@@ -1,5 +1,7 @@
 // Rows given up in a table in form (document 02, "Rows in byte order"): those that stand together
 // under a key are flagged, and the rows that are not flagged close up in one pass.
+#![tactic(auto)]
+
 ghost use Rattle.std.specs.Prelude.{◌≡◌, true, false, cond, [], ◌++◌, ◌+◌, ◌*◌, ◌-◌, ◌<◌, ◌≤◌, length, take, drop, get_or, set, replicate};
 ghost use Rattle.octets.specs.Compare.{bit, same as same_bytes};
 ghost use Rattle.table.specs.Lists.{count};

@@ -1,5 +1,7 @@
 // The reading of a counter out of table C (document 01, "Reading a counter"), with the rows looked at for it (document 02,
 // "Stop early, and say the rows read").
+#![tactic(auto)]
+
 ghost use Rattle.std.specs.Prelude.{◌≡◌, ◌*◌, ◌≤◌, length};
 ghost use Rattle.scheme.specs.Store.{table_c, width_of};
 ghost use Rattle.table.specs.Table.{rows};

@@ -1,5 +1,7 @@
 // Where each of n texts of 32 bytes first stands among them (document 01, "Operations": compaction,
 // distinct CL in order of first row): a hash table with separate chaining over the different ones.
+#![tactic(auto)]
+
 ghost use Rattle.std.specs.Prelude.{◌≡◌, [], ◌++◌, ◌+◌, ◌*◌, ◌≤◌, ◌<◌, eqb, ltb, length, get_or, take, drop};
 ghost use Rattle.table.specs.Lists.{bit};
 ghost use Rattle.table.specs.Table.{rows};
@@ -16,6 +18,7 @@ fn wide(x: u16) -> usize
 }
 
 // The bucket of a text: its first twelve bits.
+#[tactic(auto, unfolding(crate::specs::Firsts::bucket_of))]
 fn bucket(text: &[u8]) -> usize
     requires { 2 ≤ length text.now }
     ensures { (result ≡ bucket_of text.now) × (result < 4096) }
@@ -27,6 +30,7 @@ fn bucket(text: &[u8]) -> usize
 
 // The row that is equal to row i, among those before it that are the first of their kind; i where there
 // is none. A head and a link are a row's number and one more; 0 ends the chain.
+#[tactic(auto, using(table::proofs::Walk::row_part, crate::proofs::Chaining::walking_start, crate::proofs::Chaining::walking_leads, crate::proofs::Chaining::walking_hit, crate::proofs::Chaining::walking_next, crate::proofs::Chaining::last_le, crate::proofs::Rules::equal_in_rules))]
 fn equal_in(log: &[u8], n: usize, i: usize, b: usize, heads: &[u16], links: &[u16]) -> usize
     requires n_in_bounds { (32 * n ≤ length log.now) × ((n ≤ 4096) × ((i < n) × Chained (rows 32 n log.now) i heads.now links.now)) }
     requires b_value { (b ≡ bucket_of (get_or (rows 32 n log.now) i [])) × (b < 4096) }
@@ -59,6 +63,7 @@ fn link(heads: &mut [u16], links: &mut [u16], b: usize, i: usize, j: usize)
 }
 
 // For each of n rows the first that is equal to it. [01:OP10]
+#[tactic(auto, using(table::proofs::Walk::row_part, crate::proofs::Chaining::chained_start, crate::proofs::Chaining::chained_turn, crate::proofs::Chaining::found_none, crate::proofs::Chaining::found_turn, crate::proofs::Chaining::found_all, crate::proofs::Rules::find_rules))]
 pub fn find(log: &[u8], n: usize, first: &mut [u16])
     requires { (32 * n ≤ length log.now) × ((n ≤ 4096) × (n ≤ length first.old)) }
     ensures { first.new ≡ firsts (rows 32 n log.now) ++ drop n first.old }

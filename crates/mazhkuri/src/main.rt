@@ -10,10 +10,12 @@ ghost use Rattle.report.specs.Run.{Ends};
 ghost use Rattle.mazhkuri.specs.Served.{unserved_of, ServedIf, Printable};
 
 use demand::Needs;
-use libc::{STDERR_FILENO, STDOUT_FILENO};
 use outcome::Outcome;
 use report::Ran;
 use words::line;
+
+const STDERR_FILENO: i32 = 2;
+const STDOUT_FILENO: i32 = 1;
 
 // The longest store, 1,134,602 bytes, and one byte more: a longer file is refused by its length.
 const SPACE: usize = 1134603;
@@ -73,6 +75,7 @@ fn unserved() -> Served
 
 // A command on bytes, which are kept where it changed them.
 fn apply(
+    rt: &HostRuntime,
     line: &[u8],
     store: &mut [u8],
     key: &[u8],
@@ -89,85 +92,85 @@ fn apply(
     if !demand::changes(request::read(line), o) {
         return Served { ran, kept: true };
     }
-    let kept = access::keep(line, store, o);
+    let kept = access::keep(rt, line, store, o);
     Served { ran, kept }
 }
 
 // A command on a store that is read, with a key that is read and random bytes that are drawn where it
 // takes them.
-fn on_store(line: &[u8], needs: Needs, out: &mut [u8], err: &mut [u8]) -> Served
+fn on_store(rt: &HostRuntime, line: &[u8], needs: Needs, out: &mut [u8], err: &mut [u8]) -> Served
     requires { (135168 ≤ length out.old) × (length line.now + 256 ≤ length err.old) }
     ensures { ServedIf line.now out.old err.old result out.new err.new }
 {
     let mut store = space();
-    let got = access::fetch(line, needs, &mut store);
+    let got = access::fetch(rt, line, needs, &mut store);
     let n = got.n;
     if !got.whole {
         return unserved();
     }
     let mut key = [0u8; 512];
-    let given = access::key_of(line, &mut key);
+    let given = access::key_of(rt, line, &mut key);
     let k = given.n;
     if !given.whole {
         return unserved();
     }
     let mut random = random_space();
     let m = demand::random_for(request::read(line), &store[..n]);
-    if !files::randomize(&mut random[..m]) {
+    if !files::randomize(rt, &mut random[..m]) {
         return unserved();
     }
-    apply(line, &mut store[..n], &key[..k], &random[..m], out, err)
+    apply(rt, line, &mut store[..n], &key[..k], &random[..m], out, err)
 }
 
 // The same, while no other tool changes the store.
-fn locked(line: &[u8], needs: Needs, out: &mut [u8], err: &mut [u8]) -> Served
+fn locked(rt: &HostRuntime, line: &[u8], needs: Needs, out: &mut [u8], err: &mut [u8]) -> Served
     requires { (135168 ≤ length out.old) × (length line.now + 256 ≤ length err.old) }
     ensures { ServedIf line.now out.old err.old result out.new err.new }
 {
-    if !files::lock(line::word(line, 1)) {
+    if !files::lock(rt, line::word(line, 1)) {
         return unserved();
     }
-    let r = on_store(line, needs, out, err);
-    files::unlock(line::word(line, 1));
+    let r = on_store(rt, line, needs, out, err);
+    files::unlock(rt, line::word(line, 1));
     r
 }
 
 // A key file, whose bytes are the random ones.
-fn on_key(line: &[u8], out: &mut [u8], err: &mut [u8]) -> Served
+fn on_key(rt: &HostRuntime, line: &[u8], out: &mut [u8], err: &mut [u8]) -> Served
     requires { (135168 ≤ length out.old) × (length line.now + 256 ≤ length err.old) }
     ensures { ServedIf line.now out.old err.old result out.new err.new }
 {
     let mut key = [0u8; 32];
-    if !files::randomize(&mut key) {
+    if !files::randomize(rt, &mut key) {
         return unserved();
     }
-    if !files::make_private(line::word(line, 1), &key) {
+    if !files::make_private(rt, line::word(line, 1), &key) {
         return unserved();
     }
-    on_words(line, out, err)
+    on_words(rt, line, out, err)
 }
 
 // A command that needs nothing but its words.
-fn on_words(line: &[u8], out: &mut [u8], err: &mut [u8]) -> Served
+fn on_words(rt: &HostRuntime, line: &[u8], out: &mut [u8], err: &mut [u8]) -> Served
     requires { (135168 ≤ length out.old) × (length line.now + 256 ≤ length err.old) }
     ensures { ServedIf line.now out.old err.old result out.new err.new }
 {
     let mut none = [0u8; 1];
-    apply(line, &mut none[..0], b"", b"", out, err)
+    apply(rt, line, &mut none[..0], b"", b"", out, err)
 }
 
-fn serve(line: &[u8], out: &mut [u8], err: &mut [u8]) -> Served
+fn serve(rt: &HostRuntime, line: &[u8], out: &mut [u8], err: &mut [u8]) -> Served
     requires { (135168 ≤ length out.old) × (length line.now + 256 ≤ length err.old) }
     ensures { ServedIf line.now out.old err.old result out.new err.new }
 {
     let needs = demand::needed(request::read(line));
     match needs {
-        Needs::Words => on_words(line, out, err),
-        Needs::KeyFile => on_key(line, out, err),
-        Needs::KeyAlone => on_store(line, needs, out, err),
-        Needs::Store => on_store(line, needs, out, err),
-        Needs::Lock => locked(line, needs, out, err),
-        Needs::NewStore(_) => locked(line, needs, out, err),
+        Needs::Words => on_words(rt, line, out, err),
+        Needs::KeyFile => on_key(rt, line, out, err),
+        Needs::KeyAlone => on_store(rt, line, needs, out, err),
+        Needs::Store => on_store(rt, line, needs, out, err),
+        Needs::Lock => locked(rt, line, needs, out, err),
+        Needs::NewStore(_) => locked(rt, line, needs, out, err),
     }
 }
 
@@ -186,16 +189,16 @@ fn print(r: Served, out: &[u8], err: &[u8])
     io::write_all(STDERR_FILENO, &err[..m]);
 }
 
-fn main() {
+fn main(rt: HostRuntime) {
     let mut words = io::large_buffer();
     let mut out = out_space();
     let mut err = err_space();
-    let got = arguments::gather(&mut words);
+    let got = arguments::gather(&rt, &mut words);
     let n = got.n;
     if !got.whole {
         io::write_all(STDOUT_FILENO, b"failed\n");
         return;
     }
-    let r = serve(&words[..n], &mut out, &mut err);
+    let r = serve(&rt, &words[..n], &mut out, &mut err);
     print(r, &out, &err);
 }

@@ -1,5 +1,7 @@
 // Rows of a table moved up or down, over one another, as whole runs of bytes (document 02, "Rows in byte order"). The
 // definition stands in specs/Moves.antt, the laws in proofs/.
+#![tactic(auto)]
+
 ghost use Rattle.std.specs.Prelude.{◌≡◌, ◌+◌, ◌*◌, ◌≤◌, length};
 ghost use Rattle.table.specs.Table.{rows};
 ghost use Rattle.moving.specs.Moves.{moved};

@@ -1,5 +1,7 @@
 // The rows of an insert (document 01, "Operations"; document 02, "Find by several fields"): those of M, V and R
 // (entries) and S are made and, with the counter's, placed in their tables.
+#![tactic(auto)]
+
 ghost use Rattle.std.specs.Prelude.{◌≡◌, ◌*◌, ◌≤◌, length, replicate, true};
 ghost use Rattle.table.specs.Table.{rows};
 ghost use Rattle.table.specs.Order.{ascending, sorted, with_rows};

@@ -1,5 +1,7 @@
 // Rows of table C given up for one row (document 01, "Operations": compaction): one row is exchanged; several are
 // closed up, and the row is merged in. The table stays in form.
+#![tactic(auto)]
+
 ghost use Rattle.std.specs.Prelude.{◌≡◌, false, ◌∷◌, [], ◌*◌, ◌≤◌, ◌<◌, length, take};
 ghost use Rattle.table.specs.Lists.{All};
 ghost use Rattle.table.specs.Table.{rows, is_free, free_at};

@@ -2,7 +2,8 @@
 ghost use Rattle.std.specs.Prelude.{◌≡◌};
 
 use answer::{Compaction, Completion, Counted, Faults, Inspected, Refusal, Tallied, Tally};
-use libc::STDOUT_FILENO;
+
+const STDOUT_FILENO: i32 = 1;
 
 pub fn text(bytes: &[u8])
     ensures { result ≡ tt }

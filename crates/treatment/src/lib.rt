@@ -1,5 +1,7 @@
 // The treatment of one CL by a compaction (document 01, "Operations": compaction): the counters that
 // its reading held are freed and the next anchor is written. Table C alone is changed.
+#![tactic(auto)]
+
 ghost use Rattle.std.specs.Prelude.{◌≡◌, ◌+◌, ◌*◌, ◌≤◌, length};
 ghost use Rattle.table.specs.Table.{rows};
 ghost use Rattle.table.specs.Order.{used_rows, Searchable};

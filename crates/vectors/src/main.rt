@@ -10,11 +10,14 @@
 //
 // No contract can say what is read or written, so a function that only writes promises just that
 // it gives back nothing.
+#![tactic(auto)]
+
 ghost use Rattle.std.specs.Prelude.{◌≡◌};
 ghost use Rattle.chacha20.specs.Call.{cipher_text};
 
 use answer::Completion;
-use libc::STDOUT_FILENO;
+
+const STDOUT_FILENO: i32 = 1;
 
 // Room for a byte string: the longest that a call accepts is 65,536 bytes, and the records have
 // one of 65,537.
