@@ -7,7 +7,7 @@
 
 Tests: the worked list of document 01 ('A day in the ledger'), ids with several entries, the rows a count looks at, finds by several fields, rows in byte order, faults that a check counts, bad words, office and server
 apart, files that are no store, stores of version 1, refusals from the state, the largest store on a small stack, a disk that is full, a folder that cannot
-be written, no randomness, links, owner and mode, what a lock says, several tools at once, each call of the
+be written, no randomness, links, names that are no text, owner and mode, what a lock says, several tools at once, each call of the
 system failing or never reached, every state that a power cut may leave, and runs interrupted by kill -9. What
 the tool leaves in a store is read back by the model (tests/model) too, which shares no code with it. A test
 that cannot be run here is left out with a line that says so; under the gate that is a failure.
@@ -1011,6 +1011,24 @@ def links(b):
     b.refused(["key", "store"], "failed", "cannot make store: File exists")
 
 
+def odd_names(b):
+    """The name of a file is text: one that is not UTF-8 is not handed to the system, and nothing is made or changed. Below a folder of
+    such a name files have theirs from there."""
+    odd, none = os.fsdecode(b"odd\xff"), os.fsdecode(b"\xff")
+    shutil.copy(b.store, b.folder / odd)
+    before = b.files()
+    for words, said in ((["find", odd, "key", "hue", "red"], f"cannot open {odd}"), (["find", "store", odd, "hue", "red"], f"cannot open {odd}"),
+                        (["find", "store", "--token", "@" + odd], f"cannot open {odd}"), (["erase", odd, ident(1)], f"cannot make {odd}.lock"),
+                        (["new", none, 1, 4, 4, 4, 4], f"cannot make {none}.lock"), (["key", none], f"cannot make {none}")):
+        told = b.run(*words, errors="surrogateescape")
+        expect(told == ("failed\n", said + ": invalid filename\n"), f"odd names: {words}: {told}")
+        expect(b.files() == before, f"odd names: {words}: a file was made or changed")
+    (b.folder / none).mkdir()
+    for words in (["new", "store", 1, 4, 4, 4, 4], ["key", "key"]):
+        expect(b.run(*words, cwd=b.folder / none) == ("", ""), f"odd names: {words} in a folder of such a name")
+    expect(len((b.folder / none / "key").read_bytes()) == 32, "odd names: the key in a folder of such a name")
+
+
 def modes(b):
     """A store that is replaced keeps owner, group and mode; where it may not, the mode is narrowed."""
     def has():
@@ -1203,10 +1221,12 @@ def lock(b):
                   preexec_fn=lambda: resource.setrlimit(resource.RLIMIT_FSIZE, (limit, limit)))
     if shim:
         # a system that does not answer what it is asked is no reason to say that a process was stopped
-        for call, said in ((("statx", f"/proc/{gone}"), running.format(gone, at.name)), (("open", "/proc/sys/kernel/hostname"), elsewhere.format(gone, here, at.name))):
+        for call, name, said in (("statx", f"/proc/{gone}", running.format(gone, at.name)),
+                                 ("open", "/proc/sys/kernel/hostname", elsewhere.format(gone, here, at.name))):
             at.write_text(f"{gone} {here}\n")
-            made = [(c.name, name) for c in b.watched(erase)[3] for name in [[*c.words, ""][c.name == "statx"]]]
-            out, err, _, _ = b.watched(erase, made.index(call) + 1, fail=True)
+            made = [n for n, c in enumerate(b.watched(erase)[3], 1) if c.name == call and name in c.words]
+            expect(len(made) == 1, f"lock: {call} of {name} is made {len(made)} times")
+            out, err, _, _ = b.watched(erase, made[0], fail=True)
             expect(out == "failed\n" and err == said, f"lock: {call} fails: {out!r} {err!r}")
         at.unlink()
     if not shutil.which("cc"):
@@ -1291,8 +1311,8 @@ def compiled(folder):
         return {line.split()[0].split("@")[0] for line in lines}
 
     # what is no call of the system
-    others = {"memcpy", "memmove", "memset", "__errno_location", "__xpg_strerror_r", "__libc_start_main", "__sysv_signal", "__x86_get_cpuid_feature_leaf", "__cxa_finalize", "__gmon_start__",
-              "_ITM_registerTMCloneTable", "_ITM_deregisterTMCloneTable"}
+    others = {"memcpy", "memmove", "memset", "__errno_location", "__xpg_strerror_r", "__libc_start_main", "__sysv_signal",
+              "__x86_get_cpuid_feature_leaf", "__cxa_finalize", "__gmon_start__", "_ITM_registerTMCloneTable", "_ITM_deregisterTMCloneTable"}
     called = names("--undefined-only", BUILT) - others
     unseen = called - names("--defined-only", library)
     expect(called and not unseen, f"tests/calls.c does not stand before {unseen or 'any call'}")
@@ -1507,7 +1527,7 @@ def main():
              ("stores of version 1", old_stores, [1, 4, 4, 4, 4]),
              ("refusals from the state", states, [0, 8, 4, 2, 8]), ("the largest store", small_stack, [15, 4096, 4096, 4096, 4096]),
              ("writes that fail", lambda b: (b.answer("insert", "store", "key", "hue", "red", 0, ident(1)), no_room(b)), [1, 8, 8, 8, 8]),
-             ("links", links, [1, 4, 4, 4, 4]), ("modes", modes, [1, 64, 64, 64, 64]), ("lock", lock, [1, 4, 4, 4, 4]), ("tools at once", at_once, [1, 200, 200, 200, 200]),
+             ("links", links, [1, 4, 4, 4, 4]), ("odd names", odd_names, [1, 4, 4, 4, 4]), ("modes", modes, [1, 64, 64, 64, 64]), ("lock", lock, [1, 4, 4, 4, 4]), ("tools at once", at_once, [1, 200, 200, 200, 200]),
              ("every point", every_point, [1, 16, 16, 16, 16]), ("power cut", power_cut, [1, 16, 16, 16, 16]),
              ("kill -9", lambda b: interrupted(b, kills), [1, 4096, 512, 512, 4096])]
     with tempfile.TemporaryDirectory() as beside:

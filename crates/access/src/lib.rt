@@ -1,5 +1,7 @@
 // The files of a command, by the names that its line has: what is read of them, its store, its key or token; and the new
 // bytes of its store, written after a change alone.
+#![tactic(auto)]
+
 ghost use Rattle.std.specs.Prelude.{◌≡◌, true, false, min};
 ghost use Rattle.io.specs.Counts.{IsPrefixLen};
 ghost use Rattle.words.specs.Line.{word_at};

@@ -1,4 +1,6 @@
 // What the command-line tool tells of a store and of a refusal: how much room is left, and what to do.
+#![tactic(auto)]
+
 ghost use Rattle.std.specs.Prelude.{◌≡◌, ◌≤◌};
 ghost use Rattle.advice.specs.Advise.{is_old, room_for, room_of, advice_of, length_of};
 
@@ -66,6 +68,7 @@ fn is_old(store: &[u8]) -> bool
 }
 
 // The room of a store; of what is no store, none.
+#[tactic(auto, using(store::proofs::Laws::table_s, store::proofs::Laws::fits))]
 pub fn room_in(store: &[u8]) -> Room
     ensures { (result ≡ room_of store.now) × (result.logged ≤ 4096) }
 {
@@ -150,6 +153,7 @@ pub fn advise(r: Refusal, x: Room) -> Advice
 }
 
 // The length of a store of these sizes; 0 where one is above 4,096.
+#[tactic(auto, using(crate::proofs::Rules::length_rules), unfolding(scheme::specs::Store::length_for))]
 pub fn length(m: u64, c: u64, s: u64, r: u64) -> usize
     ensures { (result ≡ length_of m c s r) × (result ≤ 1134602) }
 {

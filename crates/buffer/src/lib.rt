@@ -1,5 +1,7 @@
 // A line put together in a lent slice, piece by piece: each function puts its piece after the first
 // `at` bytes, and answers where the piece ends.
+#![tactic(auto)]
+
 ghost use Rattle.std.specs.Prelude.{◌≡◌, ◌+◌, ◌≤◌, length};
 ghost use Rattle.buffer.specs.Put.{Put};
 ghost use Rattle.buffer.specs.Decimal.{decimal_text, counted};
@@ -14,6 +16,7 @@ pub fn put(to: &mut [u8], at: usize, words: &[u8]) -> usize
 }
 
 // Puts a number's decimal digits.
+#[tactic(auto, using(crate::proofs::Laws::said, crate::proofs::Number::fewest_text, crate::proofs::Number::at_most_20))]
 pub fn put_number(to: &mut [u8], at: usize, n: u64) -> usize
     requires { at + 20 ≤ length to.old }
     ensures { (Put to.old at (decimal_text n) to.new result) × (result ≤ at + 20) }

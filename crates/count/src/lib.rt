@@ -1,5 +1,7 @@
 // Count: the sum over the shares of what their counters count (document 01, "Operations"), with the rows looked at (document
 // 02, "Stop early, and say the rows read").
+#![tactic(auto)]
+
 ghost use Rattle.std.specs.Prelude.{◌≡◌, ◌*◌, ◌≤◌, length};
 ghost use Rattle.scheme.specs.Store.{table_c, width_of};
 ghost use Rattle.answer.specs.Answer.{tallied, without_rows, rows_of};

@@ -1,4 +1,6 @@
 // What a request of the command line needs of the system, and whether the store's file is written after it.
+#![tactic(auto)]
+
 ghost use Rattle.std.specs.Prelude.{◌≡◌, ◌≤◌};
 ghost use Rattle.request.specs.Request.{Bounded};
 ghost use Rattle.demand.specs.Needs.{needs_of, takes_key, takes_token, random_of};

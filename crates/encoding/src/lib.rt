@@ -1,5 +1,7 @@
 // An answer as one signed number of 64 bits, for callers in C (specs/Encoding.antt): each kind of answer's number, and what
 // stands beside it in lent numbers. proofs/Injective.antt says that nothing is lost by it. [01:FM14 FM15]
+#![tactic(auto)]
+
 ghost use Rattle.std.specs.Prelude.{◌≡◌, ◌^◌, ◌<◌, pos, neg_ℤ};
 ghost use Rattle.answer.specs.Answer.{carried_by, refusal, completion as completion_of, counted as counted_of, tallied as tallied_of, without_rows, faults_of, inspected as inspected_of, compaction_answer};
 ghost use Rattle.table.specs.Lists.{sum};

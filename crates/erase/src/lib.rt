@@ -1,5 +1,7 @@
 // Erase of an id (document 01, "Operations"; document 02, "Find by several fields"): frees all its V
 // rows, each M row with a tag of theirs, and all its R rows.
+#![tactic(auto)]
+
 ghost use Rattle.std.specs.Prelude.{◌≡◌, ◌*◌, ◌≤◌, ◌<◌, length, replicate};
 ghost use Rattle.table.specs.Lists.{count};
 ghost use Rattle.table.specs.Table.{rows, used};

@@ -1,5 +1,7 @@
 // Who holds a lock. A lock file has one line: the number of the process that made it, a space, the name of
 // its host and a line feed. Here the line is put together, and read: whatever a file holds may be given.
+#![tactic(auto)]
+
 ghost use Rattle.std.specs.Prelude.{◌≡◌, ◌+◌, ◌≤◌, length};
 ghost use Rattle.io.specs.Counts.{IsPrefixLen};
 ghost use Rattle.buffer.specs.Put.{Put};
@@ -29,6 +31,7 @@ pub fn put_line(to: &mut [u8], process: u64, host: &[u8]) -> usize
 }
 
 // Where a byte first stands in a text, or the text's length.
+#[tactic(auto, using(crate::proofs::Laws::before_on, crate::proofs::Laws::before_stops, crate::proofs::Laws::before_ends, crate::proofs::Rules::find_rules))]
 fn find(text: &[u8], b: u8) -> usize
     ensures value { result ≡ before b text.now }
     ensures prefix_len { IsPrefixLen result text.now }
@@ -72,6 +75,7 @@ fn body(line: &[u8]) -> &[u8]
 }
 
 // The host that a line names: what stands after its first space.
+#[tactic(auto, using(crate::proofs::Laws::beyond_found, crate::proofs::Laws::beyond_none))]
 pub fn host(line: &[u8]) -> &[u8]
     ensures { result.now ≡ host_of line.now }
 {
@@ -95,6 +99,7 @@ fn is_shown(b: u8) -> bool
 }
 
 // Whether every byte of a text can be seen.
+#[tactic(auto, using(crate::proofs::Laws::shown_next, crate::proofs::Laws::shown_bad, crate::proofs::Laws::shown_end))]
 fn all_shown(text: &[u8]) -> bool
     ensures { result ≡ all_shown text.now }
 {
@@ -109,6 +114,7 @@ fn all_shown(text: &[u8]) -> bool
 }
 
 // Whether a text can be a host's name: a byte or more, all of which can be seen.
+#[tactic(auto, using(crate::proofs::Rules::is_name_rules))]
 fn is_name(text: &[u8]) -> bool
     ensures { result ≡ is_name text.now }
 {
@@ -132,6 +138,7 @@ fn positive(p: Parsed) -> Parsed
 }
 
 // The process that a line names, where it is such a line.
+#[tactic(auto, using(crate::proofs::Laws::picked, crate::proofs::Laws::unpicked))]
 pub fn process(line: &[u8]) -> Parsed
     ensures { result ≡ process_of line.now }
 {

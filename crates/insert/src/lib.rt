@@ -1,6 +1,8 @@
 // Insert (document 01, "Operations"; document 02, "Find by several fields"): refusals from the input,
 // then from the state, in the definition's order (admission); then the new rows are made and placed
 // (placing).
+#![tactic(auto)]
+
 ghost use Rattle.std.specs.Prelude.{◌≡◌, ◌*◌};
 ghost use Rattle.table.specs.Table.{rows};
 ghost use Rattle.answer.specs.Answer.{counted};

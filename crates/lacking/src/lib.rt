@@ -1,5 +1,7 @@
 // Rows of a table in form whose id another such table lacks (the request "Check"): both ascend by id, and are walked through
 // together.
+#![tactic(auto)]
+
 ghost use Rattle.std.specs.Prelude.{◌≡◌, map, ◌+◌, ◌*◌, ◌≤◌, length, take, drop};
 ghost use Rattle.table.specs.Lists.{lacking as lacking_in};
 ghost use Rattle.table.specs.Table.{rows, used as used_in};

@@ -1,5 +1,7 @@
 // The lines that the command-line tool prints to standard output, as bytes at the start of a lent slice.
 // Each function answers how many bytes there are, and which these are is said by specs/.
+#![tactic(auto)]
+
 ghost use Rattle.std.specs.Prelude.{◌≡◌, ◌+◌, ◌*◌, ◌≤◌, length};
 ghost use Rattle.buffer.specs.Put.{Put};
 ghost use Rattle.lines.specs.Answer.{refused_line, answer_line, count_lines};
@@ -20,6 +22,7 @@ fn put_refused(to: &mut [u8], number: u64) -> usize
 }
 
 // What standard output gets of an outcome; what a check counted is told by crates/diagnosis.
+#[tactic(auto, using(buffer::proofs::Laws::nothing, buffer::proofs::Laws::said), unfolding(crate::specs::Answer::answer_line))]
 pub fn answer(o: Outcome, to: &mut [u8]) -> usize
     requires { 256 ≤ length to.old }
     ensures { Put to.old 0 (answer_line o) to.new result }
@@ -59,6 +62,7 @@ fn put_digits(to: &mut [u8], at: usize, bytes: &[u8], digits: &mut [u8]) -> usiz
 }
 
 // The line of an id's or a token's digits, after the first `at` bytes.
+#[tactic(auto, using(crate::proofs::Rules::put_hex_rules))]
 pub fn put_hex(to: &mut [u8], at: usize, bytes: &[u8]) -> usize
     requires { (length bytes.now ≤ 173) × (at + (2 * length bytes.now + 1) ≤ length to.old) }
     ensures { (Put to.old at (hex_line bytes.now) to.new result) × (result ≡ at + (2 * length bytes.now + 1)) }
@@ -69,6 +73,7 @@ pub fn put_hex(to: &mut [u8], at: usize, bytes: &[u8]) -> usize
 }
 
 // The lines of the first n ids of a slice.
+#[tactic(auto, using(buffer::proofs::Laws::nothing, buffer::proofs::Laws::said, crate::proofs::Laws::next_id), unfolding(crate::specs::Ids::id_lines))]
 pub fn ids(found: &[u8], n: usize, to: &mut [u8]) -> usize
     requires { (16 * n ≤ length found.now) × (33 * n ≤ length to.old) }
     ensures { Put to.old 0 (id_lines n found.now) to.new result }

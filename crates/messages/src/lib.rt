@@ -1,4 +1,6 @@
 // What standard error gets of an outcome: of a refusal, its number and what to do.
+#![tactic(auto)]
+
 ghost use Rattle.std.specs.Prelude.{◌+◌, ◌≤◌, ◌<◌, length};
 ghost use Rattle.buffer.specs.Put.{Put};
 ghost use Rattle.messages.specs.Message.{plural, room_sentence, place_of, sentence_of, message_line};
@@ -54,6 +56,7 @@ const WRONG_KEY: [u8; 140] =
     *b"none of the logged counters was found: this key is not the one that the store was filled with, or the file was damaged: nothing was changed\n";
 
 // Puts a number with the words for one, or for another number.
+#[tactic(auto, using(buffer::proofs::Laws::said, crate::proofs::Rules::put_plural_rules), unfolding(crate::specs::Message::plural))]
 fn put_plural(to: &mut [u8], at: usize, n: u64, one: &[u8], many: &[u8]) -> usize
     requires { (length one.now ≤ 16) × ((length many.now ≤ 16) × (at + 36 ≤ length to.old)) }
     ensures { (Put to.old at (plural n one.now many.now) to.new result) × (result ≤ at + 36) }
@@ -103,6 +106,7 @@ fn put_token_shares(to: &mut [u8], at: usize, p: u64) -> usize
 }
 
 // What to say where n ids were found, more than a store can hold.
+#[tactic(auto, unfolding(crate::specs::Message::sentence_of))]
 fn put_output(to: &mut [u8], at: usize, n: u64) -> usize
     requires { at + 200 ≤ length to.old }
     ensures { Put to.old at (sentence_of (Advice.Output n) 0) to.new result }
@@ -116,6 +120,7 @@ fn put_output(to: &mut [u8], at: usize, n: u64) -> usize
 }
 
 // What to say of room that is wanting, or of what never should be; no other advice comes here.
+#[tactic(auto, using(crate::proofs::Arms::arm), unfolding(crate::specs::Message::sentence_of))]
 fn put_on_room(to: &mut [u8], at: usize, a: Advice, given: u64) -> usize
     requires { (at + 200 ≤ length to.old) × (13 < place_of a) }
     ensures { Put to.old at (sentence_of a given) to.new result }
@@ -140,6 +145,7 @@ fn put_on_room(to: &mut [u8], at: usize, a: Advice, given: u64) -> usize
 }
 
 // What to say of a store, of its counters and of its room.
+#[tactic(auto, using(crate::proofs::Arms::arm), unfolding(crate::specs::Message::sentence_of))]
 fn put_on_store(to: &mut [u8], at: usize, a: Advice, given: u64) -> usize
     requires { (at + 200 ≤ length to.old) × (6 < place_of a) }
     ensures { Put to.old at (sentence_of a given) to.new result }
@@ -157,6 +163,7 @@ fn put_on_store(to: &mut [u8], at: usize, a: Advice, given: u64) -> usize
 }
 
 // What is wrong, and what to do: of what was given here, of the store and its room in the functions above.
+#[tactic(auto, using(crate::proofs::Arms::arm), unfolding(crate::specs::Message::sentence_of))]
 fn put_sentence(to: &mut [u8], at: usize, a: Advice, given: u64) -> usize
     requires { at + 200 ≤ length to.old }
     ensures { Put to.old at (sentence_of a given) to.new result }
@@ -174,6 +181,7 @@ fn put_sentence(to: &mut [u8], at: usize, a: Advice, given: u64) -> usize
 }
 
 // A refusal's number and what to do.
+#[tactic(auto, using(buffer::proofs::Laws::then, buffer::proofs::Laws::said), unfolding(crate::specs::Message::message_line))]
 fn put_refusal(to: &mut [u8], r: Refusal, room: Room, given: u64) -> usize
     requires { 256 ≤ length to.old }
     ensures { Put to.old 0 (message_line (Outcome.Refused r room) given) to.new result }
@@ -193,6 +201,7 @@ fn put_damaged(to: &mut [u8], t: Tally) -> usize
 }
 
 // What standard error gets of an outcome, where so many ids were given.
+#[tactic(auto, using(buffer::proofs::Laws::nothing, buffer::proofs::Laws::said), unfolding(crate::specs::Message::message_line))]
 pub fn message(o: Outcome, given: u64, to: &mut [u8]) -> usize
     requires { 256 ≤ length to.old }
     ensures { Put to.old 0 (message_line o given) to.new result }

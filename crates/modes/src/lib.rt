@@ -1,4 +1,6 @@
 // The rights of a file: those for its owner alone, and those that a file may take over from another.
+#![tactic(auto)]
+
 ghost use Rattle.std.specs.Prelude.{◌≡◌};
 ghost use Rattle.modes.specs.Modes.{mode_of, private_rights};
 

@@ -1,5 +1,7 @@
 // The office's half of a call: a token, made of a key (document 01, "Keys and tokens"), with what the tool tells of
 // it. A refusal tells of the p that was given, since there is no store.
+#![tactic(auto)]
+
 ghost use Rattle.std.specs.Prelude.{◌≡◌};
 ghost use Rattle.scheme.specs.Keys.{insert_token, find_token, count_token, compaction_token};
 ghost use Rattle.scheme.specs.Refusals.{insert_token_tests, field_token_tests, key_tests};

@@ -1,4 +1,6 @@
 // The bytes that the words of a command line stand for: ids, and in the module `token` its token.
+#![tactic(auto)]
+
 ghost use Rattle.std.specs.Prelude.{◌≡◌, ◌+◌, ◌*◌, ◌≤◌, length};
 ghost use Rattle.operands.specs.Ids.{id_of, ids_of};
 
@@ -19,6 +21,7 @@ pub fn id(word: &[u8], to: &mut [u8])
 }
 
 // The ids of n words from word `first` on.
+#[tactic(auto, using(crate::proofs::Laws::ids_more), unfolding(crate::specs::Ids::ids_of))]
 pub fn ids(line: &[u8], first: usize, n: usize, to: &mut [u8])
     requires { (length to.old ≡ 16 * n) × (first + n ≤ 4096) }
     ensures { to.new ≡ ids_of first n line.now }

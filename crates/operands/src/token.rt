@@ -29,6 +29,7 @@ fn trimmed(text: &[u8]) -> &[u8]
 }
 
 // The bytes of a token's text: as many as there is room for, or none where it is no such text. Answers how many.
+#[tactic(auto, using(crate::proofs::Rules::token_bytes_rules), unfolding(crate::specs::Token::token_of, crate::specs::Token::token_lent))]
 fn bytes(text: &[u8], to: &mut [u8]) -> usize
     requires { length to.old ≤ 4096 }
     ensures to_after { take result to.new ≡ token_of (length to.old) text.now }

@@ -1,4 +1,6 @@
 // Order: the call that puts a store in form (document 02, "Rows in byte order").
+#![tactic(auto)]
+
 ghost use Rattle.std.specs.Prelude.{◌≡◌, ◌*◌, ◌≤◌, length, replicate};
 ghost use Rattle.answer.specs.Answer.{counted};
 ghost use Rattle.table.specs.Table.{rows, used};

@@ -1,5 +1,7 @@
 // What became of a command of the tool, made of the library's answers: a refusal goes with the room that the store had,
 // and a compaction may have been made with another key than the store's.
+#![tactic(auto)]
+
 ghost use Rattle.std.specs.Prelude.{◌≡◌};
 ghost use Rattle.answer.specs.Answer.{counted, tallied, inspected, completion, compaction_answer};
 ghost use Rattle.outcome.specs.Told.{told, is_wrong_key, compacted, with_room};

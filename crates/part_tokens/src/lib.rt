@@ -1,5 +1,7 @@
 // The parts of a joint find in a list of calls, made of one text and the places where its pieces end, three to a part: key,
 // name and value (document 02, "Find by several fields"). [02:W4.18 W4.24 W4.25]
+#![tactic(auto)]
+
 ghost use Rattle.std.specs.Prelude.{◌≡◌, ◌+◌, ◌*◌, ◌≤◌, length};
 ghost use Rattle.answer.specs.Answer.{completion};
 ghost use Rattle.scheme.specs.Run.{part_of, part_token_tests};

@@ -1,5 +1,7 @@
 // The parts of a find by several fields, made of a key and of a line's words, pair by pair (document 02, "Find by several
 // fields").
+#![tactic(auto)]
+
 ghost use Rattle.std.specs.Prelude.{◌≡◌, ◌*◌, ◌<◌, ◌≤◌, length};
 ghost use Rattle.answer.specs.Answer.{completion};
 ghost use Rattle.scheme.specs.Run.{part_of, part_token_tests};

@@ -1,4 +1,6 @@
 // The names of the files beside a store or a key, and the folder's part of a path.
+#![tactic(auto)]
+
 ghost use Rattle.std.specs.Prelude.{◌≡◌, ◌++◌, ◌+◌, ◌≤◌, length, take};
 ghost use Rattle.io.specs.Counts.{IsPrefixLen};
 ghost use Rattle.buffer.specs.Put.{Put};
@@ -17,6 +19,7 @@ fn beside(path: &[u8], ending: &[u8], to: &mut [u8]) -> usize
 }
 
 // How long the folder's part of a path is: up to its last slash.
+#[tactic(auto, using(crate::proofs::Laws::folder_next, crate::proofs::Laws::folder_end, crate::proofs::Rules::folder_rules))]
 pub fn folder(path: &[u8]) -> usize
     ensures value { result ≡ folder_of path.now }
     ensures upper_bound { (result ≤ length path.now) × (result ≡ length (take result path.now)) }
@@ -52,6 +55,7 @@ pub fn new_name(path: &[u8], to: &mut [u8]) -> usize
 }
 
 // The name that a file of that name is made under, in the same folder. Answers its length.
+#[tactic(auto, using(buffer::proofs::Laws::said, buffer::proofs::Laws::counts))]
 pub fn temporary_name(name: &[u8], to: &mut [u8]) -> usize
     requires { (length name.now ≤ 4101) × (length to.old ≡ 4120) }
     ensures put { Put to.old 0 (temporary_of name.now) to.new result }

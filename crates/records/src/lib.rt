@@ -1,12 +1,15 @@
 // Records on standard input, and bytes on standard output: what the test programs share. A number is
 // 4 bytes, big-endian. A byte string is its form, one byte, and its length, a number; form 0 has the
 // bytes, form 1 a seed, a number, of which the pattern is made.
+#![tactic(auto)]
+
 mod pattern;
 
 ghost use Rattle.std.specs.Prelude.{◌≡◌, ◌<◌, ◌^◌, length};
 ghost use Rattle.io.specs.Counts.{IsPrefixLen};
 
 const STDIN_FILENO: i32 = 0;
+
 const STDOUT_FILENO: i32 = 1;
 
 // A byte as a wider number.

@@ -10,6 +10,7 @@ fn following(x: u64) -> u64
     (x * 1103515245 + 12345) % 0x80000000
 }
 
+#[tactic(auto, using(crate::proofs::Rules::pattern_fill_rules), unfolding(crate::specs::Pattern::pattern))]
 pub fn fill(to: &mut [u8], seed: u64)
     requires { seed < 2 ^ 32 }
     ensures { to.new ≡ pattern (length to.old) seed }

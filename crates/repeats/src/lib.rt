@@ -1,5 +1,7 @@
 // Tags that stand twice in a table in form (the request "Check"): equal tags stand together, so that each row is compared with
 // the one before it. The laws of the keys of used rows, for matching and lacking too, stand in proofs/Keys.antt.
+#![tactic(auto)]
+
 ghost use Rattle.std.specs.Prelude.{◌≡◌, map, ◌+◌, ◌*◌, ◌≤◌, length, take, drop};
 ghost use Rattle.octets.specs.Compare.{same as same_bytes};
 ghost use Rattle.table.specs.Lists.{repeats as repeats_in};

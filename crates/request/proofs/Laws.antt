@@ -1,13 +1,10 @@
 -- Laws of what a line asks for: the first word that is no id, numbers, a token's making, and that every request is bounded.
-use Prim.Native.Nat.{ℕ, zero, suc, ◌+◌, ◌*◌, ◌-◌, ◌/◌, ◌%◌, ◌<◌, ◌≤◌}
+use Prim.Native.Nat.{ℕ, zero, suc, ◌+◌, ◌-◌, ◌/◌, ◌%◌, ◌<◌, ◌≤◌}
 use mathlib.Core.Path.{◌≡◌, refl, sym, ap, ap₂, subst, ◌∙◌}
 use mathlib.Core.Bool.{Bool, true, false, cond}
-use mathlib.Core.List.{List, [], ◌∷◌}
-use native.Mathlib.Numerals.{add-one}
+use mathlib.Core.List.{List}
 use native.Mathlib.Omega.{arith}
 use lib.Dec.{ltb, eqb}
-use denote.Enum.Declared.{tag_of}
-use types.Run.{OneOf, miss}
 use borrow.Author.Tests.{ltb-false}
 use Rattle.octets.specs.Compare.{same}
 use Rattle.text.specs.Ascii.{ascii}
@@ -17,7 +14,6 @@ use Rattle.words.specs.Words.{command_of, words_fit}
 use Rattle.words.specs.Decimal.{decimal_of}
 use Rattle.words.specs.declared.Parsed.{Parsed}
 use Rattle.words.specs.declared.Parsed.TheVariants.{Number, Bad}
-use Rattle.words.specs.contracts.Command.{the_type}
 use Rattle.words.specs.declared.Command.{Command}
 use Rattle.words.specs.declared.Command.TheVariants.{New as New₀, Key as Key₀, Insert as Insert₀, Find as Find₀, Count as Count₀, Erase as Erase₀, Compact as Compact₀, Order as Order₀, Token as Token₀, Show as Show₀, Check as Check₀, Help as Help₀, Unknown}
 use Rattle.request.specs.Request.{with_number, with_ids, ids_from, first_bad, ids_given, new_of, insert_of, insert_by_of, find_of, count_of, erase_of, insert_token_of, making_by, making_of, pick_request, has_token, request_by, request_with, request_of, Bounded}
@@ -74,23 +70,20 @@ unfolding making_of
 making_of_lem line c d n r e k h p = p ∙ ap₂ (λ (x : Command) (m : ℕ). making_by x m line) (sym h ∙ e) k
 
 -- no other command's token is made
-abbrev unmade : List ℕ
-unmade = 0 ∷ 1 ∷ 5 ∷ 7 ∷ 8 ∷ 9 ∷ 10 ∷ 11 ∷ 12 ∷ []
-
-pub none_made : (c : Command) (n : ℕ) (line : List ℕ) → OneOf unmade (tag_of the_type c) → Misused Token₀ ≡ making_by c n line
-none_made New₀ n line h = refl
-none_made Key₀ n line h = refl
-none_made Insert₀ n line h = absurd (miss unmade 2 tt h)
-none_made Find₀ n line h = absurd (miss unmade 3 tt h)
-none_made Count₀ n line h = absurd (miss unmade 4 tt h)
-none_made Erase₀ n line h = refl
-none_made Compact₀ n line h = absurd (miss unmade 6 tt h)
-none_made Order₀ n line h = refl
-none_made Token₀ n line h = refl
-none_made Show₀ n line h = refl
-none_made Check₀ n line h = refl
-none_made Help₀ n line h = refl
-none_made Unknown n line h = refl
+pub none_made : (c : Command) (n : ℕ) (line : List ℕ) → (c ≡ Insert₀ → ⊥) → (c ≡ Find₀ → ⊥) → (c ≡ Count₀ → ⊥) → (c ≡ Compact₀ → ⊥) → Misused Token₀ ≡ making_by c n line
+none_made New₀ n line i f k z = refl
+none_made Key₀ n line i f k z = refl
+none_made Insert₀ n line i f k z = absurd (i refl)
+none_made Find₀ n line i f k z = absurd (f refl)
+none_made Count₀ n line i f k z = absurd (k refl)
+none_made Erase₀ n line i f k z = refl
+none_made Compact₀ n line i f k z = absurd (z refl)
+none_made Order₀ n line i f k z = refl
+none_made Token₀ n line i f k z = refl
+none_made Show₀ n line i f k z = refl
+none_made Check₀ n line i f k z = refl
+none_made Help₀ n line i f k z = refl
+none_made Unknown n line i f k z = refl
 
 -- every request is bounded
 bounded_number : (d : Parsed) (i : ℕ) (f : ℕ → Request) → ((n : ℕ) → Bounded (f n)) → Bounded (with_number d i f)

@@ -1,4 +1,6 @@
 // What a command line asks for: the command with its numbers, or which word is wrong.
+#![tactic(auto)]
+
 ghost use Rattle.std.specs.Prelude.{◌≡◌, true, false, ◌+◌, ◌≤◌};
 ghost use Rattle.words.specs.Decimal.{decimal_of};
 ghost use Rattle.words.specs.Line.{word_at};
@@ -63,6 +65,7 @@ pub enum Request {
 }
 
 // Which word from word i on is the first that is no id, of n words; the word after them where all are.
+#[tactic(auto, using(crate::proofs::Laws::bad_later, crate::proofs::Laws::bad_here, crate::proofs::Laws::bad_none))]
 fn first_bad(line: &[u8], i: usize, n: usize) -> usize
     requires { i + n ≤ 4096 }
     ensures { result ≡ first_bad n i line.now }
@@ -86,6 +89,7 @@ fn number(line: &[u8], i: usize) -> Parsed
     words::decimal(line::word(line, i))
 }
 
+#[tactic(auto, unfolding(crate::specs::Request::new_of))]
 fn new(line: &[u8]) -> Request
     ensures { result ≡ new_of line.now }
 {
@@ -115,6 +119,7 @@ fn ids_given(line: &[u8], first: usize) -> usize
     octets::least(octets::above(line::count(line), first), 65)
 }
 
+#[tactic(auto, using(crate::proofs::Laws::ids_bad, crate::proofs::Laws::ids_good, crate::proofs::Rules::insert_rules), unfolding(crate::specs::Request::insert_of))]
 fn insert(line: &[u8]) -> Request
     ensures { result ≡ insert_of line.now }
 {
@@ -129,6 +134,7 @@ fn insert(line: &[u8]) -> Request
     Request::Insert { u, n }
 }
 
+#[tactic(auto, using(crate::proofs::Laws::ids_bad, crate::proofs::Laws::ids_good, crate::proofs::Rules::insert_by_rules), unfolding(crate::specs::Request::insert_by_of))]
 fn insert_by(line: &[u8]) -> Request
     ensures { result ≡ insert_by_of line.now }
 {
@@ -141,6 +147,7 @@ fn insert_by(line: &[u8]) -> Request
 }
 
 // A find by the pairs of words after the key file. [02:W4.18]
+#[tactic(auto, using(crate::proofs::Rules::find_rules), unfolding(crate::specs::Request::find_of))]
 fn find(line: &[u8]) -> Request
     ensures { result ≡ find_of line.now }
 {
@@ -156,6 +163,7 @@ fn find(line: &[u8]) -> Request
 }
 
 // A count that takes n words: this request, and the other where `--rows` follows them.
+#[tactic(auto, using(crate::proofs::Rules::with_rows_rules), unfolding(crate::specs::Request::count_of))]
 fn with_rows(line: &[u8], n: usize, plain: Request, rows: Request) -> Request
     requires { n ≤ 5 }
     ensures { result ≡ count_of n plain rows line.now }
@@ -196,6 +204,7 @@ fn count_by(line: &[u8]) -> Request
     )
 }
 
+#[tactic(auto, unfolding(crate::specs::Request::erase_of))]
 fn erase(line: &[u8]) -> Request
     ensures { result ≡ erase_of line.now }
 {
@@ -206,6 +215,7 @@ fn erase(line: &[u8]) -> Request
     }
 }
 
+#[tactic(auto, unfolding(crate::specs::Request::insert_token_of))]
 fn insert_token(line: &[u8]) -> Request
     ensures { result ≡ insert_token_of line.now }
 {
@@ -219,6 +229,7 @@ fn insert_token(line: &[u8]) -> Request
 }
 
 // A token's making, by the command that it is for.
+#[tactic(auto, using(crate::proofs::Laws::making_of_lem, crate::proofs::Laws::none_made, crate::proofs::Rules::making_rules))]
 fn making(line: &[u8]) -> Request
     ensures { result ≡ making_of line.now }
 {
@@ -263,6 +274,7 @@ fn by_command(c: Command, token: bool, line: &[u8]) -> Request
 }
 
 // What a line asks for.
+#[tactic(auto, using(crate::proofs::Laws::asked, crate::proofs::Laws::misused, crate::proofs::Laws::bounded))]
 pub fn read(line: &[u8]) -> Request
     ensures value { result ≡ request_of line.now }
     ensures bounded { Bounded result }

@@ -1,5 +1,7 @@
 // What the command `show` prints of a store, as bytes at the start of a lent slice: its shares and how
 // full its tables are.
+#![tactic(auto)]
+
 ghost use Rattle.std.specs.Prelude.{◌≡◌, ◌+◌, ◌≤◌, length};
 ghost use Rattle.buffer.specs.Put.{Put};
 ghost use Rattle.show.specs.Show.{bar_text, table_line, shares_line, entry_lines, shape_lines};

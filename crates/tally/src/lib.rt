@@ -1,5 +1,7 @@
 // The line of what a compaction has done, as bytes in a lent slice: on standard output where it was done, in
 // the message where it met damage.
+#![tactic(auto)]
+
 ghost use Rattle.std.specs.Prelude.{◌+◌, ◌≤◌, length};
 ghost use Rattle.buffer.specs.Put.{Put};
 ghost use Rattle.tally.specs.Line.{tally_line};

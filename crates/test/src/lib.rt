@@ -1,5 +1,7 @@
 // Test: whether the document of an id has a label (document 02, "Find by several fields"). The rows of R
 // that are the id's stand together, so that no others are looked at.
+#![tactic(auto)]
+
 ghost use Rattle.std.specs.Prelude.{◌≡◌, cond, ◌*◌, length};
 ghost use Rattle.answer.specs.Answer.{counted};
 ghost use Rattle.table.specs.Table.{rows};

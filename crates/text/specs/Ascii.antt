@@ -1,6 +1,6 @@
 -- The bytes of a text.
 use Rattle.std.specs.Prelude.{ℕ, List, [], ◌∷◌}
-use Prim.Native.Char.{Char, code}
+use Prim.Native.Char.{code}
 use Prim.Native.String.{String, [] as []ₛ, ◌∷◌ as ◌∷ₛ◌}
 
 abbrev pub ascii : String → List ℕ

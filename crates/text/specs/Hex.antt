@@ -1,5 +1,5 @@
 -- Bytes as hexadecimal text, two digits to a byte, the high one first; digits are read in either case.
-use Rattle.std.specs.Prelude.{ℕ, zero, suc, ◌+◌, ◌*◌, ◌-◌, ◌/◌, ◌%◌, Bool, true, false, cond, ◌&&◌, List, [], ◌∷◌, ltb, eqb, length, get_or}
+use Rattle.std.specs.Prelude.{ℕ, ◌+◌, ◌*◌, ◌-◌, ◌/◌, ◌%◌, Bool, true, false, cond, List, [], ◌∷◌, ltb, eqb, length, get_or}
 use Rattle.text.specs.Tabulate.{tabulate}
 
 -- the value of a digit, or 16

@@ -1,5 +1,5 @@
 -- A text given place by place.
-use Rattle.std.specs.Prelude.{ℕ, zero, suc, ◌+◌, List, [], ◌∷◌, ◌++◌}
+use Rattle.std.specs.Prelude.{ℕ, zero, suc, List, [], ◌∷◌, ◌++◌}
 
 -- the values of f at 0 to n - 1
 unfoldable pub tabulate : (ℕ → ℕ) → ℕ → List ℕ

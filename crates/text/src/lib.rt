@@ -1,4 +1,6 @@
 // Bytes as text: hexadecimal, read and written, and bars.
+#![tactic(auto)]
+
 ghost use Rattle.std.specs.Prelude.{◌≡◌, ◌*◌, ◌≤◌, ◌<◌, length};
 ghost use Rattle.text.specs.Hex.{nibble_of, all_hex, is_hex_of, is_id_of, unhex_of, pair_of, hex_of, digit_at};
 ghost use Rattle.text.specs.Hex.{glyph as Hex·glyph};
@@ -30,6 +32,7 @@ fn nibble(b: u8) -> u8
 }
 
 // Whether every byte is a hexadecimal digit.
+#[tactic(auto, using(crate::proofs::Laws::hex_next, crate::proofs::Laws::hex_bad, crate::proofs::Laws::hex_end, crate::proofs::Rules::all_hex_rules))]
 fn all_hex(word: &[u8]) -> bool
     ensures { result ≡ all_hex word.now }
 {
@@ -68,6 +71,7 @@ fn pair(a: u8, b: u8) -> u8
 }
 
 // The bytes that a word of twice as many digits stands for.
+#[tactic(auto, using(crate::proofs::Laws::grown, crate::proofs::Rules::unhex_rules), unfolding(crate::specs::Tabulate::tabulate))]
 pub fn unhex(word: &[u8], to: &mut [u8])
     requires { length word.now ≡ 2 * length to.old }
     ensures { to.new ≡ unhex_of word.now (length to.old) }
@@ -100,6 +104,7 @@ fn digit(bytes: &[u8], j: usize) -> u8
 }
 
 // The hexadecimal text of bytes, two digits each.
+#[tactic(auto, using(crate::proofs::Laws::grown, crate::proofs::Rules::hex_rules), unfolding(crate::specs::Tabulate::tabulate))]
 pub fn hex(bytes: &[u8], to: &mut [u8])
     requires { length to.old ≡ 2 * length bytes.now }
     ensures { to.new ≡ hex_of bytes.now (length to.old) }
@@ -120,6 +125,7 @@ fn bar_mark(used: usize, total: usize, width: usize, i: usize) -> u8
 }
 
 // A bar of a slice's width, filled as far as `used` is of `total`.
+#[tactic(auto, using(crate::proofs::Laws::grown, crate::proofs::Rules::bar_rules), unfolding(crate::specs::Tabulate::tabulate))]
 pub fn bar(used: usize, total: usize, to: &mut [u8])
     requires { (used ≤ 65536) × ((total ≤ 65536) × (length to.old ≤ 65536)) }
     ensures { to.new ≡ bar_of used total (length to.old) (length to.old) }

@@ -10,6 +10,8 @@
 //
 // No contract can say what is read or written, so a function that only writes promises just that
 // it gives back nothing.
+#![tactic(auto)]
+
 ghost use Rattle.std.specs.Prelude.{◌≡◌};
 ghost use Rattle.chacha20.specs.Call.{cipher_text};
 

@@ -1,4 +1,6 @@
 // The words of the command line: commands by their names, and decimals.
+#![tactic(auto)]
+
 pub mod line;
 
 ghost use Rattle.std.specs.Prelude.{◌≡◌};
@@ -48,6 +50,7 @@ fn step(n: u64, b: u8) -> Parsed
 }
 
 // A word as a decimal below 1,000,000,000.
+#[tactic(auto, using(crate::proofs::Laws::no_digit, crate::proofs::Laws::first_digit, crate::proofs::Laws::next_digit, crate::proofs::Laws::bad_digit, crate::proofs::Laws::no_more))]
 pub fn decimal(word: &[u8]) -> Parsed
     ensures { result ≡ decimal_of word.now }
 {
@@ -67,6 +70,7 @@ pub fn decimal(word: &[u8]) -> Parsed
 }
 
 // Whether a word is a name.
+#[tactic(auto, using(crate::proofs::Laws::differ))]
 pub fn is(word: &[u8], name: &[u8]) -> bool
     ensures { result ≡ same_bytes word.now name.now }
 {

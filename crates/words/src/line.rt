@@ -3,6 +3,7 @@ ghost use Rattle.std.specs.Prelude.{◌≡◌, ◌+◌, ◌≤◌, length, drop}
 ghost use Rattle.words.specs.Line.{word_length, after_word, from_word, word_at, word_count};
 
 // Where the word that starts at a place ends.
+#[tactic(auto, using(crate::proofs::Lines::word_on, crate::proofs::Lines::word_stops, crate::proofs::Lines::word_ends))]
 fn end_of(line: &[u8], start: usize) -> usize
     requires { start ≤ length line.now }
     ensures { (result ≡ start + word_length (drop start line.now)) × (result ≤ length line.now) }
@@ -18,6 +19,7 @@ fn end_of(line: &[u8], start: usize) -> usize
 }
 
 // Where the word after the one that starts at a place starts.
+#[tactic(auto, using(crate::proofs::Lines::after_word_lem, crate::proofs::Lines::after_last))]
 fn after(line: &[u8], start: usize) -> usize
     requires { start ≤ length line.now }
     ensures { (drop result line.now ≡ after_word (drop start line.now)) × (result ≤ length line.now) }
@@ -27,6 +29,7 @@ fn after(line: &[u8], start: usize) -> usize
 }
 
 // Where word i starts.
+#[tactic(auto, using(crate::proofs::Lines::from_next, crate::proofs::Lines::from_none))]
 fn start_of(line: &[u8], i: usize) -> usize
     ensures { (drop result line.now ≡ from_word i line.now) × (result ≤ length line.now) }
 {
@@ -40,6 +43,7 @@ fn start_of(line: &[u8], i: usize) -> usize
 }
 
 // Word i, empty where there are fewer.
+#[tactic(auto, using(crate::proofs::Lines::word_found))]
 pub fn word(line: &[u8], i: usize) -> &[u8]
     ensures { result.now ≡ word_at i line.now }
 {
@@ -49,6 +53,7 @@ pub fn word(line: &[u8], i: usize) -> &[u8]
 }
 
 // How many words there are.
+#[tactic(auto, using(crate::proofs::Lines::count_on, crate::proofs::Lines::count_one, crate::proofs::Lines::count_ends))]
 pub fn count(line: &[u8]) -> usize
     ensures { result ≡ word_count line.now }
 {
