@@ -13,19 +13,13 @@ use Rattle.scheme.specs.Store.{table_m, width_of}
 use Rattle.ids.specs.Ids.{ids_in}
 use Rattle.ids.proofs.Noted.{few_in}
 use Rattle.find.proofs.Laws.{empty}
-use borrow.Author.Rules.{rules}
-use Rattle.find.proofs.give_few.Statement.{statement}
-use Rattle.find.proofs.give_few.Tie as tie
+use Rattle.find.proofs.give_few.Goals as goal
 
-give-requires : tie.Need-give-requires
-give-requires c κs =
-    let s = c.before.before.before.before in
-    let a = s.args in
+pub give-requires : goal.give-requires
+give-requires c =
+    let a = c.args in
     let t = rows (width_of table_m) a.m a.t.now in
-    let few : length t ≤ 4096 = omega (arith, rows-length (width_of table_m) a.m a.t.now, s.requires.1.0) in
+    let few : length t ≤ 4096 = omega (arith, rows-length (width_of table_m) a.m a.t.now, c.requires.1.0) in
     let ids = ids_in a.keys t a.of (a.p + 1) in
     let e = ap (λ (l : List ℕ). sum (map (λ u. get_or a.of u 0) l)) (up_to-below a.p) in
-    (s.requires.0, (s.requires.1.0, (s.requires.1.1.0, empty 8192 (length (distinct ids)) (omega (arith, distinct_few ids, few_in a.keys t few a.of (a.p + 1), e, s.requires.1.1.1)) (omega arith))))
-
-pub give-few-spec : {M : Type 1} → statement M
-give-few-spec = tie.close (tie.spec (λ c. search rules) give-requires (λ c. search rules) (λ c. search rules))
+    (c.requires.0, (c.requires.1.0, (c.requires.1.1.0, empty 8192 (length (distinct ids)) (omega (arith, distinct_few ids, few_in a.keys t few a.of (a.p + 1), e, c.requires.1.1.1)) (omega arith))))
