@@ -1,16 +1,16 @@
 -- Pieces of a text are parts of it; and parts that are made one after the other pass their tests and stand behind each other.
-use Prim.Native.Nat.{ℕ, zero, suc, ◌+◌, ◌*◌, ◌-◌, ◌/◌, ◌%◌, ◌≤◌, ◌<◌, min}
-use mathlib.Core.Path.{◌≡◌, refl, sym, ap, ap₂, subst, ◌∙◌}
-use mathlib.Core.Bool.{Bool, true, false, cond, not, ◌||◌, or-true}
+use Prim.Native.Nat.{ℕ, zero, suc, ◌+◌, ◌*◌, ◌-◌, ◌≤◌, ◌<◌, min}
+use mathlib.Core.Path.{◌≡◌, refl, sym, ap, ap₂, ◌∙◌}
+use mathlib.Core.Bool.{Bool, true, false, cond}
 use mathlib.Core.Option.{Option, none, some}
 use mathlib.Core.List.{List, [], ◌∷◌, ◌++◌, map, map-append, append-nil}
 use native.Mathlib.Nat.{min-eq_left, min-eq_right}
 use native.Mathlib.Numerals.{add-one}
 use native.Mathlib.Omega.{arith}
-use lib.Dec.{ltb, eqb}
-use lib.ListN.{length, take, drop, replicate, length-append, length-drop, length-replicate, drop_of_length-le}
+use lib.Dec.{ltb}
+use lib.ListN.{length, take, drop, replicate, length-append, length-drop, drop_of_length-le}
 use lib.Seq.{take_all, take-append-le, take_at}
-use borrow.Author.Tests.{ltb-true, ltb-false, lt-ltb, le-ltb}
+use borrow.Author.Tests.{ltb-true, ltb-false}
 use Rattle.answer.specs.Answer.{Answer}
 use Rattle.answer.specs.Verdict.{Test, verdict, unless_refused}
 use Rattle.octets.specs.Part.{written}
@@ -18,12 +18,11 @@ use Rattle.octets.proofs.Parts.{written_none, written_more, written_next}
 use Rattle.table.specs.Lists.{flat}
 use Rattle.table.proofs.Below.{flat_append}
 use Rattle.scheme.specs.Call.{Part}
-use Rattle.scheme.specs.Refusals.{part_count}
 use Rattle.scheme.specs.Run.{part_of, part_token_tests}
 use Rattle.scheme.proofs.Verdicts.{or_else, verdict-append}
 use Rattle.suite.specs.Program.{program}
 use Rattle.client.specs.Making.{field_of}
-use Rattle.part_tokens.specs.Parts.{edge, piece, part_at, parts_to, parts_of, parts_tests, parts_bytes, placed, kept_parts}
+use Rattle.part_tokens.specs.Parts.{edge, piece, part_at, parts_to, parts_tests, parts_bytes, placed, kept_parts}
 use Rattle.client.proofs.Making.{part_length}
 
 -- ---- pieces

@@ -4,14 +4,12 @@ use mathlib.Core.Path.{◌≡◌, refl, sym, subst}
 use mathlib.Core.Bool.{Bool, true, false}
 use mathlib.Core.List.{List, [], ◌∷◌, ◌++◌}
 use lib.ListN.{length, replicate, length-replicate}
-use denote.Enum.Declared.{tag_of}
-use types.Run.{OneOf, miss}
 use Rattle.text.specs.Ascii.{ascii}
 use Rattle.words.specs.Line.{word_at}
 use Rattle.words.specs.declared.Command.{Command}
 use Rattle.request.specs.declared.Request.{Request}
 use Rattle.request.specs.declared.Request.TheVariants.{Help, Misused, NotNumber, NotId, Find, Count, Erase, Order, Show, Check, InsertToken, FindToken, CountToken, CompactionToken, FindBy, CountBy}
-use Rattle.outcome.specs.contracts.Outcome.{the_type as outcome}
+use Rattle.answer.specs.declared.Faults.{Faults}
 use Rattle.outcome.specs.declared.Outcome.{Outcome}
 use Rattle.outcome.specs.declared.Outcome.TheVariants.{Number, Counted, Inspected, Compacted, Damaged, WrongKey, Refused, Done, BadWords}
 use Rattle.buffer.specs.Put.{Put}
@@ -116,8 +114,8 @@ lent_length = of 65536
     of n = length-replicate n 0
 
 -- every outcome of a find but a number is told by its line
-pub unnumbered : (o : Outcome) (ids : List ℕ) → OneOf (1 ∷ 2 ∷ 3 ∷ 4 ∷ 5 ∷ 6 ∷ 7 ∷ 8 ∷ []) (tag_of outcome o) → answer_line o ≡ found_text o ids
-unnumbered (Number n) ids h = absurd (miss (1 ∷ 2 ∷ 3 ∷ 4 ∷ 5 ∷ 6 ∷ 7 ∷ 8 ∷ []) 0 tt h)
+pub unnumbered : (o : Outcome) (ids : List ℕ) → ((n : ℕ) → o ≡ Number n → ⊥) → answer_line o ≡ found_text o ids
+unnumbered (Number n) ids h = absurd (h n refl)
 unnumbered (Counted n rows) ids h = refl
 unnumbered (Inspected f) ids h = refl
 unnumbered (Compacted t) ids h = refl
@@ -128,10 +126,10 @@ unnumbered Done ids h = refl
 unnumbered BadWords ids h = refl
 
 -- every outcome of a count but one with rows is told by its line, whatever is asked for
-pub unrowed : (rows : Bool) (o : Outcome) → OneOf (0 ∷ 2 ∷ 3 ∷ 4 ∷ 5 ∷ 6 ∷ 7 ∷ 8 ∷ []) (tag_of outcome o) → answer_line o ≡ count_text rows o
+pub unrowed : (rows : Bool) (o : Outcome) → ((n looked : ℕ) → o ≡ Counted n looked → ⊥) → answer_line o ≡ count_text rows o
 unrowed false o h = refl
 unrowed true (Number n) h = refl
-unrowed true (Counted n rows) h = absurd (miss (0 ∷ 2 ∷ 3 ∷ 4 ∷ 5 ∷ 6 ∷ 7 ∷ 8 ∷ []) 1 tt h)
+unrowed true (Counted n rows) h = absurd (h n rows refl)
 unrowed true (Inspected f) h = refl
 unrowed true (Compacted t) h = refl
 unrowed true (Damaged t) h = refl
@@ -141,10 +139,10 @@ unrowed true Done h = refl
 unrowed true BadWords h = refl
 
 -- every outcome of a check but its numbers is told by its line
-pub uncounted : (o : Outcome) → OneOf (0 ∷ 1 ∷ 3 ∷ 4 ∷ 5 ∷ 6 ∷ 7 ∷ 8 ∷ []) (tag_of outcome o) → answer_line o ≡ check_text o
+pub uncounted : (o : Outcome) → ((f : Faults) → o ≡ Inspected f → ⊥) → answer_line o ≡ check_text o
 uncounted (Number n) h = refl
 uncounted (Counted n rows) h = refl
-uncounted (Inspected f) h = absurd (miss (0 ∷ 1 ∷ 3 ∷ 4 ∷ 5 ∷ 6 ∷ 7 ∷ 8 ∷ []) 2 tt h)
+uncounted (Inspected f) h = absurd (h f refl)
 uncounted (Compacted t) h = refl
 uncounted (Damaged t) h = refl
 uncounted (WrongKey t) h = refl

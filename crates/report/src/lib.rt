@@ -1,5 +1,7 @@
 // What a run of the tool gives: an outcome, with the texts that are printed of it. specs/Run.antt says what each request
 // has to give.
+#![tactic(auto)]
+
 ghost use Rattle.std.specs.Prelude.{◌≡◌, ◌≤◌, length};
 ghost use Rattle.buffer.specs.Put.{Put};
 ghost use Rattle.lines.specs.Answer.{answer_line};

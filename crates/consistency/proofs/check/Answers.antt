@@ -12,5 +12,4 @@ returns-in-Refused c =
 
 pub returns-in-Fit : goal.returns-in-Fit
 returns-in-Fit c =
-    let k = c in
-    check_done k.args.store.now k.in-Fit.z (sym k.sizes-checked.ensures ∙ k.in-Fit.is) c.count_faults.result c.count_faults.ensures
+    check_done c.args.store.now c.in-Fit.z (sym c.sizes-checked.ensures ∙ c.in-Fit.is) c.count_faults.result c.count_faults.ensures

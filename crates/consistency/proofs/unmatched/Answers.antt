@@ -17,13 +17,19 @@ tags_are l = refl
 
 pub compare_tags-requires : goal.compare_tags-requires
 compare_tags-requires c =
-    let p = c.requires in record { le_w = (((omega arith, p.0.1), p.0.0.within.long), p.0.0.searchable); le_width = ((omega arith, p.1.within.long), p.1.searchable) }
+    let p = c.requires in record {
+      le_w = (((omega arith, p.0.1), p.0.0.within.long), p.0.0.searchable);
+      le_width = ((omega arith, p.1.within.long), p.1.searchable);
+    }
 
 pub returns : goal.returns
 returns c =
     let a = c.args in
     let t : List (List ℕ) = tags_in (table_of a.store.now a.m (width_of table_m)) in
-    let e = tags_are (used (table_of a.store.now a.v (width_of table_v))) in record { left_value = c.compare_tags.ensures.left_value ∙ ap (λ (l : List (List ℕ)). lacking t l) e; lost_value = c.compare_tags.ensures.lost_value ∙ ap (λ (l : List (List ℕ)). lacking l t) e }
+    let e = tags_are (used (table_of a.store.now a.v (width_of table_v))) in record {
+      left_value = c.compare_tags.ensures.left_value ∙ ap (λ (l : List (List ℕ)). lacking t l) e;
+      lost_value = c.compare_tags.ensures.lost_value ∙ ap (λ (l : List (List ℕ)). lacking l t) e;
+    }
 
 pub slice_bounds-compare_tags-start : goal.slice_bounds-compare_tags-start
 slice_bounds-compare_tags-start c = omega (arith, c.requires.0.0.within.from)

@@ -1,4 +1,4 @@
-use Prim.Native.Nat.{ℕ, ◌+◌, ◌*◌, ◌-◌, ◌≤◌}
+use Prim.Native.Nat.{ℕ, ◌+◌, ◌*◌, ◌≤◌}
 use mathlib.Core.Path.{◌≡◌, refl, sym, ap, subst, ◌∙◌}
 use mathlib.Core.List.{map}
 use native.Mathlib.Omega.{arith}
@@ -15,7 +15,6 @@ use Rattle.counter.proofs.Shares.{Summed, summed_none, summed_more, summed_damag
 use Rattle.count.proofs.Laws.{sum_damage, sum_done, rows_more}
 use borrow.Author.Rules.{rules}
 use Rattle.count.proofs.sum_of_counts.Goals as goal
-use Rattle.count.proofs.sum_of_counts.Lts.View as view
 use Rattle.count.proofs.sum_of_counts.Goals.{After-struct_known-1}
 
 -- one share more
@@ -25,12 +24,11 @@ more : (c : After-struct_known-1) →
     let a = c.args in
     Summed (share_read a.clx a.c (rows (width_of table_c) a.c a.t.now)) (l.u + 1) (l.sum + c.in-Counter.z.count)
 unfolding share_read
-more c = let r = c in
-    let l = r.loop-u in
-    let a = r.args in
+more c = let l = c.loop-u in
+    let a = c.args in
     let t = rows (width_of table_c) a.c a.t.now in
     let z = c.in-Counter.z in
-    let e = sym (ap reading_of c.in-Counter.is) ∙ r.read_share-reading.ensures.result_value in
+    let e = sym (ap reading_of c.in-Counter.is) ∙ c.read_share-reading.ensures.result_value in
     summed_more (share_read a.clx a.c t) l.u l.sum z.b.0 z.start.0 z.k z.count l.invariant.0.1 e
     (reading_bounds a.c (numbered_by a.clx l.u) t z.b.0 z.start.0 z.k z.count e).count_limit
 
@@ -41,30 +39,27 @@ rows_of : (c : After-struct_known-1) →
     let a = c.args in
     let n = l.rows + c.in-Counter.z.rows in
     (n ≡ sum (map (share_looked a.clx a.c (rows (width_of table_c) a.c a.t.now)) (below (l.u + 1)))) × (n ≤ 33554432 * (l.u + 1))
-rows_of c = let r = c in
-    let l = r.loop-u in
-    let s = r in
-    let a = s.args in
+rows_of c = let l = c.loop-u in
+    let a = c.args in
     let t : Table = rows (width_of table_c) a.c a.t.now in
     let z = c.in-Counter.z in
-    let e = sym (ap reading_of c.in-Counter.is) ∙ r.read_share-reading.ensures.result_value in
+    let e = sym (ap reading_of c.in-Counter.is) ∙ c.read_share-reading.ensures.result_value in
     let x : z.rows ≡ share_looked a.clx a.c t l.u =
-    sym (ap rows_in c.in-Counter.is) ∙ r.read_share-reading.ensures.result_value_2 ∙ share_told_lem a.clx a.c t l.u z.b.0 z.start.0 z.k z.count e in
+    sym (ap rows_in c.in-Counter.is) ∙ c.read_share-reading.ensures.result_value_2 ∙ share_told_lem a.clx a.c t l.u z.b.0 z.start.0 z.k z.count e in
     let m = rows_more (share_looked a.clx a.c t) l.u l.rows z.rows l.invariant.1 x in
-    let h : length t ≤ 4096 = omega (arith, s.requires.1, rows-length (width_of table_c) a.c a.t.now) in
-    (m, omega (arith, m, sum_most (share_looked a.clx a.c t) 33554432 (share_small a.clx a.c t s.requires.1.0 h) (l.u + 1)))
+    let h : length t ≤ 4096 = omega (arith, c.requires.1, rows-length (width_of table_c) a.c a.t.now) in
+    (m, omega (arith, m, sum_most (share_looked a.clx a.c t) 33554432 (share_small a.clx a.c t c.requires.1.0 h) (l.u + 1)))
 
 pub loop-u-init : goal.loop-u-init
 loop-u-init c = let a = c.args in ((search rules, summed_none (share_read a.clx a.c (rows (width_of table_c) a.c a.t.now))), refl)
 
 pub returns-in_default : goal.returns-in_default
 returns-in_default c =
-    let r = c in
-    let l = r.loop-u in
-    let a = r.args in
+    let l = c.loop-u in
+    let a = c.args in
     let t : Table = rows (width_of table_c) a.c a.t.now in
     let f = share_read a.clx a.c t in
-    sum_damage f (share_looked a.clx a.c t) a.p (summed_damage f l.u a.p (omega (arith, r.loop-u-test.true)) (sym (ap reading_of c.in_default.is) ∙ r.read_share-reading.ensures.result_value))
+    sum_damage f (share_looked a.clx a.c t) a.p (summed_damage f l.u a.p (omega (arith, c.loop-u-test.true)) (sym (ap reading_of c.in_default.is) ∙ c.read_share-reading.ensures.result_value))
 
 pub overflow_add-sum : goal.overflow_add-sum
 overflow_add-sum c = omega (arith, (more c).small, c.loop-u-test.true)

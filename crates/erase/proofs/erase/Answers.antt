@@ -19,17 +19,14 @@ erase_rows-requires c = checked (goal.at.erase_rows-requires c).In-Fit
 
 pub returns-in-Refused : goal.returns-in-Refused
 returns-in-Refused c =
-    let r = c in
-    let i = r in
-    let a = i.args in
-    let both = erase_unfit a.store.now a.id.now c.if-id-ne-ID.false c.in-Refused.r (sym r.sizes.ensures ∙ c.in-Refused.is) in
+    let a = c.args in
+    let both = erase_unfit a.store.now a.id.now c.if-id-ne-ID.false c.in-Refused.r (sym c.sizes.ensures ∙ c.in-Refused.is) in
     record { result_value = both.0; store_after = both.1 }
 
 pub returns-in-Fit : goal.returns-in-Fit
 returns-in-Fit c =
     let n = c.erase_rows in
     let z = (goal.at.returns-in-Fit c).In-Fit in
-    let i = z in
-    let a = i.args in
+    let a = z.args in
     let both = erase_fit a.store.now a.id.now c.if-id-ne-ID.false z.in-Fit.z (checked z) z.copy.new.to z.copy.ensures n.result n.new.store n.ensures.value n.ensures.store_after in
     record { result_value = both.0; store_after = both.1 }

@@ -59,4 +59,7 @@ returns c =
     let s = start o₁ in
     let b = s.args.store.now in
     let z = s.args.z in
-    let id = s.args.id.now in record { value = o₂.free_rows-freed.ensures.value ∙ ap (λ (t : Table). count (has_id id) (used t)) (part-rows z (store₁ o₁) table_v) ∙ freed_are b id ((cut b).table table_v); store_after = all_closed b id o₃.free_rows.new.store z _ _ _ _ (part-rows z (store₀ s) table_v) (part-rows z (store₀ s) table_m) (part-rows z (store₁ o₁) table_v) (part-rows z (store₂ o₂) table_r) (store₃ o₃).laid }
+    let id = s.args.id.now in record {
+      value = o₂.free_rows-freed.ensures.value ∙ ap (λ (t : Table). count (has_id id) (used t)) (part-rows z (store₁ o₁) table_v) ∙ freed_are b id ((cut b).table table_v);
+      store_after = all_closed b id o₃.free_rows.new.store z _ _ _ _ (part-rows z (store₀ s) table_v) (part-rows z (store₀ s) table_m) (part-rows z (store₁ o₁) table_v) (part-rows z (store₂ o₂) table_r) (store₃ o₃).laid;
+    }

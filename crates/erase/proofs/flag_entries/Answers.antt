@@ -1,9 +1,8 @@
-use Prim.Native.Nat.{ℕ, ◌-◌, ◌≤◌, ◌<◌}
+use Prim.Native.Nat.{ℕ, ◌≤◌, ◌<◌}
 use mathlib.Core.Path.{◌≡◌, refl, sym, ap, ◌∙◌}
-use mathlib.Core.Bool.{false, not}
+use mathlib.Core.Bool.{false}
 use mathlib.Core.List.{[]}
 use native.Mathlib.Omega.{arith}
-use borrow.Author.Tests.{not-true, not-false}
 use lib.ListN.{length, get_or, take}
 use Rattle.table.specs.Lists.{same}
 use Rattle.table.specs.Table.{Table, rows}
@@ -61,7 +60,10 @@ first_inside c = let s = c.before.before.before.before.before.before in
 
 pub lower-from-requires : goal.lower-from-requires
 lower-from-requires c =
-    let s = c in record { key_len_bound = (omega (arith, c.lower-arg-1.given), s.requires.m_len.1.0); t_value = (s.requires.m_len.1.1.form, (s.requires.m_len.1.1.marks, s.requires.m_len.1.1.number)) }
+    record {
+      key_len_bound = (omega (arith, c.lower-arg-1.given), c.requires.m_len.1.0);
+      t_value = (c.requires.m_len.1.1.form, (c.requires.m_len.1.1.marks, c.requires.m_len.1.1.number));
+    }
 
 pub loop-i-init : goal.loop-i-init
 loop-i-init c =
@@ -95,7 +97,10 @@ tag_at-tag-requires c =
 pub flag-requires : goal.flag-requires
 flag-requires c =
     let s = (goal.at.flag-requires c).Start in
-    let l = tag_length s.args.v.now s.args.k c.loop-i.i (inside s c.loop-i.i c.loop-i-test.true) s.requires.m_len.1.0 in record { key_len_bound = (omega (arith, ap length c.tag_at-tag.ensures, l), (s.requires.m_len.0.0, omega (arith, c.loop-i.invariant.1.1.long, s.requires.n_in_bounds))); t_value = (s.requires.m_len.0.1.form, (s.requires.m_len.0.1.marks, s.requires.m_len.0.1.number)) }
+    let l = tag_length s.args.v.now s.args.k c.loop-i.i (inside s c.loop-i.i c.loop-i-test.true) s.requires.m_len.1.0 in record {
+      key_len_bound = (omega (arith, ap length c.tag_at-tag.ensures, l), (s.requires.m_len.0.0, omega (arith, c.loop-i.invariant.1.1.long, s.requires.n_in_bounds)));
+      t_value = (s.requires.m_len.0.1.form, (s.requires.m_len.0.1.marks, s.requires.m_len.0.1.number));
+    }
 
 pub loop-i-preserved : goal.loop-i-preserved
 loop-i-preserved c =

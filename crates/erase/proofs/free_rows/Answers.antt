@@ -17,16 +17,14 @@ use Rattle.erase.proofs.free_rows.Goals as goal
 pub returns : goal.returns
 returns c =
     let o = c.close in
-    let f = c in
-    let s = c in
-    let a = s.args in
+    let a = c.args in
     let b = a.store.now in
     let id = a.id.now in
     let t : Table = table_of b a.part a.w in
-    let e : length id ≡ 16 = omega (arith, f.flag-arg-2-1.given) in record {
-      value = f.flag-freed.ensures.value ∙ ap (λ (k : ℕ). count (λ x. same (take k x) id) (used t)) e;
-      replaced = replaced b a.part a.w _ o.new.t s.requires.0.order.within o.auto.t
+    let e : length id ≡ 16 = omega (arith, c.flag-arg-2-1.given) in record {
+      value = c.flag-freed.ensures.value ∙ ap (λ (k : ℕ). count (λ x. same (take k x) id) (used t)) e;
+      replaced = replaced b a.part a.w _ o.new.t c.requires.0.order.within o.auto.t
           (o.ensures
-          ∙ closed_by a.w (has_id id) t f.flag-freed.new.flags (omega (arith, s.requires.0.most, rows-length a.w a.part.rows (bytes_of b a.part)))
-          (f.flag-freed.ensures.flags_after ∙ ap₂ (λ (k : ℕ) (fs : List ℕ). flagged (λ x. same (take k x) id) t fs) e f.blank-flags.ensures));
+          ∙ closed_by a.w (has_id id) t c.flag-freed.new.flags (omega (arith, c.requires.0.most, rows-length a.w a.part.rows (bytes_of b a.part)))
+          (c.flag-freed.ensures.flags_after ∙ ap₂ (λ (k : ℕ) (fs : List ℕ). flagged (λ x. same (take k x) id) t fs) e c.blank-flags.ensures));
     }

@@ -94,4 +94,7 @@ returns c =
     let e_c = part-rows z (store₂ o₂) table_c in
     let e_s = part-rows z (store₃ o₃) table_s in
     let e_r = part-rows z (store₄ o₄) table_r in
-    let many : Table → ℕ = λ t. length (used t) in record { value = all_used b _ _ _ _ _ (o₁.order_part-in_m.ensures.value.0 ∙ ap many e_m) (o₂.order_part-in_v.ensures.value.0 ∙ ap many e_v) (o₃.order_part-in_c.ensures.value.0 ∙ ap many e_c) (o₄.order_part-in_s.ensures.value.0 ∙ ap many e_s) (o₅.order_part-in_r.ensures.value.0 ∙ ap many e_r); store_after = all_ordered b o₅.order_part-in_r.new.store z _ _ _ _ _ e_m e_v e_c e_s e_r (store₅ o₅).laid }
+    let many : Table → ℕ = λ t. length (used t) in record {
+      value = all_used b _ _ _ _ _ (o₁.order_part-in_m.ensures.value.0 ∙ ap many e_m) (o₂.order_part-in_v.ensures.value.0 ∙ ap many e_v) (o₃.order_part-in_c.ensures.value.0 ∙ ap many e_c) (o₄.order_part-in_s.ensures.value.0 ∙ ap many e_s) (o₅.order_part-in_r.ensures.value.0 ∙ ap many e_r);
+      store_after = all_ordered b o₅.order_part-in_r.new.store z _ _ _ _ _ e_m e_v e_c e_s e_r (store₅ o₅).laid;
+    }

@@ -8,5 +8,7 @@ use Rattle.order.proofs.order_part.Goals as goal
 pub returns : goal.returns
 returns c =
     let o = c.order_table in
-    let s = c in
-    let a = s.args in record { value = (o.ensures.value, omega (arith, o.ensures.value, few_used a.w a.part.rows (bytes_of a.store.now a.part) s.requires.1.1)); replaced = replaced a.store.now a.part a.w _ o.new.t s.requires.0 o.auto.t o.ensures.t_after }
+    let a = c.args in record {
+      value = (o.ensures.value, omega (arith, o.ensures.value, few_used a.w a.part.rows (bytes_of a.store.now a.part) c.requires.1.1));
+      replaced = replaced a.store.now a.part a.w _ o.new.t c.requires.0 o.auto.t o.ensures.t_after;
+    }

@@ -3,7 +3,7 @@ use Prim.Native.Nat.{ℕ, ◌*◌, ◌≤◌}
 use mathlib.Core.Path.{◌≡◌, sym, ap, ◌∙◌}
 use native.Mathlib.Omega.{arith}
 use lib.Seq.{length-take-le}
-use lib.ListN.{length, take, drop, length-append, length-drop, length-replicate}
+use lib.ListN.{length, drop, length-append, length-drop, length-replicate}
 use Rattle.table.proofs.Order.{used_rows-length}
 use Rattle.table.specs.Table.{rows}
 use Rattle.scheme.specs.Store.{table_m, width_of}
@@ -67,4 +67,7 @@ pub returns : goal.returns
 returns c =
     let k = (goal.at.returns c).After-keep_used-u in
     let o = c.keep_used-u in
-    let a = c.args in record { value = o.ensures.value ∙ used_rows-length (rows a.w a.n a.t.now); t_after = gathered a.w a.n o.result a.t.now o.new.t (long k) o.ensures.value o.ensures.t_after c.sort.new.t (c.sort.auto.t ∙ length-take-le _ o.new.t (inside k)) c.sort.ensures.0 }
+    let a = c.args in record {
+      value = o.ensures.value ∙ used_rows-length (rows a.w a.n a.t.now);
+      t_after = gathered a.w a.n o.result a.t.now o.new.t (long k) o.ensures.value o.ensures.t_after c.sort.new.t (c.sort.auto.t ∙ length-take-le _ o.new.t (inside k)) c.sort.ensures.0;
+    }

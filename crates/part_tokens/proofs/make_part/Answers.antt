@@ -9,12 +9,8 @@ use Rattle.part_tokens.proofs.make_part.Goals as goal
 
 pub returns : goal.returns
 returns c =
-    let z = c in
-    let y = z in
-    let x = y in
-    let v = x in
-    let n = v in
-    let k = n in
-    let a = k in
-    let s = a.args in
-    let e = part_is s.text.now s.ends.now s.i _ _ _ _ _ _ _ a.edge-a.ensures k.edge-k.ensures n.edge-n.ensures v.edge-v.ensures x.piece.ensures y.piece-2.ensures z.piece-3.ensures in record { result_value = c.part_token.ensures.result_value ∙ ap (λ (p : Part). making_answer (part_token_tests p)) e; part_after = c.part_token.ensures.token_after ∙ ap (λ (p : Part). making_token (part_token_tests p) (part_of program p) s.part.now) e }
+    let s = c.args in
+    let e = part_is s.text.now s.ends.now s.i _ _ _ _ _ _ _ c.edge-a.ensures c.edge-k.ensures c.edge-n.ensures c.edge-v.ensures c.piece.ensures c.piece-2.ensures c.piece-3.ensures in record {
+      result_value = c.part_token.ensures.result_value ∙ ap (λ (p : Part). making_answer (part_token_tests p)) e;
+      part_after = c.part_token.ensures.token_after ∙ ap (λ (p : Part). making_token (part_token_tests p) (part_of program p) s.part.now) e;
+    }

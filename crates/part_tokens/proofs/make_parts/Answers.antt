@@ -1,4 +1,4 @@
-use Prim.Native.Nat.{ℕ, ◌-◌, ◌/◌}
+use Prim.Native.Nat.{ℕ, ◌/◌}
 use mathlib.Core.Path.{sym, ap, ◌∙◌}
 use mathlib.Core.Option.{Option}
 use mathlib.Core.List.{[]}
@@ -18,44 +18,42 @@ abbrev start : At-loop-i → Start
 start l = l.before.before.before.before.before
 
 pub loop-i-init : goal.loop-i-init
-loop-i-init c = let s = c in going_none s.args.text.now s.args.ends.now (length s.args.ends.now / 3) s.args.to.now s.requires
+loop-i-init c = going_none c.args.text.now c.args.ends.now (length c.args.ends.now / 3) c.args.to.now c.requires
 
 pub make_part-made-requires : goal.make_part-made-requires
 make_part-made-requires c = omega (arith, c.loop-i-test.true)
 
 pub returns-in-Refused : goal.returns-in-Refused
 returns-in-Refused c =
-    let y = c in
-    let e = y in
-    let m = e in
-    let i = m in
     let l = (goal.at.returns-in-Refused c).At-loop-i in
     let s = start l in
     let a = s.args in
     let p = part_at a.text.now a.ends.now l.loop-i.i in
-    let v = unmade (part_token_tests p) e.in-Refused.field-0 (sym (ap completion e.in-Refused.is) ∙ m.make_part-made.ensures.result_value) in
-    let r = going_stops a.text.now a.ends.now (length a.ends.now / 3) a.to.now l.loop-i.i l.loop-i.to l.loop-i.invariant i.loop-i-test.true _ v in record { result_value = ap completion e.in-Refused.is ∙ sym (ap (λ (o : Option Answer). answer_or o (done [])) r); to_after = kept_refused (parts_of a.text.now a.ends.now) a.to.now y.clear.new.to _ r (y.clear.ensures ∙ ap (λ (k : ℕ). replicate k 0) l.loop-i.invariant.size) }
+    let v = unmade (part_token_tests p) c.in-Refused.field-0 (sym (ap completion c.in-Refused.is) ∙ c.make_part-made.ensures.result_value) in
+    let r = going_stops a.text.now a.ends.now (length a.ends.now / 3) a.to.now l.loop-i.i l.loop-i.to l.loop-i.invariant c.loop-i-test.true _ v in record {
+      result_value = ap completion c.in-Refused.is ∙ sym (ap (λ (o : Option Answer). answer_or o (done [])) r);
+      to_after = kept_refused (parts_of a.text.now a.ends.now) a.to.now c.clear.new.to _ r (c.clear.ensures ∙ ap (λ (k : ℕ). replicate k 0) l.loop-i.invariant.size);
+    }
 
 pub loop-i-preserved : goal.loop-i-preserved
 loop-i-preserved c =
-    let y = c in
-    let e = y in
-    let m = e in
-    let i = m in
     let l = (goal.at.loop-i-preserved c).At-loop-i in
     let s = start l in
     let a = s.args in
     let p = part_at a.text.now a.ends.now l.loop-i.i in
-    let v = made (part_token_tests p) (sym (ap completion e.in_default.is) ∙ m.make_part-made.ensures.result_value) in
-    let b = token_made (part_token_tests p) (part_of program p) _ m.make_part-made.new.part v m.make_part-made.ensures.part_after in
-    going_on a.text.now a.ends.now (length a.ends.now / 3) a.to.now l.loop-i.i l.loop-i.to l.loop-i.invariant i.loop-i-test.true m.make_part-made.new.part y.put_part.new.to s.requires v b y.put_part.ensures y.put_part.auto.to
+    let v = made (part_token_tests p) (sym (ap completion c.in_default.is) ∙ c.make_part-made.ensures.result_value) in
+    let b = token_made (part_token_tests p) (part_of program p) _ c.make_part-made.new.part v c.make_part-made.ensures.part_after in
+    going_on a.text.now a.ends.now (length a.ends.now / 3) a.to.now l.loop-i.i l.loop-i.to l.loop-i.invariant c.loop-i-test.true c.make_part-made.new.part c.put_part.new.to s.requires v b c.put_part.ensures c.put_part.auto.to
 
 pub returns : goal.returns
 returns c =
     let l = (goal.at.returns c).At-loop-i in
     let a = (start l).args in
     let n = length a.ends.now / 3 in
-    let v = going_passed a.text.now a.ends.now n a.to.now l.loop-i.i l.loop-i.to l.loop-i.invariant c.loop-i-test.false in record { result_value = sym (ap (λ (o : Option Answer). answer_or o (done [])) v); to_after = kept_made (parts_of a.text.now a.ends.now) a.to.now l.loop-i.to v (going_all a.text.now a.ends.now n a.to.now l.loop-i.i l.loop-i.to l.loop-i.invariant c.loop-i-test.false) }
+    let v = going_passed a.text.now a.ends.now n a.to.now l.loop-i.i l.loop-i.to l.loop-i.invariant c.loop-i-test.false in record {
+      result_value = sym (ap (λ (o : Option Answer). answer_or o (done [])) v);
+      to_after = kept_made (parts_of a.text.now a.ends.now) a.to.now l.loop-i.to v (going_all a.text.now a.ends.now n a.to.now l.loop-i.i l.loop-i.to l.loop-i.invariant c.loop-i-test.false);
+    }
 
 pub put_part-requires : goal.put_part-requires
 put_part-requires c = omega (arith, c.loop-i.invariant.size)

@@ -18,10 +18,8 @@ end_inside c = let l = (view.up-After-least-start _ _ _ c.before.before.before) 
 
 pub returns : goal.returns
 returns c =
-    let d = c in
-    let l = d in
-    let a = l.args in
-    piece_is a.text.now a.a a.e l.least-start.result d.least.result l.least-start.ensures (d.least.ensures ∙ ap (λ (k : ℕ). min k (length a.text.now - l.least-start.result)) d.above.ensures)
+    let a = c.args in
+    piece_is a.text.now a.a a.e c.least-start.result c.least.result c.least-start.ensures (c.least.ensures ∙ ap (λ (k : ℕ). min k (length a.text.now - c.least-start.result)) c.above.ensures)
 
 pub overflow_sub-n : goal.overflow_sub-n
 overflow_sub-n c = omega (arith, start_inside (goal.at.overflow_sub-n c).After-least-start)

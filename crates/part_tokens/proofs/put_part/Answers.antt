@@ -10,16 +10,13 @@ use Rattle.part_tokens.proofs.put_part.Goals as goal
 
 pub copy_at-requires : goal.copy_at-requires
 copy_at-requires c =
-    let t = c in
-    omega (arith, c.copy_at-arg-then-i-lt8-1.given, t.if-i-lt8.true, t.requires)
+    omega (arith, c.copy_at-arg-then-i-lt8-1.given, c.if-i-lt8.true, c.requires)
 
 pub returns-then-i-lt8 : goal.returns-then-i-lt8
 unfolding placed
 returns-then-i-lt8 c =
-    let y = c in
-    let t = y in
-    let a = t.args in
-    y.copy_at.ensures ∙ sym (ap (λ (b : Bool). cond b (written a.to.now (128 * a.i) a.part.now) a.to.now) (lt-ltb a.i 8 t.if-i-lt8.true))
+    let a = c.args in
+    c.copy_at.ensures ∙ sym (ap (λ (b : Bool). cond b (written a.to.now (128 * a.i) a.part.now) a.to.now) (lt-ltb a.i 8 c.if-i-lt8.true))
 
 pub returns-else-i-lt8 : goal.returns-else-i-lt8
 unfolding placed
