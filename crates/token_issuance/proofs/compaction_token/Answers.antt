@@ -1,23 +1,15 @@
 -- The making with the line's words.
-use mathlib.Core.Path.{refl, sym}
+use mathlib.Core.Path.{refl}
 use mathlib.Core.List.{[]}
-use native.Mathlib.Omega.{arith}
 use lib.ListN.{replicate}
 use Rattle.scheme.specs.Keys.{compaction_token}
 use Rattle.scheme.specs.Refusals.{key_tests}
 use Rattle.suite.specs.Program.{program}
-use Rattle.client.proofs.Making.{compaction_length}
 use Rattle.request.specs.declared.Request.TheVariants.{CompactionToken}
 use Rattle.buffer.proofs.Laws.{said}
 use Rattle.report.proofs.Arms.{ended}
-use Rattle.token_issuance.proofs.Arms.{made_text_lem, made_length}
+use Rattle.token_issuance.proofs.Arms.{made_text_lem}
 use Rattle.token_issuance.proofs.compaction_token.Goals as goal
-
-pub slice_bounds-told_token-end : goal.slice_bounds-told_token-end
-slice_bounds-told_token-end c = sym (made_length (key_tests c.args.key.now) (compaction_token program c.args.key.now) (replicate 32 0) c.compaction_token-o.new.token c.compaction_token-o.ensures.token_after 32 (λ v. compaction_length c.args.key.now) refl)
-
-pub told_token-requires : goal.told_token-requires
-told_token-requires c = (omega (arith, made_length (key_tests c.args.key.now) (compaction_token program c.args.key.now) (replicate 32 0) c.compaction_token-o.new.token c.compaction_token-o.ensures.token_after 32 (λ v. compaction_length c.args.key.now) refl), c.requires)
 
 pub returns : goal.returns
 returns c =

@@ -4,11 +4,7 @@ use Rattle.outcome.specs.declared.Outcome.{Outcome}
 use Rattle.buffer.proofs.Laws.{said, nothing}
 use Rattle.messages.specs.Message.{message_line}
 use Rattle.report.specs.Run.{made_text}
-use Rattle.token_issuance.proofs.Arms.{unmade}
 use Rattle.token_issuance.proofs.told_token.Goals as goal
-
-pub returns-in_default : goal.returns-in_default
-returns-in_default c = record { outcome_value = c.answered.ensures.outcome_value; put = said (unmade c.args.o c.args.token.now c.in_default.not-Done) c.answered.ensures.put; put_2 = c.answered.ensures.put_2 }
 
 pub returns : goal.returns
 unfolding message_line
