@@ -6,6 +6,8 @@
 // Input: the number of records. A record is its kind, one byte, and its numbers and byte strings in the
 // order of the call's arguments; crates/records reads them. What is read cannot be told: in contracts it
 // stands as fields, and the store after a record is that of the call on some such arguments.
+#![tactic(auto)]
+
 mod arguments;
 mod making;
 mod premise;
