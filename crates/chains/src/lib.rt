@@ -2,6 +2,8 @@
 // with separate chaining: in the index a head for each bucket, then for each id one number: that of its
 // row, and a link to the id before it in its bucket. The first 4,096 ids stand as bytes beside it; a later
 // one, which comes only where tags collide, is read out of its row again.
+#![tactic(auto)]
+
 ghost use Rattle.std.specs.Prelude.{◌≡◌, ◌+◌, ◌*◌, ◌≤◌, ◌<◌, length, get_or};
 ghost use Rattle.octets.specs.Part.{written};
 ghost use Rattle.table.specs.Lists.{flat};

@@ -1,6 +1,8 @@
 // Compaction: the server's call that turns the counters of every logged CL into one anchor (document
 // 01, "Operations"): the log of table S, and the refusals before it. The store's tables C and S alone are
 // changed; the CL are treated in course.
+#![tactic(auto)]
+
 ghost use Rattle.std.specs.Prelude.{◌≡◌, cond, [], ◌∷◌, ◌+◌, ◌-◌, ◌*◌, ◌/◌, ◌≤◌, ◌<◌, length, take, drop};
 ghost use Rattle.answer.specs.Answer.{done, refused, compaction_answer};
 ghost use Rattle.table.specs.Table.{rows};

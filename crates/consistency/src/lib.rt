@@ -1,5 +1,7 @@
 // Check: what can be seen of a store without a key (the request "Check"). It counts rows that do not go
 // together: 0 of each in every store that the calls of this library have left.
+#![tactic(auto)]
+
 ghost use Rattle.std.specs.Prelude.{◌≡◌, ◌-◌, ◌≤◌, map, take};
 ghost use Rattle.table.specs.Lists.{repeats, lacking};
 ghost use Rattle.answer.specs.Answer.{faults_of, inspected};

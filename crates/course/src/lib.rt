@@ -1,5 +1,7 @@
 // The course of a compaction over table C (document 01, "Operations"): the distinct CL of the log, one after
 // the other, in the order of their first rows, up to one that damage stops. One CL is treated in treatment.
+#![tactic(auto)]
+
 ghost use Rattle.std.specs.Prelude.{◌≡◌, cond, [], ◌++◌, ◌+◌, ◌*◌, ◌≤◌, ◌<◌, eqb, length, get_or, drop};
 ghost use Rattle.table.specs.Table.{rows};
 ghost use Rattle.table.specs.Order.{used_rows, Searchable};

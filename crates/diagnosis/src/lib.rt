@@ -1,5 +1,7 @@
 // What the command `check` prints of a store, as bytes at the start of a lent slice: a line for each kind of fault, under
 // it what the fault means where there are any, and last how many there are. [check:12]
+#![tactic(auto)]
+
 ghost use Rattle.std.specs.Prelude.{◌≡◌, ◌+◌, ◌≤◌, length};
 ghost use Rattle.buffer.specs.Put.{Put};
 ghost use Rattle.diagnosis.specs.Diagnosis.{fault_line, tag_lines, entry_lines, label_lines, total_of, total_line, fault_lines};

@@ -1,6 +1,8 @@
 // Find: the ids of a field's entries, share by share and address by address (document 01, "Operations"),
 // each once (document 02, "Each document once in a find"). All shares are read first; then one pass over
 // the addresses gathers the different ids, and 18 is judged by their number before any is written.
+#![tactic(auto)]
+
 ghost use Rattle.std.specs.Prelude.{◌≡◌, map, ◌+◌, ◌*◌, ◌≤◌, length, get_or, replicate};
 ghost use Rattle.answer.specs.Answer.{counted};
 ghost use Rattle.table.specs.Lists.{sum, up_to, distinct};

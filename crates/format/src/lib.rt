@@ -53,6 +53,7 @@ pub struct Position(pub u64);
 pub struct AnchorNumber(pub u64);
 
 // F of a number, with a prepared key: keys of keys, shares and tags. [01:KF6 KT2 KT5 KT6]
+#[tactic(auto, unfolding(crate::specs::Tags::numbered_by, scheme::specs::Suite::number8))]
 pub fn numbered(k: Keyed, n: u64) -> [u8; 32]
     ensures { result ≡ numbered_by k n }
 {
@@ -62,6 +63,7 @@ pub fn numbered(k: Keyed, n: u64) -> [u8; 32]
 }
 
 // A byte, then a number of 8 bytes.
+#[tactic(auto, using(crate::proofs::Rules::message_rules), unfolding(scheme::specs::Suite::number8))]
 fn message(byte: u8, n: u64) -> [u8; 9]
     ensures { result ≡ byte ∷ number8 n }
 {
@@ -71,6 +73,7 @@ fn message(byte: u8, n: u64) -> [u8; 9]
 }
 
 // The tag of the M row at an address, with the prepared MT. [01:ST6]
+#[tactic(auto, unfolding(crate::specs::Tags::entry_tag_by))]
 pub fn entry_tag(mt: Keyed, a: Address) -> [u8; 32]
     ensures { result ≡ entry_tag_by mt a }
 {
@@ -78,6 +81,7 @@ pub fn entry_tag(mt: Keyed, a: Address) -> [u8; 32]
 }
 
 // The tag of the counter row at a position, with the prepared CT. [01:ST10]
+#[tactic(auto, unfolding(crate::specs::Tags::counter_tag_by))]
 pub fn counter_tag(ct: Keyed, a: Position) -> [u8; 32]
     ensures { result ≡ counter_tag_by ct a }
 {
@@ -86,6 +90,7 @@ pub fn counter_tag(ct: Keyed, a: Position) -> [u8; 32]
 }
 
 // The tag of the anchor row of a number, with the prepared CT. [01:ST11]
+#[tactic(auto, unfolding(crate::specs::Tags::anchor_tag_by))]
 pub fn anchor_tag(ct: Keyed, b: AnchorNumber) -> [u8; 32]
     ensures { result ≡ anchor_tag_by ct b }
 {
@@ -112,6 +117,7 @@ pub struct Keys {
 }
 
 // CT = F(CL, 1), prepared, and CE = F(CL, 2); CL itself is prepared once.
+#[tactic(auto, using(crate::proofs::Rules::keys_of_rules), unfolding(scheme::specs::Keys::CT, scheme::specs::Keys::CE, suite::specs::Program::program))]
 pub fn keys_of(cl: &[u8; 32]) -> Keys
     ensures { KeysOf result cl.now }
 {

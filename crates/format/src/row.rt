@@ -62,6 +62,7 @@ pub fn rows_for(k: Keyed, mt: &[u8], me: &[u8], a: Address, nonce: &[u8], id: &[
 }
 
 // The plaintext of a row of C: two numbers. [01:ST9]
+#[tactic(auto, using(octets::proofs::Parts::length_part, crate::proofs::Rows::plain_is))]
 fn put_numbers(to: &mut [u8], a: u64, n: u64)
     requires { length to.old ≡ 16 }
     ensures { to.new ≡ number8 a ++ number8 n }
@@ -82,6 +83,7 @@ fn counted_row(keys: Keys, cl: &[u8; 32], tag: &[u8], nonce: &[u8], a: u64, n: u
 }
 
 // The counter row of CL at a position: number 0, then the count. [01:ST10]
+#[tactic(auto, using(crate::proofs::Tags::counter_tag_is), unfolding(scheme::specs::Store::counter_row))]
 pub fn counter_row(
     keys: Keys,
     cl: &[u8; 32],
@@ -97,6 +99,7 @@ pub fn counter_row(
 }
 
 // The anchor row of a number, of CL: position, then count. [01:ST11]
+#[tactic(auto, using(crate::proofs::Tags::anchor_tag_is), unfolding(scheme::specs::Store::anchor_row))]
 pub fn anchor_row(
     keys: Keys,
     cl: &[u8; 32],
@@ -113,6 +116,7 @@ pub fn anchor_row(
 }
 
 // The text of the row of M or C at a place, under a key. [01:ST6 ST9]
+#[tactic(auto, using(crate::proofs::Rows::nonce_at, crate::proofs::Rows::text_at), unfolding(crate::specs::Rows::text_in))]
 pub fn text_at(t: &[u8], n: usize, i: usize, key: &[u8; 32]) -> [u8; 16]
     requires { (i < n) × (length t.now ≡ width_of table_m * n) }
     ensures { result ≡ text_in key.now (body (get_or (rows (width_of table_m) n t.now) i [])) }
@@ -128,6 +132,7 @@ pub fn text_at(t: &[u8], n: usize, i: usize, key: &[u8; 32]) -> [u8; 16]
 }
 
 // A row of S: mark, and the 44 bytes of the token before RL. [01:ST12 OP1] [02:W4.10]
+#[tactic(auto, using(octets::proofs::Parts::marked_one), unfolding(scheme::specs::Store::log_row))]
 pub fn log_row(log: &[u8]) -> [u8; S_WIDTH]
     requires { length log.now ≡ 44 }
     ensures { result ≡ log_row log.now }
@@ -138,6 +143,7 @@ pub fn log_row(log: &[u8]) -> [u8; S_WIDTH]
 }
 
 // Whether the row of S at an index is used. [01:ST5]
+#[tactic(auto, using(table::proofs::Walk::mark_at))]
 pub fn is_used(t: &[u8], s: usize, i: usize) -> bool
     requires { (i < s) × (length t.now ≡ width_of table_s * s) }
     ensures { result ≡ not (is_free (get_or (rows (width_of table_s) s t.now) i [])) }
@@ -147,6 +153,7 @@ pub fn is_used(t: &[u8], s: usize, i: usize) -> bool
 }
 
 // Decrypts the CL in the row of S at an index. [01:ST12]
+#[tactic(auto, using(crate::proofs::Rows::cl_opened))]
 pub fn open_row(t: &[u8], s: usize, i: usize, ks: &[u8], cl: &mut [u8])
     requires { (i < s) × ((length t.now ≡ width_of table_s * s) × ((length ks.now ≡ 32) × (length cl.old ≡ 32))) }
     ensures { cl.new ≡ cl_in program ks.now (body (get_or (rows (width_of table_s) s t.now) i [])) }
@@ -160,6 +167,7 @@ pub fn open_row(t: &[u8], s: usize, i: usize, ks: &[u8], cl: &mut [u8])
 }
 
 // Whether the row of V at an index is used and is the id's. [01:ST8]
+#[tactic(auto, using(table::proofs::Walk::row_part), unfolding(scheme::specs::Store::reverse_id))]
 pub fn is_reverse(t: &[u8], n: usize, i: usize, id: &[u8; ID]) -> bool
     requires { (i < n) × (length t.now ≡ width_of table_v * n) }
     ensures { result ≡ (not (is_free (get_or (rows (width_of table_v) n t.now) i [])) && same (reverse_id (body (get_or (rows (width_of table_v) n t.now) i []))) id.now) }

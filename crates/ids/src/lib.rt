@@ -1,5 +1,7 @@
 // The ids of a field's entries in table M (document 01, "Operations": find; document 02, "Each document
 // once in a find"), share by share and address by address, each kept where it is first met.
+#![tactic(auto)]
+
 ghost use Rattle.std.specs.Prelude.{◌≡◌, ◌+◌, ◌*◌, ◌≤◌, ◌<◌, length};
 ghost use Rattle.table.specs.Table.{rows, place_of};
 ghost use Rattle.table.specs.Order.{Searchable};

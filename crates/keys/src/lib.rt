@@ -12,6 +12,7 @@ ghost use Rattle.format.specs.Tags.{Prepared};
 use hmac::Keyed;
 
 // F of a message, and of a number, under a key that serves once.
+#[tactic(auto, using(hmac::proofs::Laws::from_prepared))]
 fn once(key: &[u8; 32], m: &[u8]) -> [u8; 32]
     requires { length m.now ≤ 65536 }
     ensures { result ≡ F key.now m.now }
@@ -19,6 +20,7 @@ fn once(key: &[u8; 32], m: &[u8]) -> [u8; 32]
     hmac::tagged(hmac::prepare(key), m)
 }
 
+#[tactic(auto, using(format::proofs::Tags::prepared, format::proofs::Tags::numbered_is))]
 pub fn number_once(key: &[u8; 32], n: u64) -> [u8; 32]
     ensures { result ≡ F key.now (number8 n) }
 {
@@ -35,6 +37,7 @@ pub struct FieldKeys {
 
 // F(F(K, n), x), with the prepared master key: the count token of a label x at 2, its RL at 4.
 // [01:KT9] [02:W4.4]
+#[tactic(auto, using(format::proofs::Tags::numbered_is))]
 pub fn label_key(k: Keyed, n: u64, x: &[u8]) -> [u8; 32]
     requires { length x.now ≤ 65536 }
     ensures { (key : List ℕ) → Prepared k key → result ≡ F (F key (number8 n)) x.now }
@@ -44,6 +47,7 @@ pub fn label_key(k: Keyed, n: u64, x: &[u8]) -> [u8; 32]
 }
 
 // The parts of a find token, with the prepared master key.
+#[tactic(auto, using(crate::proofs::Rules::field_keys_rules), unfolding(scheme::specs::Keys::KM, scheme::specs::Keys::KC, suite::specs::Program::program))]
 pub fn field_keys(k: Keyed, x: &[u8]) -> FieldKeys
     requires { length x.now ≤ 65536 }
     ensures { (key : List ℕ) → Prepared k key → (result.mt ≡ F (F (KM program key) (number8 1)) x.now) × ((result.me ≡ F (F (KM program key) (number8 2)) x.now) × (result.cl ≡ F (KC program key) x.now)) }
@@ -60,6 +64,7 @@ pub fn field_keys(k: Keyed, x: &[u8]) -> FieldKeys
 }
 
 // KS, with the prepared master key: the compaction token. [01:KT10]
+#[tactic(auto, using(format::proofs::Tags::numbered_is), unfolding(scheme::specs::Keys::KS, suite::specs::Program::program))]
 pub fn log_key(k: Keyed) -> [u8; 32]
     ensures { (key : List ℕ) → Prepared k key → result ≡ KS program key }
 {

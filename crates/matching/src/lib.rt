@@ -1,5 +1,7 @@
 // Rows of two tables in form whose tag the other lacks (the request "Check"): a tag of one table is searched in the
 // other, near a place that its first bits hint at, and the first row that has it is flagged.
+#![tactic(auto)]
+
 ghost use Rattle.std.specs.Prelude.{◌≡◌, ◌&&◌, ◌⊎◌, [], map, ◌+◌, ◌*◌, ◌-◌, ◌<◌, ◌≤◌, eqb, ltb, length, take, drop, get_or};
 ghost use Rattle.table.specs.Lists.{lacking as lacking_in};
 ghost use Rattle.table.specs.Table.{rows, used as used_in, place_of};

@@ -120,7 +120,7 @@ fn put_output(to: &mut [u8], at: usize, n: u64) -> usize
 }
 
 // What to say of room that is wanting, or of what never should be; no other advice comes here.
-#[tactic(auto, using(crate::proofs::Arms::arm, crate::proofs::Arms::none_first), unfolding(crate::specs::Message::sentence_of))]
+#[tactic(auto, using(crate::proofs::Arms::arm), unfolding(crate::specs::Message::sentence_of))]
 fn put_on_room(to: &mut [u8], at: usize, a: Advice, given: u64) -> usize
     requires { (at + 200 ≤ length to.old) × (13 < place_of a) }
     ensures { Put to.old at (sentence_of a given) to.new result }
@@ -145,7 +145,7 @@ fn put_on_room(to: &mut [u8], at: usize, a: Advice, given: u64) -> usize
 }
 
 // What to say of a store, of its counters and of its room.
-#[tactic(auto, using(crate::proofs::Arms::arm, crate::proofs::Arms::past_store), unfolding(crate::specs::Message::sentence_of))]
+#[tactic(auto, using(crate::proofs::Arms::arm), unfolding(crate::specs::Message::sentence_of))]
 fn put_on_store(to: &mut [u8], at: usize, a: Advice, given: u64) -> usize
     requires { (at + 200 ≤ length to.old) × (6 < place_of a) }
     ensures { Put to.old at (sentence_of a given) to.new result }
@@ -163,7 +163,7 @@ fn put_on_store(to: &mut [u8], at: usize, a: Advice, given: u64) -> usize
 }
 
 // What is wrong, and what to do: of what was given here, of the store and its room in the functions above.
-#[tactic(auto, using(crate::proofs::Arms::arm, crate::proofs::Arms::past_given), unfolding(crate::specs::Message::sentence_of))]
+#[tactic(auto, using(crate::proofs::Arms::arm), unfolding(crate::specs::Message::sentence_of))]
 fn put_sentence(to: &mut [u8], at: usize, a: Advice, given: u64) -> usize
     requires { at + 200 ≤ length to.old }
     ensures { Put to.old at (sentence_of a given) to.new result }

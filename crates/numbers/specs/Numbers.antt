@@ -3,7 +3,6 @@ use Rattle.std.specs.Prelude.{ℕ, Bool, cond, not, ◌||◌, List, [], ltb, eqb
 use Rattle.table.specs.Table.{Table, body}
 use Rattle.scheme.specs.Suite.{value_of}
 use Rattle.scheme.specs.Reading.{limit, Numbers as SchemeNumbers}
-use Rattle.scheme.specs.Reading.Reading.{counter, damage}
 use Rattle.format.specs.Rows.{text_in}
 use Rattle.numbers.specs.declared.Numbers.{Numbers}
 

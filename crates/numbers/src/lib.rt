@@ -17,6 +17,7 @@ pub struct Numbers {
 }
 
 // The numbers in the row of C at a place.
+#[tactic(auto, using(crate::proofs::Laws::numbers_are))]
 fn numbers_at(t: &[u8], c: usize, i: usize, ce: &[u8; 32]) -> Numbers
     requires { (i < c) × (length t.now ≡ width_of table_c * c) }
     ensures { numbers_of result ≡ numbers_in ce.now (body (get_or (rows (width_of table_c) c t.now) i [])) }
@@ -29,6 +30,7 @@ fn numbers_at(t: &[u8], c: usize, i: usize, ce: &[u8; 32]) -> Numbers
 }
 
 // The numbers in the row of C at a place; others where the table has no such row.
+#[tactic(auto, using(crate::proofs::Rules::numbers_or_rules), unfolding(crate::specs::Numbers::numbers_or))]
 pub fn numbers_or(t: &[u8], c: usize, i: usize, ce: &[u8; 32], other: Numbers) -> Numbers
     requires { length t.now ≡ width_of table_c * c }
     ensures { numbers_of result ≡ numbers_or ce.now (rows (width_of table_c) c t.now) i (numbers_of other) }

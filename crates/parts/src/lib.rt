@@ -14,6 +14,7 @@ use format::PART_TOKEN;
 use words::line;
 
 // The part of pair i of the words after the key file: refused by 1 and 2. [02:W4.18 W4.24]
+#[tactic(auto, using(client::proofs::Making::made, client::proofs::Making::unmade, crate::proofs::Laws::part_length, crate::proofs::Laws::held, crate::proofs::Laws::kept, crate::proofs::Laws::put))]
 fn make_part(line: &[u8], key: &[u8], i: usize, to: &mut [u8]) -> Completion
     requires { (length to.old ≡ 128) × (i < 8) }
     ensures result_value { completion result ≡ making_answer (part_token_tests (part_at line.now key.now i)) }

@@ -1,5 +1,7 @@
 // Which ids of a find other parts have too (document 02, "Find by several fields"): each of the ids that are
 // kept in an index has a flag, and the test of a part sets the flags of those that it says no to.
+#![tactic(auto)]
+
 ghost use Rattle.std.specs.Prelude.{◌≡◌, ◌+◌, ◌*◌, ◌-◌, ◌≤◌, ◌<◌, length, take, drop};
 ghost use Rattle.octets.specs.Part.{written};
 ghost use Rattle.table.specs.Lists.{flat};

@@ -6,7 +6,7 @@ use native.Mathlib.Omega.{arith}
 use lib.ListN.{length, drop, length-drop, drop_of_length-le}
 use Rattle.octets.specs.Part.{back}
 use Rattle.octets.proofs.Parts.{back_next}
-use Rattle.scheme.specs.Suite.{Suite, number8}
+use Rattle.scheme.specs.Suite.{number8}
 use Rattle.scheme.specs.Labels.{Field, label}
 use Rattle.scheme.specs.Keys.{KM, KC, KS, share, field_mt, field_me, field_cl, MT, ME, CL, RL, insert_token}
 use Rattle.suite.specs.Program.{program}

@@ -1,6 +1,5 @@
 -- The parts of a find token in the struct of keys (document 01, "Keys and tokens").
 use Rattle.std.specs.Prelude.{◌≡◌, List, [], ◌∷◌, ◌++◌, ℕ}
-use Rattle.scheme.specs.Suite.{Suite}
 use Rattle.scheme.specs.Labels.{Field}
 use Rattle.scheme.specs.Keys.{share, field_mt, field_me, field_cl}
 use Rattle.suite.specs.Program.{program}

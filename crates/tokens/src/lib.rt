@@ -29,6 +29,7 @@ fn three(to: &mut [u8], a: &[u8], b: &[u8], c: &[u8])
 }
 
 // A find token's parts for a valid field, with the prepared master key. [01:KT2 KT8]
+#[tactic(auto, using(crate::proofs::Rules::parts_rules), unfolding(scheme::specs::Keys::field_mt, scheme::specs::Keys::field_me, scheme::specs::Keys::field_cl, suite::specs::Program::program))]
 pub fn parts(k: Keyed, name: &[u8], value: &[u8]) -> FieldKeys
     requires { (length name.now ≤ 255) × (length value.now ≤ 1024) }
     ensures { (key : List ℕ) → Prepared k key → Parts key (field_of name.now value.now) result }
@@ -39,6 +40,7 @@ pub fn parts(k: Keyed, name: &[u8], value: &[u8]) -> FieldKeys
 }
 
 // Writes a find token for a valid key and field.
+#[tactic(auto, using(format::proofs::Tags::prepared, crate::proofs::Laws::length_parts), unfolding(scheme::specs::Keys::find_token))]
 pub fn write_find(key: &[u8], name: &[u8], value: &[u8], to: &mut [u8])
     requires { ((length key.now ≡ 32) × ((length name.now ≤ 255) × (length value.now ≤ 1024))) × (length to.old ≡ 96) }
     ensures { to.new ≡ find_token program key.now (field_of name.now value.now) }
@@ -62,6 +64,7 @@ pub fn field_key(k: Keyed, n: u64, name: &[u8], value: &[u8]) -> [u8; 32]
 }
 
 // RL of a valid field, with the prepared master key: what a test takes. [02:W4.4 W4.16]
+#[tactic(auto, unfolding(scheme::specs::Keys::RL, suite::specs::Program::program))]
 pub fn mark_key(k: Keyed, name: &[u8], value: &[u8]) -> [u8; MARK_TOKEN]
     requires { (length name.now ≤ 255) × (length value.now ≤ 1024) }
     ensures { (key : List ℕ) → Prepared k key → result ≡ RL program key (field_of name.now value.now) }

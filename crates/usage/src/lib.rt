@@ -1,4 +1,6 @@
 // What each command takes, as bytes in a lent slice: for `help`, and for a line with too many words or too few.
+#![tactic(auto)]
+
 ghost use Rattle.std.specs.Prelude.{◌+◌, ◌≤◌, length};
 ghost use Rattle.buffer.specs.Put.{Put};
 ghost use Rattle.usage.specs.Usage.{usage_line, first_lines, later_lines, help_text};

@@ -9,12 +9,11 @@ use Rattle.table.specs.Table.{Table, rows, place_of}
 use Rattle.table.specs.Looked.{looked_at}
 use Rattle.table.proofs.Rows.{rows-length}
 use Rattle.lookups.specs.Walks.{anchor_tags, tallied_by}
-use Rattle.lookups.proofs.Walks.{walked_none, walked_more, walked_stop, walked_end, tally_none, tally_more, tally_stop, tally_end, tally_small, more_small}
+use Rattle.lookups.proofs.Walks.{walked_none, walked_more, walked_stop, tally_none, tally_more, tally_stop, tally_small, more_small}
 use Rattle.lookups.proofs.anchors_held.Goals as goal
 use Rattle.lookups.proofs.anchors_held.Goals.{After-place-found}
 
 -- the place of the next one's row, and the rows looked at for it
-
 found : (c : After-place-found) →
     let a = c.args in
     let k = 0 + c.loop-left.b + 1 in
@@ -28,7 +27,6 @@ found c = let l = c.loop-left in
     (c.place-found.ensures.at_value ∙ ap (λ (g : List ℕ). place_of g t) e, c.place-found.ensures.rows_value ∙ ap (λ (g : List ℕ). tallied_by a.by (looked_at g t)) e)
 
 -- the tally with the next one's rows, which fits
-
 more : (c : After-place-found) →
     let l = c.loop-left in
     let a = c.args in
@@ -62,12 +60,6 @@ loop-left-preserved c =
     let a = o.args in
     let t : Table = rows (width_of table_c) a.c a.t.now in
     (walked_more (anchor_tags a.ct) t a.c 0 l.b l.left l.at l.invariant.0 o.place-found.result.at (found o).0 o.loop-left-test.true (omega (arith, rows-length (width_of table_c) a.c a.t.now, c.if-c-found.false)), (more o).0)
-
-pub returns : goal.returns
-returns c =
-    let l = c.loop-left in
-    let a = c.args in
-    let t : Table = rows (width_of table_c) a.c a.t.now in record { b_value = walked_end (anchor_tags a.ct) t a.c 0 l.b l.left l.at l.invariant.0 c.loop-left-test.false; rows_value = tally_end a.by (anchor_tags a.ct) t 0 l.b a.c l.rows (omega (arith, l.invariant.0.bound, c.loop-left-test.false)) l.invariant.1 }
 
 pub overflow_add-rows : goal.overflow_add-rows
 overflow_add-rows c = omega (arith, (more (goal.at.overflow_add-rows c).After-place-found).1)

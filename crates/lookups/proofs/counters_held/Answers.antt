@@ -9,13 +9,11 @@ use Rattle.table.specs.Table.{Table, rows, place_of}
 use Rattle.table.specs.Looked.{looked_at}
 use Rattle.table.proofs.Rows.{rows-length}
 use Rattle.lookups.specs.Walks.{counter_tags, tallied_by}
-use Rattle.lookups.proofs.Walks.{walked_none, walked_more, walked_stop, walked_end, noted_length, noted_more, tally_none, tally_more, tally_stop, tally_end, tally_small, more_small}
+use Rattle.lookups.proofs.Walks.{walked_none, walked_more, walked_stop, noted_more, tally_none, tally_more, tally_stop, tally_small, more_small}
 use Rattle.lookups.proofs.counters_held.Goals as goal
-use Rattle.lookups.proofs.counters_held.Lts.View as view
-use Rattle.lookups.proofs.counters_held.Goals.{After-place-next, At-loop-rest, In-loop-rest}
+use Rattle.lookups.proofs.counters_held.Goals.{After-place-next, In-loop-rest}
 
 -- the place of the next one's row, and the rows looked at for it
-
 found : (c : After-place-next) →
     let l = c in
     let a = l.args in
@@ -28,7 +26,6 @@ found c = let a = c.args in
     (c.place-next.ensures.at_value ∙ ap (λ (g : List ℕ). place_of g t) e, c.place-next.ensures.rows_value ∙ ap (λ (g : List ℕ). tallied_by a.by (looked_at g t)) e)
 
 -- the tally with the next one's rows, which fits
-
 more : (c : After-place-next) →
     let l = c.loop-rest in
     let a = c.args in
@@ -43,16 +40,7 @@ more c = let l = c.loop-rest in
       omega (arith, tally_small a.by (counter_tags a.ct) t a.start.0 h l.k l.rows (omega (arith, l.invariant.0.0.bound, s.requires.1.0)) l.invariant.1, more_small a.by (counter_tags a.ct) t a.start.0 h (a.start.0 + l.k + 1) c.place-next.result.rows (found c).1),
     )
 
--- the notes are as long as they were
-
-long : (c : At-loop-rest) → length c.loop-rest.places ≡ length c.args.places.now
-long c = let l = c.loop-rest in
-    let s = c in
-    let a = s.args in
-    noted_length (counter_tags a.ct) (rows (width_of table_c) a.c a.t.now) a.start.0 l.k a.places.now l.places l.invariant.0.1 (omega (arith, l.invariant.0.0.bound, s.requires))
-
 -- there is room for the next
-
 room : (c : In-loop-rest) → c.loop-rest.k < length c.args.places.now
 room c = omega (arith, c.loop-rest.invariant.0.0.bound, c.requires)
 
@@ -82,23 +70,5 @@ loop-rest-preserved c =
       (more o).0,
     )
 
-pub returns : goal.returns
-returns c =
-    let l = c.loop-rest in
-    let a = c.args in
-    let t : Table = rows (width_of table_c) a.c a.t.now in record { k_value = walked_end (counter_tags a.ct) t a.c a.start.0 l.k l.rest l.at l.invariant.0.0 c.loop-rest-test.false; places_after = l.invariant.0.1; rows_value = tally_end a.by (counter_tags a.ct) t a.start.0 l.k a.c l.rows (omega (arith, l.invariant.0.0.bound, c.loop-rest-test.false)) l.invariant.1 }
-
 pub overflow_add-rows : goal.overflow_add-rows
 overflow_add-rows c = omega (arith, (more (goal.at.overflow_add-rows c).After-place-next).1)
-
-pub shape_of-places-then-c-next : goal.shape_of-places-then-c-next
-shape_of-places-then-c-next c = long (goal.at.shape_of-places-then-c-next c).At-loop-rest
-
-pub overflow_cast-places : goal.overflow_cast-places
-overflow_cast-places c = omega (arith, c.if-c-next.false, c.requires.1.0)
-
-pub bounds-places-k : goal.bounds-places-k
-bounds-places-k c = omega (arith, room (goal.at.bounds-places-k c).In-loop-rest, long (goal.at.bounds-places-k c).At-loop-rest)
-
-pub shape_of-places : goal.shape_of-places
-shape_of-places c = long (goal.at.shape_of-places c).At-loop-rest

@@ -13,8 +13,6 @@ use Rattle.parts.proofs.Laws.{going_none, going_on, going_stops, going_passed, g
 use borrow.Author.Rules.{rules}
 use Rattle.parts.proofs.make.Goals as goal
 
--- the slice is as long as it was lent
-
 pub loop-i-init : goal.loop-i-init
 loop-i-init c = let s = c in going_none s.args.line.now s.args.key.now s.args.n s.args.to.now s.requires.0
 
@@ -28,6 +26,7 @@ loop-i-preserved c =
     going_on s.line.now s.key.now s.n l.i l.to l.invariant c.loop-i-test.true m.new.to (128 * l.i) (128 * l.i + 128) refl refl v
     (token_made (part_token_tests p) (part_of program p) _ m.new.to v m.ensures.to_after)
 
+-- the slice is as long as it was lent
 pub shape_of-to-in-Refused : goal.shape_of-to-in-Refused
 shape_of-to-in-Refused c = search rules
 

@@ -18,7 +18,6 @@ abbrev start : After-three-2 → Start
 start t = t.before.before.before.before.before.before.before.before.before.before.before.before.before.before.before.before.before.before.before.before.before.before.before.before.before.before.before
 
 -- the first two parts, and how long they and the whole are
-
 abbrev one : After-three-2 → List ℕ
 one t = t.three.new.to
 
@@ -33,11 +32,6 @@ whole t = length_back (start t).args.to.now 0 65 (one t) (omega arith) (omega (a
 
 second : (t : After-three-2) → length (two t) ≡ 76
 second t = t.three-2.auto.to ∙ length_part (back (start t).args.to.now 0 65 (one t)) 65 141 (omega (arith, whole t))
-
-pub slice_bounds-copy-end : goal.slice_bounds-copy-end
-slice_bounds-copy-end c =
-    let t = (goal.at.slice_bounds-copy-end c).After-three-2 in
-    omega (arith, whole t, length_back (back (start t).args.to.now 0 65 (one t)) 65 141 (two t) (omega arith) (omega (arith, whole t)) (second t))
 
 pub returns : goal.returns
 unfolding token share program

@@ -1,0 +1,54 @@
+-- Refused by the definition's tests, in its order; then the treatment.
+use mathlib.Core.Path.{◌≡◌, sym, ◌∙◌}
+use native.Mathlib.Omega.{arith}
+use Rattle.store.specs.declared.Checked.TheVariants.{Fit}
+use Rattle.store.specs.Check.{checked_of}
+use Rattle.compact.proofs.Verdicts.{rows_left, refuses, goes, verdict_nonces, verdict_token, verdict_store, verdict_count, verdict_none}
+use Rattle.compact.proofs.compact.Goals as goal
+use Rattle.compact.proofs.compact.Goals.{In-Fit}
+
+-- the store passed the checks
+fits : (c : In-Fit) → checked_of c.args.store.now ≡ Fit c.in-Fit.z
+fits c = sym c.sizes-checked.ensures ∙ c.in-Fit.is
+
+pub returns-then-nonces-ne0 : goal.returns-then-nonces-ne0
+returns-then-nonces-ne0 c =
+    let a = c.args in
+    let both = refuses a.store.now a.nonces.now a.token.now _ (verdict_nonces a.store.now a.nonces.now a.token.now c.if-nonces-ne0.true) in
+    record { result_value = both.0; store_after = both.1 }
+
+pub returns-then-token-ne-COMPACTION_TOKEN : goal.returns-then-token-ne-COMPACTION_TOKEN
+returns-then-token-ne-COMPACTION_TOKEN c =
+    let a = c.args in
+    let both = refuses a.store.now a.nonces.now a.token.now _ (verdict_token a.store.now a.nonces.now a.token.now c.if-nonces-ne0.false c.if-token-ne-COMPACTION_TOKEN.true) in
+    record { result_value = both.0; store_after = both.1 }
+
+pub returns-then-nonces-s : goal.returns-then-nonces-s
+returns-then-nonces-s c =
+    let k = (goal.at.returns-then-nonces-s c).In-Fit in
+    let e = k in
+    let a = e.args in
+    let both = refuses a.store.now a.nonces.now a.token.now _
+    (verdict_count a.store.now a.nonces.now a.token.now e.if-nonces-ne0.false c.if-token-ne-COMPACTION_TOKEN.false k.in-Fit.z (fits k) c.if-nonces-s.true) in
+    record { result_value = both.0; store_after = both.1 }
+
+pub returns-in-Refused : goal.returns-in-Refused
+returns-in-Refused c =
+    let e = c in
+    let a = e.args in
+    let both = refuses a.store.now a.nonces.now a.token.now _
+    (verdict_store a.store.now a.nonces.now a.token.now e.if-nonces-ne0.false c.if-token-ne-COMPACTION_TOKEN.false c.in-Refused.r (sym c.sizes-checked.ensures ∙ c.in-Refused.is)) in
+    record { result_value = both.0; store_after = both.1 }
+
+pub returns-else-nonces-s : goal.returns-else-nonces-s
+returns-else-nonces-s c =
+    let r = c in
+    let k = (goal.at.returns-else-nonces-s c).In-Fit in
+    let e = k in
+    let a = e.args in
+    let both = goes a.store.now a.nonces.now a.token.now _ _
+    (verdict_none a.store.now a.nonces.now a.token.now e.if-nonces-ne0.false c.if-token-ne-COMPACTION_TOKEN.false k.in-Fit.z (fits k) r.if-nonces-s.false) r.treat_logged.ensures.result_value r.treat_logged.ensures.store_after in
+    record { result_value = both.0; store_after = both.1 }
+
+pub overflow_sub-s : goal.overflow_sub-s
+overflow_sub-s c = omega (arith, rows_left c.args.store.now c.in-Fit.z (fits (goal.at.overflow_sub-s c).In-Fit))

@@ -1,7 +1,0 @@
--- TODO
-use borrow.Author.Rules.{rules}
-use Rattle.matching.proofs.wide.Statement.{statement}
-use Rattle.matching.proofs.wide.Tie as tie
-
-pub wide_spec : {M : Type 1} → statement M
-wide_spec = tie.close (tie.spec (λ c. search rules))

@@ -1,0 +1,16 @@
+-- Six lines.
+use native.Mathlib.Omega.{arith}
+use Rattle.buffer.proofs.Laws.{then}
+use Rattle.usage.specs.Usage.{usage_line, first_lines}
+use Rattle.usage.proofs.put_first.Goals as goal
+
+pub returns : goal.returns
+unfolding usage_line first_lines
+returns c =
+    let p = c.put-a.ensures in
+    let q = c.put-b.ensures in
+    let r = c.put-c.ensures in
+    let s = c.put-d.ensures in
+    let t = c.put-e.ensures in
+    let u = c.put.ensures in
+    (then p (then q (then r (then s (then t u)))), omega (arith, p.ends, q.ends, r.ends, s.ends, t.ends, u.ends))
