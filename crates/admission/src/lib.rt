@@ -35,6 +35,7 @@ fn bad_ids(n: usize) -> bool
 }
 
 // 4, 5 and 6. [01:RI5 RI6 RI7] [02:W4.11]
+#[tactic(auto, using(crate::proofs::Rules::input_rules), unfolding(scheme::specs::Refusals::insert_input_tests, scheme::specs::Refusals::token_tests))]
 pub fn input(ids: &[u8], nonces: &[u8], token: &[u8]) -> Tested
     ensures { tested_of result ≡ verdict (insert_input_tests ids.now nonces.now ++ token_tests insert_token_length token.now) }
 {
@@ -59,6 +60,7 @@ fn crowded(z: Shape, n: usize) -> bool
 }
 
 // 14 to 17, then 21, for a new count and the number of ids. [01:RS7 RS8 RS9 RS10] [02:W4.28 W4.30]
+#[tactic(auto, using(crate::proofs::Rules::room_rules), unfolding(crate::specs::Tests::room_tests))]
 pub fn room(z: Shape, count: u64, n: usize) -> Tested
     ensures { tested_of result ≡ verdict (room_tests z count n) }
 {

@@ -1,5 +1,7 @@
 // The part of a joint find that counts least (document 02, "Find by several fields"): every part's shares are
 // read, part after part.
+#![tactic(auto)]
+
 ghost use Rattle.std.specs.Prelude.{◌≡◌, [], ◌*◌, ◌-◌, ◌≤◌, ◌<◌, length, get_or};
 ghost use Rattle.table.specs.Table.{rows};
 ghost use Rattle.store.specs.Check.{checked_of};

@@ -16,6 +16,7 @@ use format::{
 };
 
 // The find token: refused by 1 and 2. [01:KT8 RI2 RI3]
+#[tactic(auto, using(labels::proofs::Laws::in_range, crate::proofs::Rules::find_token_rules), unfolding(scheme::specs::Refusals::field_token_tests))]
 pub fn find_token(key: &[u8], name: &[u8], value: &[u8], token: &mut [u8; FIND_TOKEN]) -> Completion
     ensures result_value { completion result ≡ making_answer (field_token_tests key.now (field_of name.now value.now)) }
     ensures token_after { token.new ≡ making_token (field_token_tests key.now (field_of name.now value.now)) (find_token program key.now (field_of name.now value.now)) token.old }
@@ -31,6 +32,7 @@ pub fn find_token(key: &[u8], name: &[u8], value: &[u8], token: &mut [u8; FIND_T
 }
 
 // The count token: refused by 1 and 2. [01:KT9 RI2 RI3]
+#[tactic(auto, using(crate::proofs::Rules::count_token_rules), unfolding(scheme::specs::Refusals::field_token_tests, scheme::specs::Keys::count_token, scheme::specs::Keys::field_cl, scheme::specs::Keys::KC, suite::specs::Program::program))]
 pub fn count_token(
     key: &[u8],
     name: &[u8],
@@ -51,6 +53,7 @@ pub fn count_token(
 }
 
 // The token of a test, RL: refused by 1 and 2. [02:W4.16]
+#[tactic(auto, using(crate::proofs::Rules::mark_token_rules), unfolding(scheme::specs::Refusals::field_token_tests, scheme::specs::Keys::mark_token))]
 pub fn mark_token(key: &[u8], name: &[u8], value: &[u8], token: &mut [u8; MARK_TOKEN]) -> Completion
     ensures result_value { completion result ≡ making_answer (field_token_tests key.now (field_of name.now value.now)) }
     ensures token_after { token.new ≡ making_token (field_token_tests key.now (field_of name.now value.now)) (mark_token program key.now (field_of name.now value.now)) token.old }
@@ -66,6 +69,7 @@ pub fn mark_token(key: &[u8], name: &[u8], value: &[u8], token: &mut [u8; MARK_T
 }
 
 // A part of a joint find: refused by 1 and 2. [02:W4.18]
+#[tactic(auto, using(labels::proofs::Laws::in_range, crate::proofs::Rules::part_token_rules), unfolding(scheme::specs::Refusals::field_token_tests))]
 pub fn part_token(key: &[u8], name: &[u8], value: &[u8], token: &mut [u8; PART_TOKEN]) -> Completion
     ensures result_value { completion result ≡ making_answer (field_token_tests key.now (field_of name.now value.now)) }
     ensures token_after { token.new ≡ making_token (field_token_tests key.now (field_of name.now value.now)) (part_token program key.now (field_of name.now value.now)) token.old }
@@ -81,6 +85,7 @@ pub fn part_token(key: &[u8], name: &[u8], value: &[u8], token: &mut [u8; PART_T
 }
 
 // The compaction token: refused by 1. [01:KT10 RI2]
+#[tactic(auto, using(format::proofs::Tags::prepared, crate::proofs::Rules::compaction_token_rules), unfolding(scheme::specs::Refusals::key_tests, scheme::specs::Keys::compaction_token))]
 pub fn compaction_token(key: &[u8], token: &mut [u8; COMPACTION_TOKEN]) -> Completion
     ensures result_value { completion result ≡ making_answer (key_tests key.now) }
     ensures token_after { token.new ≡ making_token (key_tests key.now) (compaction_token program key.now) token.old }
@@ -93,6 +98,7 @@ pub fn compaction_token(key: &[u8], token: &mut [u8; COMPACTION_TOKEN]) -> Compl
 }
 
 // The insert token: refused by 1, 2, 3 and 4. [01:KT7] [02:W4.9]
+#[tactic(auto, using(crate::proofs::Rules::insert_token_rules), unfolding(scheme::specs::Refusals::insert_token_tests))]
 pub fn insert_token(
     key: &[u8],
     name: &[u8],

@@ -1,6 +1,8 @@
 // The tool's commands on the bytes of a store: the calls of crates/calls, each with what the tool tells
 // of it. The answers are the calls' own; p of an insert is the store's, and a find is by the pairs of a line's
 // words. A call is also there in two halves: crates/office makes a token, crates/server takes one.
+#![tactic(auto)]
+
 ghost use Rattle.std.specs.Prelude.{◌≡◌, ◌*◌, ◌≤◌, length};
 ghost use Rattle.answer.specs.Answer.{counted};
 ghost use Rattle.scheme.specs.Call.{Call};

@@ -37,6 +37,7 @@ pub enum Reading {
 // places of the counters that it held. Anchor B is tested before the counters are walked, since Start
 // + k could pass 2^64; only anchor B and counter Start + k are decrypted, each where it exists.
 // [01:RC5 RC6 RC7]
+#[tactic(auto, using(crate::proofs::Rules::read_by_rules))]
 pub fn read_by(
     t: &[u8],
     c: usize,
@@ -94,6 +95,7 @@ pub fn read(t: &[u8], c: usize, u: usize, by: Lookup, cl: &[u8; 32]) -> Reading
 }
 
 // Reads the counter of a share, whose CL comes from the prepared F(KC, x).
+#[tactic(auto, unfolding(crate::specs::Outcome::share_read, crate::specs::Outcome::share_told))]
 pub fn read_share(t: &[u8], c: usize, u: usize, by: Lookup, clx: Keyed, share: u64) -> Reading
     requires { (length t.now ≡ width_of table_c * c) × ((c ≤ 4096) × Searchable (width_of table_c) u (rows (width_of table_c) c t.now)) }
     ensures result_value { reading_of result ≡ share_read clx c (rows (width_of table_c) c t.now) share }

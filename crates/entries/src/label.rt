@@ -9,6 +9,7 @@ use format::{ID, NONCE, row};
 use store::R_WIDTH;
 
 // Makes the rows of R for n ids, one nonce per id; RL is prepared once. [02:W4.3 W4.13]
+#[tactic(auto, using(crate::proofs::Rules::label_new_rows_rules))]
 pub fn new_rows(rl: &[u8], n: usize, nonces: &[u8], ids: &[u8], labels: &mut [u8])
     requires rl_len { (length rl.now ≡ 32) × (n ≤ 64) }
     requires n_in_bounds { ((12 * n ≤ length nonces.now) × (length ids.now ≡ 16 * n)) × (length labels.old ≡ width_of table_r * n) }

@@ -16,6 +16,7 @@ use store::{M_WIDTH, V_WIDTH};
 
 // Makes the rows of M and of V for n ids at addresses g + 1 onward, one nonce per id; MT is prepared
 // once. [01:OP1 OP2]
+#[tactic(auto, using(crate::proofs::Rules::new_rows_rules))]
 pub fn new_rows(
     mt: &[u8],
     me: &[u8],

@@ -1,5 +1,7 @@
 // The library as C sees it: each public call on pointers and lengths, with its answer as one number
 // (crate encoding). include/mazhkuri.h declares and documents these functions. [01:FM9]
+#![tactic(auto)]
+
 ghost use Rattle.std.specs.Prelude.{◌≡◌};
 ghost use Rattle.answer.specs.Answer.{without_rows};
 ghost use Rattle.sha256.specs.Hash.{hash_answer, hash_digest};

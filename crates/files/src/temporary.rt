@@ -1,5 +1,5 @@
 // Files under names that are not taken, as mkstemp makes them.
-ghost use Rattle.std.specs.Prelude.{◌≡◌, length};
+ghost use Rattle.std.specs.Prelude.{◌≡◌, ◌-◌, ◌≤◌, length, take};
 ghost use Rattle.files.specs.System.{OfSystem};
 
 use crate::text_of;
@@ -12,17 +12,26 @@ use std::random::RandomSource;
 // How many names are tried.
 const TRIES: u8 = 100;
 
-const LETTERS: &[u8; 62] = b"abcdefghijklmnopqrstuvwxyzABCDEFGHIJKLMNOPQRSTUVWXYZ0123456789";
-
+// A digit or a letter, so no slash and no 0: the name stays one, in its folder.
 fn letter(chosen: u8) -> u8
-    ensures { OfSystem result }
+    ensures { (48 ≤ result) × (result ≤ 122) }
 {
-    LETTERS[(chosen % 62) as usize]
+    let n = chosen % 62;
+    if n < 10 {
+        return 48 + n;
+    }
+    if n < 36 {
+        return 55 + n;
+    }
+    61 + n
 }
 
-// Puts a byte at a place from the end of a name.
+// Puts a byte at one of a name's last six places, counted from its end.
+#[tactic(auto, using(crate::proofs::Rules::name_rules))]
 fn put(name: &mut [u8], back: usize, byte: u8)
-    ensures { length name.new ≡ length name.old }
+    requires { back ≤ 6 }
+    ensures name_len_unchanged { length name.new ≡ length name.old }
+    ensures front_unchanged { take (length name.new - 6) name.new ≡ take (length name.old - 6) name.old }
 {
     if 0 < back && back <= name.len() {
         let at = name.len() - back;
@@ -45,7 +54,8 @@ fn chosen(rt: &HostRuntime, turn: u8) -> [u8; 6]
 
 // Sets a name's last six bytes.
 fn name_by(name: &mut [u8], six: [u8; 6])
-    ensures { length name.new ≡ length name.old }
+    ensures name_len_unchanged { length name.new ≡ length name.old }
+    ensures front_unchanged { take (length name.new - 6) name.new ≡ take (length name.old - 6) name.old }
 {
     put(name, 6, letter(six[0]));
     put(name, 5, letter(six[1]));
@@ -71,6 +81,7 @@ fn create_private(rt: &HostRuntime, name: &[u8]) -> std::io::Result<File>
 pub fn create(rt: &HostRuntime, name: &mut [u8]) -> std::io::Result<File>
     ensures of_system { OfSystem result }
     ensures name_len_unchanged { length name.new ≡ length name.old }
+    ensures front_unchanged { take (length name.new - 6) name.new ≡ take (length name.old - 6) name.old }
 {
     for turn in 0..TRIES {
         name_by(name, chosen(rt, turn));

@@ -1,6 +1,6 @@
 -- What an insert that its tests (admission) let pass is known to have (document 01, "Refusals from the input", "Refusals from the
 -- state").
-use Rattle.std.specs.Prelude.{ℕ, ◌+◌, ◌≡◌, List, ◌++◌}
+use Rattle.std.specs.Prelude.{ℕ, ◌≡◌, List, ◌++◌}
 use Rattle.std.proofs.Math.Option.{none}
 use Rattle.answer.specs.Verdict.{verdict}
 use Rattle.scheme.specs.Keys.{insert_token_length, token_p}

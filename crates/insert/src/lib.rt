@@ -22,6 +22,7 @@ use lookups::Lookup;
 use store::{Checked, Shape};
 
 // An insert whose counter was read: 14 to 17 and 21, or the rows are written. [01:OP1 OP3] [02:W4.12]
+#[tactic(auto, using(crate::proofs::Rules::insert_read_rules), unfolding(scheme::specs::Insert::counter_nonce))]
 fn insert_read(
     store: &mut [u8],
     z: Shape,
@@ -54,6 +55,7 @@ fn insert_read(
 
 // An insert into a store that passed the checks: 12, then the counter is read, or 13.
 // [01:RS4 RS6 RC5 FM8]
+#[tactic(auto, using(crate::proofs::Rules::insert_checked_rules), unfolding(scheme::specs::Keys::token_p, scheme::specs::Keys::token_cl))]
 fn insert_checked(store: &mut [u8], z: Shape, ids: &[u8], nonces: &[u8], token: &[u8]) -> Counted
     requires { Accepted ids.now nonces.now token.now × (checked_of store.old ≡ Checked.Fit z) }
     ensures result_value { counted result ≡ (insert_of program store.old ids.now nonces.now token.now).answer }
@@ -83,6 +85,7 @@ fn insert_checked(store: &mut [u8], z: Shape, ids: &[u8], nonces: &[u8], token: 
 }
 
 // Insert of 1 to 64 ids under an insert token; answers the new count. [01:OP1 OP2 OP3 OP14]
+#[tactic(auto, using(crate::proofs::Answers::refused_input, crate::proofs::Answers::refused_store))]
 pub fn insert(store: &mut [u8], ids: &[u8], nonces: &[u8], token: &[u8]) -> Counted
     ensures result_value { counted result ≡ (insert_of program store.old ids.now nonces.now token.now).answer }
     ensures store_after { store.new ≡ (insert_of program store.old ids.now nonces.now token.now).store }

@@ -1,6 +1,8 @@
 // Joint find (document 02, "Find by several fields"): of the ids that the find of the part with the least
 // count gives, those for which every other part tests yes. All shares of all parts are read first; 18 is
 // judged by the number of ids kept before any is written.
+#![tactic(auto)]
+
 ghost use Rattle.std.specs.Prelude.{◌≡◌, map, ◌+◌, ◌*◌, ◌-◌, ◌≤◌, ◌<◌, length, get_or, replicate, [], false};
 ghost use Rattle.answer.specs.Answer.{counted};
 ghost use Rattle.table.specs.Lists.{sum, up_to, distinct, All};

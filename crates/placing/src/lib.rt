@@ -104,6 +104,7 @@ fn make_rows(
 }
 
 // Makes the rows of R for n ids and adds them to R, whose part is given. [02:W4.13]
+#[tactic(auto, using(crate::proofs::Rules::write_labels_rules))]
 fn write_labels(store: &mut [u8], part: Part, n: usize, rl: &[u8], nonces: &[u8], ids: &[u8])
     requires in_order { (InOrder store.old part (width_of table_r) × (n ≤ part.free)) × ((length rl.now ≡ 32) × (n ≤ 64)) }
     requires n_in_bounds { (12 * n ≤ length nonces.now) × (length ids.now ≡ 16 * n) }
@@ -118,6 +119,7 @@ fn write_labels(store: &mut [u8], part: Part, n: usize, rl: &[u8], nonces: &[u8]
 
 // Makes the new rows of M, V, S and R, and places them with a counter row; g is the count read. R's
 // nonces are those after the counter's. [01:OP1 OP2] [02:W4.10 W4.12 W4.13]
+#[tactic(auto, using(crate::proofs::Rules::write_rules), unfolding(crate::specs::Placed::placed_store, scheme::specs::Keys::token_mt, scheme::specs::Keys::token_me, scheme::specs::Keys::token_log, scheme::specs::Keys::token_rl, scheme::specs::Insert::label_nonces))]
 pub fn write(
     store: &mut [u8],
     z: Shape,

@@ -1,6 +1,8 @@
 // The calls of a list that only read a store, on their raw arguments: the making of the token, where one is taken, then the
 // operation with it (document 01, "The ledger", last paragraph); those that change it are in calls. Each contract is the step
 // of the claim. [01:LG16 OP16 SC6]
+#![tactic(auto)]
+
 ghost use Rattle.std.specs.Prelude.{◌≡◌};
 ghost use Rattle.answer.specs.Answer.{counted, tallied, inspected};
 ghost use Rattle.scheme.specs.Call.{Call};

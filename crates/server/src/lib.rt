@@ -1,5 +1,7 @@
 // The server's half of a call: what it runs with a token (document 01, "Operations"), on the bytes of a store and with
 // no key, with what the tool tells of it.
+#![tactic(auto)]
+
 ghost use Rattle.std.specs.Prelude.{◌≡◌};
 ghost use Rattle.scheme.specs.Insert.{insert as insert_of};
 ghost use Rattle.scheme.specs.Find.{find as find_of};

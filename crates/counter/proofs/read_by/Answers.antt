@@ -4,18 +4,15 @@ use mathlib.Core.Path.{◌≡◌, sym, ◌∙◌}
 use mathlib.Core.Bool.{false}
 use native.Mathlib.Omega.{arith}
 use lib.ListN.{length}
-use borrow.Author.Tests.{ltb-false}
-use lib.Dec.{ltb}
 use Rattle.scheme.specs.Store.{table_c, width_of}
 use Rattle.table.specs.Table.{Table, rows}
 use Rattle.table.proofs.Rows.{rows-length}
-use Rattle.table.proofs.Counting.{neither}
-use Rattle.scheme.specs.Reading.{limit, anchor_numbers, counter_numbers, counters_held}
+use Rattle.scheme.specs.Reading.{anchor_numbers, counter_numbers, counters_held}
 use Rattle.suite.specs.Program.{program}
 use Rattle.lookups.specs.Walks.{anchor_tags, counter_tags}
 use Rattle.numbers.specs.Numbers.{numbers_of, anchor_bad}
 use Rattle.counter.specs.Outcome.{places_noted}
-use Rattle.counter.proofs.Readings.{anchors_are, anchor_numbers_are, counters_are, counter_numbers_are, damaged_anchor, damaged_counter, counted, places_kept, places_are, rows_damage, rows_counter, rows_are}
+use Rattle.counter.proofs.Readings.{anchors_are, anchor_numbers_are, counters_are, counter_numbers_are, damaged_counter, counted, places_are, rows_damage, rows_counter, rows_are}
 use Rattle.lookups.proofs.Walks.{tally_small}
 use Rattle.counter.proofs.read_by.Goals as goal
 use Rattle.counter.proofs.read_by.Lts.View as view
@@ -31,7 +28,6 @@ anchor c = let b = c.anchors_held-anchors in
     ∙ anchor_numbers_are a.c a.cl.now (rows (width_of table_c) a.c a.t.now) a.keys s.requires.1.0.1 b.result.b.0 b.result.at b.ensures.b_value.0 b.ensures.b_value.1
 
 -- anchor B is no damage
-
 good : (c : Else-anchor_damaged) → anchor_bad (numbers_of c.numbers_or-anchor.result) ≡ false
 good c = sym c.anchor_damaged.ensures ∙ c.if-anchor_damaged.false
 
@@ -55,7 +51,6 @@ walked c = let h = c.counters_held-counters in
     counters_are a.c a.cl.now (rows (width_of table_c) a.c a.t.now) a.keys s.requires.1.0.1 (numbers_of o.numbers_or-anchor.result) (anchor o) h.result.k h.result.at h.ensures.k_value.0 h.ensures.k_value.1
 
 -- what the walk noted
-
 noted : (c : After-counters_held-counters) →
     let a = c.args in
     c.counters_held-counters.new.places ≡ places_noted a.c a.cl.now (rows (width_of table_c) a.c a.t.now) a.places.now
@@ -66,7 +61,6 @@ noted c = let h = c.counters_held-counters in
     places_are a.c a.cl.now (rows (width_of table_c) a.c a.t.now) (numbers_of o.numbers_or-anchor.result) (anchor o) a.places.now a.keys s.requires.1.0.1 (good (view.up-Else-anchor_damaged _ _ _ _ c.before.before.before)) h.result.k (walked c) h.new.places h.ensures.places_after
 
 -- the tally of both walks fits
-
 small : (c : After-counters_held-counters) →
     let o = c in
     o.anchors_held-anchors.result.rows + c.counters_held-counters.result.rows ≤ 33554432
@@ -82,22 +76,6 @@ small c = let o = c in
       tally_small a.by (anchor_tags a.keys.ct) t 0 l (min (suc b.result.b.0) a.c) b.result.rows (omega (arith, s.requires.1.0.0)) b.ensures.rows_value,
       tally_small a.by (counter_tags a.keys.ct) t o.numbers_or-anchor.result.a l (min (suc h.result.k) a.c) h.result.rows (omega (arith, s.requires.1.0.0)) h.ensures.rows_value,
     )
-
-pub returns-then-anchor_damaged : goal.returns-then-anchor_damaged
-returns-then-anchor_damaged c =
-    let o = (goal.at.returns-then-anchor_damaged c).After-numbers_or-anchor in
-    let a = o.args in
-    let t = rows (width_of table_c) a.c a.t.now in
-    let x = numbers_of o.numbers_or-anchor.result in
-    let bad = sym c.anchor_damaged.ensures ∙ c.if-anchor_damaged.true in
-    let d = damaged_anchor a.c a.cl.now t x (anchor o) bad in record { result_value = d; places_after = places_kept a.c a.cl.now t x (anchor o) a.places.now bad; result_value_2 = rows_damage a.c a.cl.now t a.by d }
-
-pub counters_held-counters-requires : goal.counters_held-counters-requires
-counters_held-counters-requires c =
-    let o = c in
-    let s = o in
-    let x = o.numbers_or-anchor.result in
-    (s.requires.0, ((s.requires.1.0.0, ltb-false limit x.a (neither (ltb limit x.a) (ltb limit x.n) (good (goal.at.counters_held-counters-requires c).Else-anchor_damaged)).0), s.requires.1.1))
 
 pub returns-then-counter_damaged : goal.returns-then-counter_damaged
 returns-then-counter_damaged c =
@@ -129,9 +107,6 @@ returns c =
       result_value_2 = rows_counter a.c a.cl.now t a.by b.result.b.0 x.a h.result.k y.numbers_or-counter.result.n (b.result.rows + h.result.rows) r
           (rows_are a.c a.cl.now t a.by a.keys s.requires.1.0.1 x (anchor o) b.result.b.0 h.result.k b.result.rows h.result.rows e (walked w) b.ensures.rows_value h.ensures.rows_value);
     }
-
-pub numbers_or-counter-requires : goal.numbers_or-counter-requires
-numbers_or-counter-requires c = c.requires.0.0
 
 pub overflow_add-result : goal.overflow_add-result
 overflow_add-result c = omega (arith, small (goal.at.overflow_add-result c).After-counters_held-counters)

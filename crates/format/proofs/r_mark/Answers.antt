@@ -12,13 +12,10 @@ use Rattle.format.proofs.r_mark.Goals as goal
 pub returns : goal.returns
 unfolding r_mark_by
 returns c =
-    let y = c in
-    let x = y in
-    let s = x in
-    let n = s.args.nonce.now in
-    let i = s.args.id.now in
+    let n = c.args.nonce.now in
+    let i = c.args.id.now in
     c.tagged.ensures
-    ∙ ap (tag_by s.args.rl)
-    (three_written _ n i [] _ y.copy_at-2.new.to y.copy_at-2.new.to (omega (arith, s.requires.0, s.requires.1)) x.copy_at.ensures
-    (y.copy_at-2.ensures ∙ ap (λ (k : ℕ). written x.copy_at.new.to k i) (sym s.requires.0)) (sym (written_none y.copy_at-2.new.to (length n + length i)))
+    ∙ ap (tag_by c.args.rl)
+    (three_written _ n i [] _ c.copy_at-2.new.to c.copy_at-2.new.to (omega (arith, c.requires.0, c.requires.1)) c.copy_at.ensures
+    (c.copy_at-2.ensures ∙ ap (λ (k : ℕ). written c.copy_at.new.to k i) (sym c.requires.0)) (sym (written_none c.copy_at-2.new.to (length n + length i)))
     ∙ ap (λ (l : List ℕ). n ++ l) (append-nil i))

@@ -33,12 +33,11 @@ more : (c : After-place-found) →
     (l.rows + c.place-found.result.rows ≡ tallied_by a.by (looked_over (anchor_tags a.ct) (rows (width_of table_c) a.c a.t.now) 0 (l.b + 1)))
     × (l.rows + c.place-found.result.rows ≤ 16781312)
 more c = let l = c.loop-left in
-    let s = c in
-    let a = s.args in
+    let a = c.args in
     let t : Table = rows (width_of table_c) a.c a.t.now in
-    let h : length t ≤ 4096 = omega (arith, s.requires.0, rows-length (width_of table_c) a.c a.t.now) in (
+    let h : length t ≤ 4096 = omega (arith, c.requires.0, rows-length (width_of table_c) a.c a.t.now) in (
       tally_more a.by (anchor_tags a.ct) t 0 l.b l.rows c.place-found.result.rows l.invariant.1 (found c).1,
-      omega (arith, tally_small a.by (anchor_tags a.ct) t 0 h l.b l.rows (omega (arith, l.invariant.0.bound, s.requires.0)) l.invariant.1, more_small a.by (anchor_tags a.ct) t 0 h (0 + l.b + 1) c.place-found.result.rows (found c).1),
+      omega (arith, tally_small a.by (anchor_tags a.ct) t 0 h l.b l.rows (omega (arith, l.invariant.0.bound, c.requires.0)) l.invariant.1, more_small a.by (anchor_tags a.ct) t 0 h (0 + l.b + 1) c.place-found.result.rows (found c).1),
     )
 
 pub loop-left-init : goal.loop-left-init
@@ -51,7 +50,10 @@ returns-then-c-found c =
     let o = (goal.at.returns-then-c-found c).After-place-found in
     let l = o.loop-left in
     let a = o.args in
-    let t : Table = rows (width_of table_c) a.c a.t.now in record { b_value = walked_stop (anchor_tags a.ct) t a.c 0 l.b l.left l.at l.invariant.0 o.place-found.result.at (found o).0 (omega (arith, rows-length (width_of table_c) a.c a.t.now, c.if-c-found.true)); rows_value = tally_stop a.by (anchor_tags a.ct) t 0 l.b a.c (l.rows + o.place-found.result.rows) (omega (arith, l.invariant.0.bound, o.loop-left-test.true)) (more o).0 }
+    let t : Table = rows (width_of table_c) a.c a.t.now in record {
+      b_value = walked_stop (anchor_tags a.ct) t a.c 0 l.b l.left l.at l.invariant.0 o.place-found.result.at (found o).0 (omega (arith, rows-length (width_of table_c) a.c a.t.now, c.if-c-found.true));
+      rows_value = tally_stop a.by (anchor_tags a.ct) t 0 l.b a.c (l.rows + o.place-found.result.rows) (omega (arith, l.invariant.0.bound, o.loop-left-test.true)) (more o).0;
+    }
 
 pub loop-left-preserved : goal.loop-left-preserved
 loop-left-preserved c =

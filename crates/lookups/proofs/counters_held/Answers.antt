@@ -15,9 +15,8 @@ use Rattle.lookups.proofs.counters_held.Goals.{After-place-next, In-loop-rest}
 
 -- the place of the next one's row, and the rows looked at for it
 found : (c : After-place-next) →
-    let l = c in
-    let a = l.args in
-    let k = a.start.0 + l.loop-rest.k + 1 in
+    let a = c.args in
+    let k = a.start.0 + c.loop-rest.k + 1 in
     (c.place-next.result.at ≡ place_of (counter_tags a.ct k) (rows (width_of table_c) a.c a.t.now))
     × (c.place-next.result.rows ≡ tallied_by a.by (looked_at (counter_tags a.ct k) (rows (width_of table_c) a.c a.t.now)))
 found c = let a = c.args in
@@ -32,12 +31,11 @@ more : (c : After-place-next) →
     (l.rows + c.place-next.result.rows ≡ tallied_by a.by (looked_over (counter_tags a.ct) (rows (width_of table_c) a.c a.t.now) a.start.0 (l.k + 1)))
     × (l.rows + c.place-next.result.rows ≤ 16781312)
 more c = let l = c.loop-rest in
-    let s = c in
-    let a = s.args in
+    let a = c.args in
     let t : Table = rows (width_of table_c) a.c a.t.now in
-    let h : length t ≤ 4096 = omega (arith, s.requires.1.0, rows-length (width_of table_c) a.c a.t.now) in (
+    let h : length t ≤ 4096 = omega (arith, c.requires.1.0, rows-length (width_of table_c) a.c a.t.now) in (
       tally_more a.by (counter_tags a.ct) t a.start.0 l.k l.rows c.place-next.result.rows l.invariant.1 (found c).1,
-      omega (arith, tally_small a.by (counter_tags a.ct) t a.start.0 h l.k l.rows (omega (arith, l.invariant.0.0.bound, s.requires.1.0)) l.invariant.1, more_small a.by (counter_tags a.ct) t a.start.0 h (a.start.0 + l.k + 1) c.place-next.result.rows (found c).1),
+      omega (arith, tally_small a.by (counter_tags a.ct) t a.start.0 h l.k l.rows (omega (arith, l.invariant.0.0.bound, c.requires.1.0)) l.invariant.1, more_small a.by (counter_tags a.ct) t a.start.0 h (a.start.0 + l.k + 1) c.place-next.result.rows (found c).1),
     )
 
 -- there is room for the next
@@ -54,7 +52,11 @@ returns-then-c-next c =
     let o = (goal.at.returns-then-c-next c).After-place-next in
     let l = o.loop-rest in
     let a = o.args in
-    let t : Table = rows (width_of table_c) a.c a.t.now in record { k_value = walked_stop (counter_tags a.ct) t a.c a.start.0 l.k l.rest l.at l.invariant.0.0 o.place-next.result.at (found o).0 (omega (arith, rows-length (width_of table_c) a.c a.t.now, c.if-c-next.true)); places_after = l.invariant.0.1; rows_value = tally_stop a.by (counter_tags a.ct) t a.start.0 l.k a.c (l.rows + o.place-next.result.rows) (omega (arith, l.invariant.0.0.bound, o.loop-rest-test.true)) (more o).0 }
+    let t : Table = rows (width_of table_c) a.c a.t.now in record {
+      k_value = walked_stop (counter_tags a.ct) t a.c a.start.0 l.k l.rest l.at l.invariant.0.0 o.place-next.result.at (found o).0 (omega (arith, rows-length (width_of table_c) a.c a.t.now, c.if-c-next.true));
+      places_after = l.invariant.0.1;
+      rows_value = tally_stop a.by (counter_tags a.ct) t a.start.0 l.k a.c (l.rows + o.place-next.result.rows) (omega (arith, l.invariant.0.0.bound, o.loop-rest-test.true)) (more o).0;
+    }
 
 pub loop-rest-preserved : goal.loop-rest-preserved
 loop-rest-preserved c =

@@ -8,7 +8,7 @@ use Rattle.scheme.specs.Insert.{added_to}
 use Rattle.store.specs.Check.{part_in}
 use Rattle.store.specs.Tables.{InOrder}
 use Rattle.store.proofs.Laws.{table_m, table_v, table_c, table_s, laid_fit}
-use Rattle.store.proofs.Stores.{LaidStore, same_long, still_in_order}
+use Rattle.store.proofs.Stores.{LaidStore, still_in_order}
 use Rattle.placing.proofs.Stores.{with_added, only_ascending, placed}
 use Rattle.placing.proofs.place.Goals as goal
 use Rattle.placing.proofs.place.Lts.View as view
@@ -62,31 +62,39 @@ store₄ c = let a = (start₁ (before₂ (before₃ (before₄ c)))).args in re
 }
 
 -- a table that has not been lent yet is as the checks found it
-
 still : (s : Start) (g : LaidStore s.args.z) (k : Which) → g.store.table k ≡ (cut s.args.store.now).table k → InOrder g.bytes (part_in s.args.z k) (width_of k)
 still s g k e = still_in_order s.args.z g k s.args.store.now s.requires.store_value.0 e
 
 pub add_rows-requires : goal.add_rows-requires
 add_rows-requires c =
-    let s = (goal.at.add_rows-requires c).Start in record { in_order = (still s (store₀ s) table_m refl, s.requires.store_value.1.entries); len = (s.requires.entries_len.0.0, s.requires.entries_value.0) }
+    let s = (goal.at.add_rows-requires c).Start in record {
+      in_order = (still s (store₀ s) table_m refl, s.requires.store_value.1.entries);
+      len = (s.requires.entries_len.0.0, s.requires.entries_value.0);
+    }
 
 pub add_rows-requires-2 : goal.add_rows-requires-2
 add_rows-requires-2 c =
     let o = (goal.at.add_rows-requires-2 c).After-add_rows in
-    let s = start₁ o in record { in_order = (still s (store₁ o) table_v refl, s.requires.store_value.1.reverses); len = (s.requires.entries_len.0.1, s.requires.entries_value.1) }
+    let s = start₁ o in record {
+      in_order = (still s (store₁ o) table_v refl, s.requires.store_value.1.reverses);
+      len = (s.requires.entries_len.0.1, s.requires.entries_value.1);
+    }
 
 pub add_rows-requires-3 : goal.add_rows-requires-3
 add_rows-requires-3 c =
     let o = (goal.at.add_rows-requires-3 c).After-add_rows-2 in
-    let s = start₁ (before₂ o) in record { in_order = (still s (store₂ o) table_c refl, s.requires.store_value.1.counter); len = (s.requires.entries_len.1.0 ∙ omega arith, only_ascending (width_of table_c) s.args.counter.now) }
+    let s = start₁ (before₂ o) in record {
+      in_order = (still s (store₂ o) table_c refl, s.requires.store_value.1.counter);
+      len = (s.requires.entries_len.1.0 ∙ omega arith, only_ascending (width_of table_c) s.args.counter.now);
+    }
 
 pub add_rows-requires-4 : goal.add_rows-requires-4
 add_rows-requires-4 c =
     let o = (goal.at.add_rows-requires-4 c).After-add_rows-3 in
-    let s = start₁ (before₂ (before₃ o)) in record { in_order = (still s (store₃ o) table_s refl, s.requires.store_value.1.log); len = (s.requires.entries_len.1.1 ∙ omega arith, only_ascending (width_of table_s) s.args.log.now) }
-
-pub shape_of-store : goal.shape_of-store
-shape_of-store c = let o = (goal.at.shape_of-store c).After-add_rows-4 in same_long _ (store₄ o) (store₀ (start₁ (before₂ (before₃ (before₄ o)))))
+    let s = start₁ (before₂ (before₃ o)) in record {
+      in_order = (still s (store₃ o) table_s refl, s.requires.store_value.1.log);
+      len = (s.requires.entries_len.1.1 ∙ omega arith, only_ascending (width_of table_s) s.args.log.now);
+    }
 
 pub returns : goal.returns
 returns c =

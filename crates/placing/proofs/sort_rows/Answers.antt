@@ -15,10 +15,6 @@ small s = omega (arith, mul-le-mul_left s.args.w s.requires.1.0, s.requires.1.1)
 roomy : (c : After-blank_entries-room) → c.args.w * c.args.n ≤ length c.blank_entries-room.result
 roomy c = omega (arith, small c.before.before.before, ap length c.blank_entries-room.ensures ∙ length-replicate {A = ℕ} (64 * width_of table_m) 0)
 
-pub overflow_mul-e : goal.overflow_mul-e
-overflow_mul-e c =
-    omega (arith, small (goal.at.overflow_mul-e c).Start)
-
 pub slice_bounds-room-end : goal.slice_bounds-room-end
 slice_bounds-room-end c =
     roomy (goal.at.slice_bounds-room-end c).After-blank_entries-room
@@ -30,11 +26,3 @@ slice_bounds-sort-end c =
 pub sort-requires : goal.sort-requires
 sort-requires c =
     (c.requires.0, length-take-le _ _ (roomy (goal.at.sort-requires c).After-blank_entries-room))
-
-pub shape_of-t : goal.shape_of-t
-shape_of-t c =
-    c.sort.auto.t
-
-pub returns : goal.returns
-returns c =
-    c.sort.ensures.0

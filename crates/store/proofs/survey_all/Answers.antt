@@ -28,10 +28,9 @@ of_r c = survey_end _ _ _ _ _ _ (survey_at _ _ _ _ _ _ _ c.survey-in_s.ensures (
 pub returns : goal.returns
 unfolding sizes
 returns c =
-    let d = c in
-    all_surveyed d.args.store.now (sizes (goal.at.returns c).Start) _ _ _ _ _ _ c.any.ensures
-    d.survey-in_m.ensures
-    (survey_at _ _ _ _ _ _ _ d.survey-in_v.ensures (of_v (goal.at.returns c).After-survey-in_m))
-    (survey_at _ _ _ _ _ _ _ d.survey-in_c.ensures (of_c (goal.at.returns c).After-survey-in_v))
-    (survey_at _ _ _ _ _ _ _ d.survey-in_s.ensures (of_s (goal.at.returns c).After-survey-in_c))
-    (survey_at _ _ _ _ _ _ _ d.survey-in_r.ensures (of_r (goal.at.returns c).After-survey-in_s))
+    all_surveyed c.args.store.now (sizes (goal.at.returns c).Start) _ _ _ _ _ _ c.any.ensures
+    c.survey-in_m.ensures
+    (survey_at _ _ _ _ _ _ _ c.survey-in_v.ensures (of_v (goal.at.returns c).After-survey-in_m))
+    (survey_at _ _ _ _ _ _ _ c.survey-in_c.ensures (of_c (goal.at.returns c).After-survey-in_v))
+    (survey_at _ _ _ _ _ _ _ c.survey-in_s.ensures (of_s (goal.at.returns c).After-survey-in_c))
+    (survey_at _ _ _ _ _ _ _ c.survey-in_r.ensures (of_r (goal.at.returns c).After-survey-in_s))

@@ -11,11 +11,8 @@ use Rattle.tokens.proofs.write_part.Goals as goal
 pub returns : goal.returns
 unfolding part_token
 returns c =
-    let w = c in
-    let m = w in
-    let k = m.prepare in
-    let s = m in
-    let key = s.args.key.now in
-    halves s.args.to.now w.write_find.new.to c.copy.new.to 96 128 s.requires.1
-    (w.write_find.auto.to ∙ length_part s.args.to.now 0 96 (omega (arith, s.requires.1)))
-    ∙ ap₂ (λ (x y : List ℕ). x ++ y) w.write_find.ensures (c.copy.ensures ∙ m.mark_key-rl.ensures key (prepared k.result key k.ensures))
+    let k = c.prepare in
+    let key = c.args.key.now in
+    halves c.args.to.now c.write_find.new.to c.copy.new.to 96 128 c.requires.1
+    (c.write_find.auto.to ∙ length_part c.args.to.now 0 96 (omega (arith, c.requires.1)))
+    ∙ ap₂ (λ (x y : List ℕ). x ++ y) c.write_find.ensures (c.copy.ensures ∙ c.mark_key-rl.ensures key (prepared k.result key k.ensures))

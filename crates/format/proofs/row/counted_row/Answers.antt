@@ -4,7 +4,5 @@ use Rattle.format.proofs.row.counted_row.Goals as goal
 
 pub returns : goal.returns
 returns c =
-    let p = c in
-    let s = p in
-    let a = s.args in
-    counted_row_is a.keys a.cl.now a.nonce.now a.tag.now p.put_numbers.new.to c.sealed_row.result a.a a.n s.requires.0 p.put_numbers.ensures c.sealed_row.ensures
+    let a = c.args in
+    counted_row_is a.keys a.cl.now a.nonce.now a.tag.now c.put_numbers.new.to c.sealed_row.result a.a a.n c.requires.0 c.put_numbers.ensures c.sealed_row.ensures

@@ -11,11 +11,6 @@ use Rattle.format.proofs.row.label_row.Goals as goal
 pub returns : goal.returns
 unfolding label_row
 returns c =
-    let z = c in
-    let y = z in
-    let x = y in
-    let m = x in
-    let s = m in
-    let a = s.args in
-    marked_three 1 _ a.id.now a.nonce.now m.r_mark-mark.result _ _ _ 16 28 s.requires.1.1 (omega (arith, s.requires.1.0)) (omega arith) x.copy_at.ensures y.copy_at-2.ensures z.copy_at-3.ensures
-    ∙ ap (λ (l : List ℕ). 1 ∷ a.id.now ++ (a.nonce.now ++ l)) (m.r_mark-mark.ensures ∙ r_mark_is a.k a.rl.now a.nonce.now a.id.now s.requires.0)
+    let a = c.args in
+    marked_three 1 _ a.id.now a.nonce.now c.r_mark-mark.result _ _ _ 16 28 c.requires.1.1 (omega (arith, c.requires.1.0)) (omega arith) c.copy_at.ensures c.copy_at-2.ensures c.copy_at-3.ensures
+    ∙ ap (λ (l : List ℕ). 1 ∷ a.id.now ++ (a.nonce.now ++ l)) (c.r_mark-mark.ensures ∙ r_mark_is a.k a.rl.now a.nonce.now a.id.now c.requires.0)

@@ -9,11 +9,6 @@ use Rattle.format.proofs.row.sealed_row.Goals as goal
 
 pub returns : goal.returns
 returns c =
-    let b = c in
-    let a = b in
-    let x = a in
-    let y = x in
-    let s = y in
-    marked_three 1 _ s.args.tag.now s.args.nonce.now x.apply_short.new.text _ _ _ 32 44 s.requires.0.0 (omega arith)
-    (omega (arith, x.apply_short.auto.text, y.copy.auto.to)) a.copy_at.ensures b.copy_at-2.ensures c.copy_at-3.ensures
-    ∙ ap (λ (l : List ℕ). 1 ∷ s.args.tag.now ++ (s.args.nonce.now ++ l)) (x.apply_short.ensures ∙ ap (E s.args.key.now s.args.nonce.now) y.copy.ensures)
+    marked_three 1 _ c.args.tag.now c.args.nonce.now c.apply_short.new.text _ _ _ 32 44 c.requires.0.0 (omega arith)
+    (omega (arith, c.apply_short.auto.text, c.copy.auto.to)) c.copy_at.ensures c.copy_at-2.ensures c.copy_at-3.ensures
+    ∙ ap (λ (l : List ℕ). 1 ∷ c.args.tag.now ++ (c.args.nonce.now ++ l)) (c.apply_short.ensures ∙ ap (E c.args.key.now c.args.nonce.now) c.copy.ensures)

@@ -1,0 +1,7 @@
+-- The call's own contract, with its answer as a number.
+use Rattle.encoding.proofs.Signed.{fits_as}
+use Rattle.exports.proofs.Bounds.{find_fits}
+use Rattle.exports.proofs.mazhkuri_find.Goals as goal
+
+pub counted-requires : goal.counted-requires
+counted-requires c = let a = c.args in fits_as c.find.ensures.result_value (find_fits a.store.now a.token.now a.output.now)
