@@ -12,7 +12,6 @@ use lib.Seq.{drop-cons, set_at, take_all}
 use Rattle.octets.specs.Number.{number}
 use Rattle.octets.specs.Part.{back}
 use Rattle.octets.proofs.Parts.{length_part, length_back, halves}
-use Rattle.table.specs.Lists.{any_of}
 use Rattle.hmac.specs.declared.Keyed.{Keyed}
 use Rattle.scheme.specs.Keys.{share, CT, find_mt, find_cl}
 use Rattle.suite.specs.Program.{program}
