@@ -1,3 +1,4 @@
+-- Each share is read in turn: a damaged one ends it, the count of another is added.
 use Prim.Native.Nat.{ℕ, ◌+◌, ◌*◌, ◌≤◌}
 use mathlib.Core.Path.{◌≡◌, refl, sym, ap, subst, ◌∙◌}
 use mathlib.Core.List.{map}

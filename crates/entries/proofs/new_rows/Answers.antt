@@ -1,3 +1,4 @@
+-- After the last id the rows of the first ids are all.
 use Rattle.scheme.specs.Store.{table_m, table_v, width_of}
 use Rattle.table.specs.Table.{Table, rows}
 use Rattle.table.proofs.Rows.{rows-length}

@@ -1,3 +1,4 @@
+-- Each row of V of the id flags the row of M that it names; the first row of another id ends it.
 use Prim.Native.Nat.{ℕ, ◌≤◌, ◌<◌}
 use mathlib.Core.Path.{◌≡◌, refl, sym, ap, ◌∙◌}
 use mathlib.Core.Bool.{false}

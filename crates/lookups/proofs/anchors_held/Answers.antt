@@ -1,3 +1,4 @@
+-- Each turn looks one tag up: it ends the walk, or its rows are added.
 use Prim.Native.Nat.{ℕ, ◌+◌, ◌≤◌}
 use mathlib.Core.Path.{◌≡◌, sym, ap, ◌∙◌}
 use mathlib.Core.List.{List}

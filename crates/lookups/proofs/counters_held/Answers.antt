@@ -1,3 +1,4 @@
+-- Each turn looks one tag up: it ends the walk, or its place is noted and its rows are added.
 use Prim.Native.Nat.{ℕ, ◌+◌, ◌≤◌, ◌<◌}
 use mathlib.Core.Path.{◌≡◌, refl, sym, ap, ◌∙◌}
 use mathlib.Core.List.{List}

@@ -1,3 +1,4 @@
+-- Each part is made in turn: one that is refused ends it.
 use Prim.Native.Nat.{ℕ, ◌/◌}
 use mathlib.Core.Path.{sym, ap, ◌∙◌}
 use mathlib.Core.Option.{Option}

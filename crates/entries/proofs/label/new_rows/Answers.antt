@@ -1,3 +1,4 @@
+-- After the last id the rows of the first ids are all.
 use mathlib.Core.Path.{◌≡◌, ◌∙◌}
 use lib.ListN.{length}
 use Rattle.table.specs.Table.{Table, rows}
