@@ -1,5 +1,7 @@
 // The commands of the tool that take a token in the place of a key, carried out on slices: of a command line's words, the
 // bytes of a store and of the file that holds the token, and random bytes, the outcome, the store after it and what is printed.
+#![tactic(auto)]
+
 ghost use Rattle.std.specs.Prelude.{◌≡◌, [], ◌*◌, ◌≤◌, length};
 ghost use Rattle.operands.specs.Ids.{ids_of};
 ghost use Rattle.report.specs.Run.{Ends};

@@ -3,14 +3,11 @@ use Prim.Native.Nat.{ℕ}
 use mathlib.Core.Path.{◌≡◌, refl, sym, ap, ◌∙◌}
 use mathlib.Core.List.{List, [], ◌∷◌}
 use lib.ListN.{length}
-use denote.Enum.Declared.{tag_of}
-use types.Run.{OneOf, miss}
 use mathlib.Core.Option.{Option, none, some}
 use Rattle.answer.specs.Answer.{Answer, done}
 use Rattle.answer.specs.Verdict.{Test, verdict, answer_or, unless_refused}
 use Rattle.client.specs.Making.{making_answer, making_token}
 use Rattle.outcome.specs.Told.{told}
-use Rattle.outcome.specs.contracts.Outcome.{the_type as outcome}
 use Rattle.outcome.specs.declared.Outcome.{Outcome}
 use Rattle.outcome.specs.declared.Outcome.TheVariants.{Number, Counted, Inspected, Compacted, Damaged, WrongKey, Refused, Done, BadWords}
 use Rattle.lines.specs.Answer.{answer_line}
@@ -19,7 +16,7 @@ use Rattle.report.proofs.Found.{never_done}
 use Rattle.report.specs.Run.{made_text}
 
 -- every outcome of a token's making but that it was made is told by its line
-pub unmade : (o : Outcome) (token : List ℕ) → OneOf (0 ∷ 1 ∷ 2 ∷ 3 ∷ 4 ∷ 5 ∷ 6 ∷ 8 ∷ []) (tag_of outcome o) → answer_line o ≡ made_text o token
+pub unmade : (o : Outcome) (token : List ℕ) → (o ≡ Done → ⊥) → answer_line o ≡ made_text o token
 unmade (Number n) token h = refl
 unmade (Counted n rows) token h = refl
 unmade (Inspected f) token h = refl
@@ -27,7 +24,7 @@ unmade (Compacted t) token h = refl
 unmade (Damaged t) token h = refl
 unmade (WrongKey t) token h = refl
 unmade (Refused r room) token h = refl
-unmade Done token h = absurd (miss (0 ∷ 1 ∷ 2 ∷ 3 ∷ 4 ∷ 5 ∷ 6 ∷ 8 ∷ []) 7 tt h)
+unmade Done token h = absurd (h refl)
 unmade BadWords token h = refl
 
 -- what a making told stands for the token that was written; its length is the array's

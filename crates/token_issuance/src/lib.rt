@@ -1,5 +1,7 @@
 // The commands of the tool that make a token, carried out on slices: of a command line's words, the bytes of a key file and
 // random bytes, the outcome and the token's digits.
+#![tactic(auto)]
+
 ghost use Rattle.std.specs.Prelude.{◌≡◌, [], ◌≤◌, length};
 ghost use Rattle.buffer.specs.Put.{Put};
 ghost use Rattle.messages.specs.Message.{message_line};
