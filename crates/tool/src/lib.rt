@@ -2,6 +2,8 @@
 // file (or of the file that holds a token), and random bytes, the outcome, the store after it and what is
 // printed. What is left to the program is to ask the system for these bytes, and to write what this
 // function gives.
+#![tactic(auto)]
+
 ghost use Rattle.std.specs.Prelude.{◌≡◌, ◌++◌, ◌+◌, ◌≤◌, ◌<◌, length};
 ghost use Rattle.buffer.specs.Put.{Put};
 ghost use Rattle.lines.specs.Answer.{answer_line};
