@@ -3,6 +3,8 @@
 //
 // A command that changes the store makes STORE.lock, reads the store, runs, writes STORE.new, syncs it,
 // renames it to STORE and removes STORE.lock; the answer is printed after that.
+#![tactic(auto)]
+
 ghost use Rattle.std.specs.Prelude.{◌≡◌, true, false, ◌+◌, ◌≤◌, length, replicate};
 ghost use Rattle.request.specs.Request.{request_of};
 ghost use Rattle.demand.specs.Needs.{changes};
@@ -15,6 +17,7 @@ use report::Ran;
 use words::line;
 
 const STDERR_FILENO: i32 = 2;
+
 const STDOUT_FILENO: i32 = 1;
 
 // The longest store, 1,134,602 bytes, and one byte more: a longer file is refused by its length.
