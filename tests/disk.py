@@ -83,10 +83,6 @@ class Disk:
             self.change({name: File()})
         self.opened[fd] = [self.names.get(name, name), 0]  # what is no file is a folder
 
-    def on_mkstemp(self, fd, name):
-        self.change({self.named(name): File()})
-        self.opened[fd] = [self.names[self.named(name)], 0]
-
     def on_write(self, n, fd, content=b""):
         if int(fd) == 1:
             self.steps.append(("answer",))
