@@ -1310,8 +1310,8 @@ def compiled(folder):
         lines = subprocess.run(["nm", "-D", "-P", *words], check=True, capture_output=True, text=True).stdout.splitlines()
         return {line.split()[0].split("@")[0] for line in lines}
 
-    # what is no call of the system
-    others = {"memcpy", "memmove", "memset", "__errno_location", "__xpg_strerror_r", "__libc_start_main", "__sysv_signal",
+    # what is no call of the system, and what the start makes: `__write` only where the processor is not one that the program is for
+    others = {"memcpy", "memmove", "memset", "__errno_location", "__xpg_strerror_r", "__libc_start_main", "__sysv_signal", "__write",
               "__x86_get_cpuid_feature_leaf", "__cxa_finalize", "__gmon_start__", "_ITM_registerTMCloneTable", "_ITM_deregisterTMCloneTable"}
     called = names("--undefined-only", BUILT) - others
     unseen = called - names("--defined-only", library)
