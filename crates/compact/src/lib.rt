@@ -33,18 +33,18 @@ fn open_log(t: &[u8], s: usize, n: usize, ks: &[u8], log: &mut [u8])
 }
 
 // The answer, by whether damage stopped the treatment. [01:OP13 RS13]
-fn outcome(t: Tally, stopped: bool) -> Compaction
+fn outcome(t: Tally, stopped: bool) -> Result<Tally, CompactionError>
     ensures { compaction_answer result ≡ cond stopped (refused 13 (t.anchors ∷ t.counters ∷ [])) (done (t.anchors ∷ t.counters ∷ [])) }
 {
     if stopped {
-        return Compaction::Damage(t);
+        return Err(CompactionError::Damage(t));
     }
-    Compaction::Done(t)
+    Ok(t)
 }
 
 // Treats all CL of S: table C one after the other, and table S at the end, in one pass.
 // [01:OP10 OP12 OP13 RS13] [02:W2.4]
-fn treat_logged(store: &mut [u8], z: Shape, nonces: &[u8], token: &[u8]) -> Compaction
+fn treat_logged(store: &mut [u8], z: Shape, nonces: &[u8], token: &[u8]) -> Result<Tally, CompactionError>
     requires { (checked_of store.old ≡ Fit z) × ((z.s.rows - z.s.free ≤ length nonces.now / 12) × (length token.now ≡ compaction_token_length)) }
     ensures result_value { compaction_answer result ≡ (treated program store.old nonces.now token.now).answer }
     ensures store_after { store.new ≡ joined (compacted_store store.old (treated program store.old nonces.now token.now).t_c (treated program store.old nonces.now token.now).t_s) }
@@ -77,23 +77,23 @@ fn treat_logged(store: &mut [u8], z: Shape, nonces: &[u8], token: &[u8]) -> Comp
 
 // Compaction, refused by 4, 6, 10, 11 and 19, which leave the store as it was; or stopped by 13, with
 // the CL before it treated. [01:OP10 OP13 RS13]
-pub fn compact(store: &mut [u8], nonces: &[u8], token: &[u8]) -> Compaction
+pub fn compact(store: &mut [u8], nonces: &[u8], token: &[u8]) -> Result<Tally, CompactionError>
     ensures result_value { compaction_answer result ≡ (compact_of program store.old nonces.now token.now).answer }
     ensures store_after { store.new ≡ (compact_of program store.old nonces.now token.now).store }
 {
     if nonces.len() % NONCE != 0 {
-        return Compaction::Refused(Refusal::NonceLength);
+        return Err(CompactionError::Refused(Refusal::NonceLength));
     }
     if token.len() != COMPACTION_TOKEN {
-        return Compaction::Refused(Refusal::TokenLength);
+        return Err(CompactionError::Refused(Refusal::TokenLength));
     }
     let checked = store::sizes(store);
     match checked {
-        Checked::Refused(r) => Compaction::Refused(r),
-        Checked::Fit(z) => {
+        Err(r) => Err(CompactionError::Refused(r)),
+        Ok(z) => {
             let s = z.s;
             if nonces.len() / NONCE < s.rows - s.free {
-                return Compaction::Refused(Refusal::NonceCount);
+                return Err(CompactionError::Refused(Refusal::NonceCount));
             }
             treat_logged(store, z, nonces, token)
         }

@@ -115,17 +115,17 @@ fn erase_rows(store: &mut [u8], z: Shape, id: &[u8; ID]) -> u64
 }
 
 // Erases an id. [01:OP4 OP5 RI6] [02:W4.14]
-pub fn erase(store: &mut [u8], id: &[u8]) -> Counted
+pub fn erase(store: &mut [u8], id: &[u8]) -> Result<u64, Refusal>
     ensures result_value { counted result ≡ (erase_of store.old id.now).answer }
     ensures store_after { store.new ≡ (erase_of store.old id.now).store }
 {
     if id.len() != ID {
-        return Counted::Refused(Refusal::IdLength);
+        return Err(Refusal::IdLength);
     }
     let mut name = [0u8; ID];
     octets::copy(&mut name, id);
     match store::sizes(store) {
-        Checked::Refused(r) => Counted::Refused(r),
-        Checked::Fit(z) => Counted::Number(erase_rows(store, z, &name)),
+        Err(r) => Err(r),
+        Ok(z) => Ok(erase_rows(store, z, &name)),
     }
 }

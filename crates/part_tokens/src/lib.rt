@@ -31,7 +31,7 @@ fn piece(text: &[u8], a: usize, e: usize) -> &[u8]
 }
 
 // The part of number i: its key, name and value are three pieces of the text. [02:W4.24]
-fn make_part(text: &[u8], ends: &[u64], i: usize, part: &mut [u8; PART_TOKEN]) -> Completion
+fn make_part(text: &[u8], ends: &[u64], i: usize, part: &mut [u8; PART_TOKEN]) -> Result<(), Refusal>
     requires { 3 * i + 3 ≤ length ends.now }
     ensures result_value { completion result ≡ making_answer (part_token_tests (part_at text.now ends.now i)) }
     ensures part_after { part.new ≡ making_token (part_token_tests (part_at text.now ends.now i)) (part_of program (part_at text.now ends.now i)) part.old }
@@ -60,7 +60,7 @@ fn put_part(to: &mut [u8], i: usize, part: &[u8; PART_TOKEN])
 
 // The parts of a text, made in order, of which the first 8 are kept; the first making that is refused ends
 // it, and clears them. [02:W4.24 W4.25]
-pub fn make_parts(text: &[u8], ends: &[u64], to: &mut [u8]) -> Completion
+pub fn make_parts(text: &[u8], ends: &[u64], to: &mut [u8]) -> Result<(), Refusal>
     requires { length to.old ≡ 1024 }
     ensures result_value { completion result ≡ making_answer (parts_tests (parts_of text.now ends.now)) }
     ensures to_after { to.new ≡ kept_parts (parts_of text.now ends.now) to.old }
@@ -70,12 +70,12 @@ pub fn make_parts(text: &[u8], ends: &[u64], to: &mut [u8]) -> Completion
     while i < n {
         let mut part = [0u8; PART_TOKEN];
         let made = make_part(text, ends, i, &mut part);
-        if let Completion::Refused(_) = made {
+        if let Err(_) = made {
             octets::clear(to);
             return made;
         }
         put_part(to, i, &part);
         i += 1;
     }
-    Completion::Done
+    Ok(())
 }
