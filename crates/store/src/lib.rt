@@ -65,13 +65,6 @@ struct Surveys {
     shape: Shape,
 }
 
-// A store that passed the checks, or the refusal.
-#[derive(Clone, Copy)]
-pub enum Checked {
-    Fit(Shape),
-    Refused(Refusal),
-}
-
 // Writes the header of a store and zeroes the rest. [01:ST16]
 #[tactic(auto, using(crate::proofs::Laws::made), unfolding(scheme::specs::Store::length_for))]
 fn write(p: u64, m: u64, c: u64, s: u64, r: u64, slice: &mut [u8])
@@ -203,14 +196,9 @@ fn bad_form(store: &[u8], z: Shape) -> bool
 pub fn sizes(store: &[u8]) -> Result<Shape, Refusal>
     ensures { result ≡ checked_of store.now }
 {
-    let checked = marked(store);
-    match checked {
-        Err(r) => Err(r),
-        Ok(z) => {
-            if bad_form(store, z) {
-                return Err(Refusal::Form);
-            }
-            Ok(z)
-        }
+    let z = marked(store)?;
+    if bad_form(store, z) {
+        return Err(Refusal::Form);
     }
+    Ok(z)
 }

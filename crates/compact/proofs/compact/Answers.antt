@@ -1,15 +1,15 @@
 -- Refused by the definition's tests, in its order; then the treatment.
 use mathlib.Core.Path.{◌≡◌, sym, ◌∙◌}
 use native.Mathlib.Omega.{arith}
-use Rattle.store.specs.declared.Checked.TheVariants.{Fit}
+use Rattle.std.specs.Prelude.{Ok}
 use Rattle.store.specs.Check.{checked_of}
 use Rattle.compact.proofs.Verdicts.{rows_left, refuses, goes, verdict_nonces, verdict_token, verdict_store, verdict_count, verdict_none}
 use Rattle.compact.proofs.compact.Goals as goal
 use Rattle.compact.proofs.compact.Goals.{In-Fit}
 
 -- the store passed the checks
-fits : (c : In-Fit) → checked_of c.args.store.now ≡ Fit c.in-Fit.z
-fits c = sym c.sizes-checked.ensures ∙ c.in-Fit.is
+fits : (c : In-Fit) → checked_of c.args.store.now ≡ Ok c.in-Ok.z
+fits c = sym c.sizes-checked.ensures ∙ c.in-Ok.is
 
 pub returns-then-nonces-ne0 : goal.returns-then-nonces-ne0
 returns-then-nonces-ne0 c =
@@ -29,15 +29,15 @@ returns-then-nonces-s c =
     let e = k in
     let a = e.args in
     let both = refuses a.store.now a.nonces.now a.token.now _
-    (verdict_count a.store.now a.nonces.now a.token.now e.if-nonces-ne0.false c.if-token-ne-COMPACTION_TOKEN.false k.in-Fit.z (fits k) c.if-nonces-s.true) in
+    (verdict_count a.store.now a.nonces.now a.token.now e.if-nonces-ne0.false c.if-token-ne-COMPACTION_TOKEN.false k.in-Ok.z (fits k) c.if-nonces-s.true) in
     record { result_value = both.0; store_after = both.1 }
 
-pub returns-in-Refused : goal.returns-in-Refused
-returns-in-Refused c =
+pub returns-in-Err : goal.returns-in-Err
+returns-in-Err c =
     let e = c in
     let a = e.args in
     let both = refuses a.store.now a.nonces.now a.token.now _
-    (verdict_store a.store.now a.nonces.now a.token.now e.if-nonces-ne0.false c.if-token-ne-COMPACTION_TOKEN.false c.in-Refused.r (sym c.sizes-checked.ensures ∙ c.in-Refused.is)) in
+    (verdict_store a.store.now a.nonces.now a.token.now e.if-nonces-ne0.false c.if-token-ne-COMPACTION_TOKEN.false c.in-Err.r (sym c.sizes-checked.ensures ∙ c.in-Err.is)) in
     record { result_value = both.0; store_after = both.1 }
 
 pub returns-else-nonces-s : goal.returns-else-nonces-s
@@ -47,8 +47,8 @@ returns-else-nonces-s c =
     let e = k in
     let a = e.args in
     let both = goes a.store.now a.nonces.now a.token.now _ _
-    (verdict_none a.store.now a.nonces.now a.token.now e.if-nonces-ne0.false c.if-token-ne-COMPACTION_TOKEN.false k.in-Fit.z (fits k) r.if-nonces-s.false) r.treat_logged.ensures.result_value r.treat_logged.ensures.store_after in
+    (verdict_none a.store.now a.nonces.now a.token.now e.if-nonces-ne0.false c.if-token-ne-COMPACTION_TOKEN.false k.in-Ok.z (fits k) r.if-nonces-s.false) r.treat_logged.ensures.result_value r.treat_logged.ensures.store_after in
     record { result_value = both.0; store_after = both.1 }
 
 pub overflow_sub-s : goal.overflow_sub-s
-overflow_sub-s c = omega (arith, rows_left c.args.store.now c.in-Fit.z (fits (goal.at.overflow_sub-s c).In-Fit))
+overflow_sub-s c = omega (arith, rows_left c.args.store.now c.in-Ok.z (fits (goal.at.overflow_sub-s c).In-Fit))

@@ -5,15 +5,15 @@ use Rattle.order.proofs.order.Goals as goal
 
 pub order_all-requires : goal.order_all-requires
 order_all-requires c =
-    sym c.marked-checked.ensures ∙ c.in-Fit.is
+    sym c.marked-checked.ensures ∙ c.in-Ok.is
 
-pub returns-in-Refused : goal.returns-in-Refused
-returns-in-Refused c =
-    let both = order_refused c.args.store.now c.in-Refused.r (sym c.marked-checked.ensures ∙ c.in-Refused.is) in
+pub returns-in-Err : goal.returns-in-Err
+returns-in-Err c =
+    let both = order_refused c.args.store.now c.in-Err.r (sym c.marked-checked.ensures ∙ c.in-Err.is) in
     record { result_value = both.0; store_after = both.1 }
 
 pub returns-in-Fit : goal.returns-in-Fit
 returns-in-Fit c =
     let o = c.order_all in
-    let both = order-done c.args.store.now c.in-Fit.z (sym c.marked-checked.ensures ∙ c.in-Fit.is) o.result o.new.store o.ensures.value o.ensures.store_after in
+    let both = order-done c.args.store.now c.in-Ok.z (sym c.marked-checked.ensures ∙ c.in-Ok.is) o.result o.new.store o.ensures.value o.ensures.store_after in
     record { result_value = both.0; store_after = both.1 }

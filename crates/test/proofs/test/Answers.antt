@@ -15,11 +15,11 @@ pub test_in-requires : goal.test_in-requires
 test_in-requires c =
     let k = c in
     let z = k in
-    (sym z.sizes-checked.ensures ∙ k.in-Fit.is, (z.if-id-ne-ID.false, z.if-token-ne-MARK_TOKEN.false))
+    (sym z.sizes-checked.ensures ∙ k.in-Ok.is, (z.if-id-ne-ID.false, z.if-token-ne-MARK_TOKEN.false))
 
-pub returns-in-Refused : goal.returns-in-Refused
-returns-in-Refused c =
+pub returns-in-Err : goal.returns-in-Err
+returns-in-Err c =
     let k = c in
     let z = k in
     let a = z.args in
-    unfit_store a.store.now a.id.now a.token.now z.if-id-ne-ID.false z.if-token-ne-MARK_TOKEN.false k.in-Refused.r (sym z.sizes-checked.ensures ∙ k.in-Refused.is)
+    unfit_store a.store.now a.id.now a.token.now z.if-id-ne-ID.false z.if-token-ne-MARK_TOKEN.false k.in-Err.r (sym z.sizes-checked.ensures ∙ k.in-Err.is)
