@@ -9,7 +9,7 @@ ghost use Rattle.choosing.specs.Choice.{part_counts, better_of, chosen_to};
 
 use find::Counts;
 use format::{FIND_TOKEN, PART_TOKEN};
-use store::{Checked, Shape};
+use store::Shape;
 
 // The number of a part, and what its shares count.
 #[derive(Clone, Copy)]

@@ -10,13 +10,12 @@ ghost use Rattle.scheme.specs.Keys.{compaction_token_length};
 ghost use Rattle.scheme.specs.Store.{table_s, width_of, joined};
 ghost use Rattle.scheme.specs.Compaction.{treated, compacted_store, compact as compact_of};
 ghost use Rattle.suite.specs.Program.{program};
-ghost use Rattle.store.specs.declared.Checked.TheVariants.{Fit};
 ghost use Rattle.store.specs.Check.{checked_of};
 ghost use Rattle.compact.specs.Log.{cls_in};
 
-use answer::{Compaction, Refusal, Tally};
+use answer::{CompactionError, Refusal, Tally};
 use format::{COMPACTION_TOKEN, NONCE, row};
-use store::{Checked, MOST_ROWS, S_WIDTH, Shape};
+use store::{MOST_ROWS, S_WIDTH, Shape};
 
 // Decrypts the first n rows of S, once, into a log of 32 bytes per row. [01:ST12]
 fn open_log(t: &[u8], s: usize, n: usize, ks: &[u8], log: &mut [u8])
@@ -44,8 +43,13 @@ fn outcome(t: Tally, stopped: bool) -> Result<Tally, CompactionError>
 
 // Treats all CL of S: table C one after the other, and table S at the end, in one pass.
 // [01:OP10 OP12 OP13 RS13] [02:W2.4]
-fn treat_logged(store: &mut [u8], z: Shape, nonces: &[u8], token: &[u8]) -> Result<Tally, CompactionError>
-    requires { (checked_of store.old ≡ Fit z) × ((z.s.rows - z.s.free ≤ length nonces.now / 12) × (length token.now ≡ compaction_token_length)) }
+fn treat_logged(
+    store: &mut [u8],
+    z: Shape,
+    nonces: &[u8],
+    token: &[u8],
+) -> Result<Tally, CompactionError>
+    requires { (checked_of store.old ≡ Ok z) × ((z.s.rows - z.s.free ≤ length nonces.now / 12) × (length token.now ≡ compaction_token_length)) }
     ensures result_value { compaction_answer result ≡ (treated program store.old nonces.now token.now).answer }
     ensures store_after { store.new ≡ joined (compacted_store store.old (treated program store.old nonces.now token.now).t_c (treated program store.old nonces.now token.now).t_s) }
 {
@@ -82,20 +86,15 @@ pub fn compact(store: &mut [u8], nonces: &[u8], token: &[u8]) -> Result<Tally, C
     ensures store_after { store.new ≡ (compact_of program store.old nonces.now token.now).store }
 {
     if nonces.len() % NONCE != 0 {
-        return Err(CompactionError::Refused(Refusal::NonceLength));
+        return Err(Refusal::NonceLength.into());
     }
     if token.len() != COMPACTION_TOKEN {
-        return Err(CompactionError::Refused(Refusal::TokenLength));
+        return Err(Refusal::TokenLength.into());
     }
-    let checked = store::sizes(store);
-    match checked {
-        Err(r) => Err(CompactionError::Refused(r)),
-        Ok(z) => {
-            let s = z.s;
-            if nonces.len() / NONCE < s.rows - s.free {
-                return Err(CompactionError::Refused(Refusal::NonceCount));
-            }
-            treat_logged(store, z, nonces, token)
-        }
+    let z = store::sizes(store)?;
+    let s = z.s;
+    if nonces.len() / NONCE < s.rows - s.free {
+        return Err(Refusal::NonceCount.into());
     }
+    treat_logged(store, z, nonces, token)
 }

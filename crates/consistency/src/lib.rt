@@ -12,9 +12,9 @@ ghost use Rattle.store.specs.Check.{checked_of};
 ghost use Rattle.store.specs.Tables.{table_of};
 ghost use Rattle.consistency.specs.Ready.{Ready};
 
-use answer::{Faults, Inspected};
+use answer::{Faults, Refusal};
 use matching::Unmatched;
-use store::{C_WIDTH, Checked, M_WIDTH, Part, R_WIDTH, Shape, V_WIDTH};
+use store::{C_WIDTH, M_WIDTH, Part, R_WIDTH, Shape, V_WIDTH};
 
 // The rows of a part whose tag a row before them has. [check:2 check:3]
 fn repeated(store: &[u8], part: Part, w: usize) -> u64
@@ -100,9 +100,6 @@ fn count_faults(store: &[u8], z: Shape) -> Faults
 pub fn check(store: &[u8]) -> Result<Faults, Refusal>
     ensures { inspected result ≡ (check_of store.now).answer }
 {
-    let checked = store::sizes(store);
-    match checked {
-        Err(r) => Err(r),
-        Ok(z) => Ok(count_faults(store, z)),
-    }
+    let z = store::sizes(store)?;
+    Ok(count_faults(store, z))
 }

@@ -17,7 +17,6 @@ use counter::Reading;
 use format::COUNT_TOKEN;
 use hmac::Keyed;
 use lookups::Lookup;
-use store::Checked;
 
 // Reads the counters of shares 0 to p out of the part that holds table C, from the prepared F(KC, x),
 // and adds up their counts and the rows looked at; 13 where one is damaged. [01:OP9 RS6 FM7 FM8]
@@ -52,15 +51,10 @@ pub fn count(store: &[u8], token: &[u8]) -> Result<Tallied, Refusal>
     if token.len() != COUNT_TOKEN {
         return Err(Refusal::TokenLength);
     }
-    let checked = store::sizes(store);
-    match checked {
-        Err(r) => Err(r),
-        Ok(z) => {
-            let c = z.c;
-            let a = c.start;
-            let e = c.end;
-            let clx = hmac::prepare(token);
-            sum_of_counts(&store[a..e], c.rows, c.rows - c.free, clx, z.p)
-        }
-    }
+    let z = store::sizes(store)?;
+    let c = z.c;
+    let a = c.start;
+    let e = c.end;
+    let clx = hmac::prepare(token);
+    sum_of_counts(&store[a..e], c.rows, c.rows - c.free, clx, z.p)
 }

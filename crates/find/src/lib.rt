@@ -19,14 +19,14 @@ ghost use Rattle.ids.specs.Ids.{ids_in, noted_in};
 ghost use Rattle.find.specs.Counts.{counts_of};
 ghost use Rattle.find.specs.Given.{given_answer, given_output, Empty};
 
-use answer::{Counted, Refusal};
+use answer::Refusal;
 use chains::{BUCKETS, FIRST_BYTES};
 use counter::Reading;
 use format::{FIND_TOKEN, ID};
 use hmac::Keyed;
 use ids::EntryKeys;
 use lookups::Lookup;
-use store::{Checked, MOST_ROWS, Shape};
+use store::{MOST_ROWS, Shape};
 
 // An index for as many ids as a table has rows, and for as many in each share.
 const FEW: usize = BUCKETS + MOST_ROWS;
@@ -179,9 +179,6 @@ pub fn find(store: &[u8], token: &[u8], output: &mut [u8]) -> Result<u64, Refusa
     if token.len() != FIND_TOKEN {
         return Err(Refusal::TokenLength);
     }
-    let checked = store::sizes(store);
-    match checked {
-        Err(r) => Err(r),
-        Ok(z) => find_in(store, z, token, output),
-    }
+    let z = store::sizes(store)?;
+    find_in(store, z, token, output)
 }

@@ -22,13 +22,13 @@ ghost use Rattle.find.specs.Given.{given_answer, given_output, Empty};
 ghost use Rattle.find.specs.Counts.{Sound};
 ghost use Rattle.joint_find.specs.Kept.{test_of, parts_bad, kept_of};
 
-use answer::{Counted, Refusal};
+use answer::Refusal;
 use chains::{BUCKETS, FIRST_BYTES};
 use choosing::Choice;
 use format::{ID, PART_TOKEN};
 use hmac::Keyed;
 use ids::EntryKeys;
-use store::{Checked, MOST_ROWS, Shape};
+use store::{MOST_ROWS, Shape};
 
 // The most ids where the counts sum to no more than a table has rows, and the most in all shares.
 const FEW: usize = MOST_ROWS;
@@ -300,9 +300,6 @@ pub fn joint_find(store: &[u8], parts: &[u8], output: &mut [u8]) -> Result<u64, 
     if bad_parts(parts) {
         return Err(Refusal::TokenLength);
     }
-    let checked = store::sizes(store);
-    match checked {
-        Err(why) => Err(why),
-        Ok(z) => joint_in(store, z, parts, output),
-    }
+    let z = store::sizes(store)?;
+    joint_in(store, z, parts, output)
 }

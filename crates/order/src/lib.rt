@@ -10,8 +10,8 @@ ghost use Rattle.scheme.specs.Order.{used_in_all, ordered_store, order as order_
 ghost use Rattle.store.specs.Check.{marked_of};
 ghost use Rattle.store.specs.Tables.{table_of, Within, Replaced};
 
-use answer::Counted;
-use store::{C_WIDTH, Checked, M_WIDTH, MOST_ROWS, Part, R_WIDTH, S_WIDTH, Shape, V_WIDTH};
+use answer::Refusal;
+use store::{C_WIDTH, M_WIDTH, MOST_ROWS, Part, R_WIDTH, S_WIDTH, Shape, V_WIDTH};
 
 // Room for the rows of a table.
 fn blank() -> [u8; M_WIDTH * MOST_ROWS]
@@ -70,9 +70,6 @@ pub fn order(store: &mut [u8]) -> Result<u64, Refusal>
     ensures result_value { counted result ≡ (order_of store.old).answer }
     ensures store_after { store.new ≡ (order_of store.old).store }
 {
-    let checked = store::marked(store);
-    match checked {
-        Err(r) => Err(r),
-        Ok(z) => Ok(order_all(store, z)),
-    }
+    let z = store::marked(store)?;
+    Ok(order_all(store, z))
 }

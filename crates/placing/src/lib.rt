@@ -18,7 +18,7 @@ ghost use Rattle.placing.specs.Placed.{Lengths, Room, placed_store};
 
 use entries::label;
 use format::{ID, INSERT_RL, INSERT_TOKEN, NONCE, row};
-use store::{C_WIDTH, Checked, M_WIDTH, Part, R_WIDTH, S_WIDTH, Shape, V_WIDTH};
+use store::{C_WIDTH, M_WIDTH, Part, R_WIDTH, S_WIDTH, Shape, V_WIDTH};
 
 // Adds n ascending rows to the table of a part, which has room for them. [01:ST4 OP1] [02:W2.4]
 fn add_rows(store: &mut [u8], part: Part, w: usize, new: &[u8], n: usize)

@@ -13,10 +13,10 @@ ghost use Rattle.suite.specs.Program.{program};
 ghost use Rattle.store.specs.Check.{checked_of};
 ghost use Rattle.test.specs.Marked.{tests_by};
 
-use answer::{Counted, Refusal};
+use answer::Refusal;
 use format::{ID, MARK_TOKEN, row};
 use hmac::Keyed;
-use store::{Checked, R_WIDTH, Shape};
+use store::{R_WIDTH, Shape};
 
 // Whether a row of R, of which so many are used, is the id's and carries the R mark of the prepared RL.
 // [02:W4.17]
@@ -72,9 +72,6 @@ pub fn test(store: &[u8], id: &[u8], token: &[u8]) -> Result<u64, Refusal>
     if token.len() != MARK_TOKEN {
         return Err(Refusal::TokenLength);
     }
-    let checked = store::sizes(store);
-    match checked {
-        Err(r) => Err(r),
-        Ok(z) => test_in(store, z, id, token),
-    }
+    let z = store::sizes(store)?;
+    test_in(store, z, id, token)
 }
