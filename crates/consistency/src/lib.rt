@@ -97,6 +97,7 @@ fn count_faults(store: &[u8], z: Shape) -> Faults
 
 // Counts the rows of a store that do not go together; refused by 10, 11 and 20. It changes nothing, and
 // takes no key. [check:1 check:2 check:3 check:4 check:5 check:6 check:7 check:8 check:9]
+#[tactic(auto, using(crate::proofs::Laws::check_refused))]
 pub fn check(store: &[u8]) -> Result<Faults, Refusal>
     ensures { inspected result ≡ (check_of store.now).answer }
 {

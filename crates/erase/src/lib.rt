@@ -114,6 +114,7 @@ fn erase_rows(store: &mut [u8], z: Shape, id: &[u8; ID]) -> u64
 }
 
 // Erases an id. [01:OP4 OP5 RI6] [02:W4.14]
+#[tactic(auto, using(crate::proofs::Laws::erase_unfit))]
 pub fn erase(store: &mut [u8], id: &[u8]) -> Result<u64, Refusal>
     ensures result_value { counted result ≡ (erase_of store.old id.now).answer }
     ensures store_after { store.new ≡ (erase_of store.old id.now).store }

@@ -66,6 +66,7 @@ fn order_all(store: &mut [u8], z: Shape) -> u64
 
 // Puts a store in form, whatever the order of its rows: every used row is kept. Refused by 10 and 11
 // alone. Answers how many used rows there are. [02:W2.6 W2.7 W2.8 W2.9]
+#[tactic(auto, using(crate::proofs::Laws::order_refused))]
 pub fn order(store: &mut [u8]) -> Result<u64, Refusal>
     ensures result_value { counted result ≡ (order_of store.old).answer }
     ensures store_after { store.new ≡ (order_of store.old).store }

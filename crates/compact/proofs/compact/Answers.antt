@@ -5,11 +5,11 @@ use Rattle.std.specs.Prelude.{Ok}
 use Rattle.store.specs.Check.{checked_of}
 use Rattle.compact.proofs.Verdicts.{rows_left, refuses, goes, verdict_nonces, verdict_token, verdict_store, verdict_count, verdict_none}
 use Rattle.compact.proofs.compact.Goals as goal
-use Rattle.compact.proofs.compact.Goals.{In-Fit}
+use Rattle.compact.proofs.compact.Goals.{In_ok-z}
 
 -- the store passed the checks
-fits : (c : In-Fit) → checked_of c.args.store.now ≡ Ok c.in-Ok.z
-fits c = sym c.sizes-checked.ensures ∙ c.in-Ok.is
+fits : (c : In_ok-z) → checked_of c.args.store.now ≡ Ok c.in_ok-z.z
+fits c = sym c.in_ok-z.ensures
 
 pub returns-then-nonces-ne0 : goal.returns-then-nonces-ne0
 returns-then-nonces-ne0 c =
@@ -25,30 +25,30 @@ returns-then-token-ne-COMPACTION_TOKEN c =
 
 pub returns-then-nonces-s : goal.returns-then-nonces-s
 returns-then-nonces-s c =
-    let k = (goal.at.returns-then-nonces-s c).In-Fit in
+    let k = (goal.at.returns-then-nonces-s c).In_ok-z in
     let e = k in
     let a = e.args in
     let both = refuses a.store.now a.nonces.now a.token.now _
-    (verdict_count a.store.now a.nonces.now a.token.now e.if-nonces-ne0.false c.if-token-ne-COMPACTION_TOKEN.false k.in-Ok.z (fits k) c.if-nonces-s.true) in
+    (verdict_count a.store.now a.nonces.now a.token.now e.if-nonces-ne0.false c.if-token-ne-COMPACTION_TOKEN.false k.in_ok-z.z (fits k) c.if-nonces-s.true) in
     record { result_value = both.0; store_after = both.1 }
 
-pub returns-in-Err : goal.returns-in-Err
-returns-in-Err c =
+pub returns-in_err-z : goal.returns-in_err-z
+returns-in_err-z c =
     let e = c in
     let a = e.args in
     let both = refuses a.store.now a.nonces.now a.token.now _
-    (verdict_store a.store.now a.nonces.now a.token.now e.if-nonces-ne0.false c.if-token-ne-COMPACTION_TOKEN.false c.in-Err.r (sym c.sizes-checked.ensures ∙ c.in-Err.is)) in
+    (verdict_store a.store.now a.nonces.now a.token.now e.if-nonces-ne0.false c.if-token-ne-COMPACTION_TOKEN.false c.in_err-z.field-0.0 (sym c.in_err-z.ensures)) in
     record { result_value = both.0; store_after = both.1 }
 
 pub returns-else-nonces-s : goal.returns-else-nonces-s
 returns-else-nonces-s c =
     let r = c in
-    let k = (goal.at.returns-else-nonces-s c).In-Fit in
+    let k = (goal.at.returns-else-nonces-s c).In_ok-z in
     let e = k in
     let a = e.args in
     let both = goes a.store.now a.nonces.now a.token.now _ _
-    (verdict_none a.store.now a.nonces.now a.token.now e.if-nonces-ne0.false c.if-token-ne-COMPACTION_TOKEN.false k.in-Ok.z (fits k) r.if-nonces-s.false) r.treat_logged.ensures.result_value r.treat_logged.ensures.store_after in
+    (verdict_none a.store.now a.nonces.now a.token.now e.if-nonces-ne0.false c.if-token-ne-COMPACTION_TOKEN.false k.in_ok-z.z (fits k) r.if-nonces-s.false) r.treat_logged.ensures.result_value r.treat_logged.ensures.store_after in
     record { result_value = both.0; store_after = both.1 }
 
 pub overflow_sub-s : goal.overflow_sub-s
-overflow_sub-s c = omega (arith, rows_left c.args.store.now c.in-Ok.z (fits (goal.at.overflow_sub-s c).In-Fit))
+overflow_sub-s c = omega (arith, rows_left c.args.store.now c.in_ok-z.z (fits (goal.at.overflow_sub-s c).In_ok-z))

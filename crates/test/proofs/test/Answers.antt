@@ -17,8 +17,8 @@ test_in-requires c =
     let z = k in
     (sym z.sizes-checked.ensures ∙ k.in-Ok.is, (z.if-id-ne-ID.false, z.if-token-ne-MARK_TOKEN.false))
 
-pub returns-in-Err : goal.returns-in-Err
-returns-in-Err c =
+pub returns-in_err-z : goal.returns-in_err-z
+returns-in_err-z c =
     let k = c in
     let z = k in
     let a = z.args in
