@@ -172,6 +172,7 @@ fn find_in(store: &[u8], z: Shape, token: &[u8], output: &mut [u8]) -> Result<u6
 
 // The ids of all shares at the start of the output, and how many: refused by 6, 10, 11, 20, 13 and 18, with
 // the output as lent. [01:OP6 OP7 OP8]
+#[tactic(auto, using(crate::proofs::Laws::unfit_store))]
 pub fn find(store: &[u8], token: &[u8], output: &mut [u8]) -> Result<u64, Refusal>
     ensures result_value { counted result ≡ (find_of program store.now token.now output.old).answer }
     ensures output_after { output.new ≡ (find_of program store.now token.now output.old).output }

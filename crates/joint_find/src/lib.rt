@@ -293,6 +293,7 @@ fn bad_parts(parts: &[u8]) -> bool
 // The ids that the parts have in common, in the order of the one that counts least, at the start of the
 // output, and how many: refused by 6, 10, 11, 20, 13 and 18, with the output as lent.
 // [02:W4.18 W4.19 W4.21 W4.22 W4.23]
+#[tactic(auto, using(crate::proofs::Laws::unfit_store))]
 pub fn joint_find(store: &[u8], parts: &[u8], output: &mut [u8]) -> Result<u64, Refusal>
     ensures result_value { counted result ≡ (joint_find_of program store.now parts.now output.old).answer }
     ensures output_after { output.new ≡ (joint_find_of program store.now parts.now output.old).output }

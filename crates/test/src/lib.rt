@@ -63,6 +63,7 @@ fn test_in(store: &[u8], z: Shape, id: &[u8], token: &[u8]) -> Result<u64, Refus
 
 // Whether the document of the id has the label of RL: 1 or 0; refused by 5, 6, 10, 11 and 20.
 // [02:W4.15 W4.16 W4.17]
+#[tactic(auto, using(crate::proofs::Laws::unfit_store))]
 pub fn test(store: &[u8], id: &[u8], token: &[u8]) -> Result<u64, Refusal>
     ensures { counted result ≡ (test_of program store.now id.now token.now).answer }
 {

@@ -32,23 +32,5 @@ returns-then-nonces-s c =
     (verdict_count a.store.now a.nonces.now a.token.now e.if-nonces-ne0.false c.if-token-ne-COMPACTION_TOKEN.false k.in_ok-z.z (fits k) c.if-nonces-s.true) in
     record { result_value = both.0; store_after = both.1 }
 
-pub returns-in_err-z : goal.returns-in_err-z
-returns-in_err-z c =
-    let e = c in
-    let a = e.args in
-    let both = refuses a.store.now a.nonces.now a.token.now _
-    (verdict_store a.store.now a.nonces.now a.token.now e.if-nonces-ne0.false c.if-token-ne-COMPACTION_TOKEN.false c.in_err-z.field-0.0 (sym c.in_err-z.ensures)) in
-    record { result_value = both.0; store_after = both.1 }
-
-pub returns-else-nonces-s : goal.returns-else-nonces-s
-returns-else-nonces-s c =
-    let r = c in
-    let k = (goal.at.returns-else-nonces-s c).In_ok-z in
-    let e = k in
-    let a = e.args in
-    let both = goes a.store.now a.nonces.now a.token.now _ _
-    (verdict_none a.store.now a.nonces.now a.token.now e.if-nonces-ne0.false c.if-token-ne-COMPACTION_TOKEN.false k.in_ok-z.z (fits k) r.if-nonces-s.false) r.treat_logged.ensures.result_value r.treat_logged.ensures.store_after in
-    record { result_value = both.0; store_after = both.1 }
-
 pub overflow_sub-s : goal.overflow_sub-s
 overflow_sub-s c = omega (arith, rows_left c.args.store.now c.in_ok-z.z (fits (goal.at.overflow_sub-s c).In_ok-z))
