@@ -10,7 +10,7 @@ ghost use Rattle.scheme.specs.Run.{perform};
 ghost use Rattle.suite.specs.Program.{program};
 ghost use Rattle.client.specs.Making.{field_of};
 
-use answer::{Compaction, Completion, Counted};
+use answer::{CompactionError, Refusal, Tally};
 use format::{COMPACTION_TOKEN, INSERT_TOKEN};
 
 // Inserts ids under a field in share u. [01:OP1]
@@ -29,10 +29,8 @@ pub fn insert(
     ensures store_after { store.new ≡ (perform program (Call.insert key.now (field_of name.now value.now) p u nonce.now ids.now nonces.now) store.old).store }
 {
     let mut token = [0u8; INSERT_TOKEN];
-    match client::insert_token(key, name, value, p, u, nonce, &mut token) {
-        Err(r) => Err(r),
-        Ok(()) => insert::insert(store, ids, nonces, &token),
-    }
+    client::insert_token(key, name, value, p, u, nonce, &mut token)?;
+    insert::insert(store, ids, nonces, &token)
 }
 
 // Erases an id from every field. [01:OP4]
@@ -49,10 +47,8 @@ pub fn compact(store: &mut [u8], key: &[u8], nonces: &[u8]) -> Result<Tally, Com
     ensures store_after { store.new ≡ (perform program (Call.compact key.now nonces.now) store.old).store }
 {
     let mut token = [0u8; COMPACTION_TOKEN];
-    match client::compaction_token(key, &mut token) {
-        Err(r) => Err(CompactionError::Refused(r)),
-        Ok(()) => compact::compact(store, nonces, &token),
-    }
+    client::compaction_token(key, &mut token)?;
+    compact::compact(store, nonces, &token)
 }
 
 // Puts a store in form. [02:W2.6]
