@@ -5,7 +5,6 @@ ghost use Rattle.std.specs.Prelude.{◌≡◌, ◌≤◌};
 ghost use Rattle.advice.specs.Advise.{is_old, room_for, room_of, advice_of, length_of};
 
 use answer::Refusal;
-use store::Checked;
 
 // A store's p, how many more entries and how many more rows of R it has room for, its used rows of S, and whether
 // it is a store of version 1.

@@ -65,31 +65,36 @@ carried_by LabelRows = []
 abbrev pub refusal : Refusal → Answer
 refusal r = refused (number_of r) (carried_by r)
 
+-- the values of what was done, or the refusal
+abbrev pub answered : {A : Type 0} → (A → List ℕ) → Result A Refusal → Answer
+answered values (Ok x) = done (values x)
+answered values (Err r) = refusal r
+
 abbrev pub completion : Result (Unit {0}) Refusal → Answer
-completion (Ok u) = done []
-completion (Err r) = refusal r
+completion = answered (λ u. [])
 
 abbrev pub counted : Result ℕ Refusal → Answer
-counted (Ok n) = done (n ∷ [])
-counted (Err r) = refusal r
+counted = answered (λ n. n ∷ [])
 
 abbrev pub tallied : Result Tallied Refusal → Answer
-tallied (Ok t) = done (t.n ∷ t.rows ∷ [])
-tallied (Err r) = refusal r
+tallied = answered (λ t. t.n ∷ t.rows ∷ [])
 
 -- what a check counts, in the order in which it is told [check:2 check:3 check:4 check:5 check:6 check:7 check:8]
 abbrev pub faults_of : Faults → List ℕ
 faults_of f = f.mm ∷ f.cc ∷ f.vm ∷ f.mv ∷ f.vr ∷ f.rv ∷ f.excess ∷ []
 
 abbrev pub inspected : Result Faults Refusal → Answer
-inspected (Ok f) = done (faults_of f)
-inspected (Err r) = refusal r
+inspected = answered faults_of
 
--- anchors written and counters freed [01:OP13]; 13 carries both numbers so far [01:RS13]
+-- anchors written and counters freed [01:OP13]
+abbrev pub totals_of : Tally → List ℕ
+totals_of t = t.anchors ∷ t.counters ∷ []
+
+-- 13 carries both numbers so far [01:RS13]
 abbrev pub compaction_answer : Result Tally CompactionError → Answer
-compaction_answer (Ok t) = done (t.anchors ∷ t.counters ∷ [])
+compaction_answer (Ok t) = done (totals_of t)
 compaction_answer (Err (Refused r)) = refusal r
-compaction_answer (Err (Damage₀ t)) = refused 13 (t.anchors ∷ t.counters ∷ [])
+compaction_answer (Err (Damage₀ t)) = refused 13 (totals_of t)
 
 -- the rows looked at that a count's answer carries; a refusal carries none [02:W3.8]
 abbrev pub rows_of : Answer → ℕ

@@ -16,10 +16,9 @@ ghost use Rattle.parts.specs.Parts.{parts_of, made_parts};
 ghost use Rattle.outcome.specs.Told.{told, with_room, Roomed};
 ghost use Rattle.commands.specs.Insert.{insert_result};
 
-use answer::{Completion, Counted};
+use answer::Refusal;
 use format::PART_TOKEN;
-use outcome::{Outcome, of_compaction, of_completion, of_counted, of_inspected, of_tallied};
-use store::Checked;
+use outcome::Outcome;
 
 // Makes a store over the whole of a slice.
 pub fn make(p: u64, m: u64, c: u64, s: u64, r: u64, slice: &mut [u8]) -> Outcome
@@ -27,7 +26,7 @@ pub fn make(p: u64, m: u64, c: u64, s: u64, r: u64, slice: &mut [u8]) -> Outcome
     ensures slice_after { slice.new ≡ (make_of (record { p = p; m = m; c = c; s = s; r = r }) slice.old).store }
     ensures value { result ≡ with_room no_room result }
 {
-    of_completion(store::make(p, m, c, s, r, slice), advice::room_for(0))
+    outcome::of(store::make(p, m, c, s, r, slice), advice::room_for(0))
 }
 
 fn insert_fit(
@@ -46,7 +45,7 @@ fn insert_fit(
     ensures roomed { Roomed store.old result }
 {
     let room = advice::room_in(store);
-    of_counted(
+    outcome::of(
         calls::insert(store, key, name, value, p, u, nonce, ids, nonces),
         room,
     )
@@ -69,10 +68,7 @@ pub fn insert(
 {
     match store::sizes(store) {
         Err(r) => Outcome::Refused(r, advice::room_in(store)),
-        Ok(shape) => {
-            let p = shape.p;
-            insert_fit(store, key, name, value, p, u, nonce, ids, nonces)
-        }
+        Ok(shape) => insert_fit(store, key, name, value, shape.p, u, nonce, ids, nonces),
     }
 }
 
@@ -82,7 +78,7 @@ pub fn erase(store: &mut [u8], id: &[u8]) -> Outcome
     ensures roomed { Roomed store.old result }
 {
     let room = advice::room_in(store);
-    of_counted(calls::erase(store, id), room)
+    outcome::of(calls::erase(store, id), room)
 }
 
 // A joint find whose parts, of n pairs of the line's words, go to a lent slice first.
@@ -99,10 +95,8 @@ fn find_parts(
     ensures output_after { output.new ≡ (perform program (Call.joint_find (parts_of line.now key.now n) output.old) store.now).output }
     ensures parts_after { parts.new ≡ made_parts (parts_of line.now key.now n) n }
 {
-    match parts::make(line, key, n, parts) {
-        Err(r) => Err(r),
-        Ok(()) => joint_find::joint_find(store, parts, output),
-    }
+    parts::make(line, key, n, parts)?;
+    joint_find::joint_find(store, parts, output)
 }
 
 // Finds the ids under each field that n pairs of the line's words name. [02:W4.18 W4.24 W4.25]
@@ -115,7 +109,7 @@ pub fn find(store: &[u8], key: &[u8], line: &[u8], n: usize, output: &mut [u8]) 
     let room = advice::room_in(store);
     let mut parts = [0u8; 1024];
     let e = PART_TOKEN * n;
-    of_counted(
+    outcome::of(
         find_parts(store, key, line, n, &mut parts[..e], output),
         room,
     )
@@ -126,7 +120,7 @@ pub fn count(store: &[u8], key: &[u8], name: &[u8], value: &[u8]) -> Outcome
     ensures roomed { Roomed store.now result }
 {
     let room = advice::room_in(store);
-    of_tallied(queries::count(store, key, name, value), room)
+    outcome::of(queries::count(store, key, name, value), room)
 }
 
 pub fn compact(store: &mut [u8], key: &[u8], nonces: &[u8]) -> Outcome
@@ -135,7 +129,7 @@ pub fn compact(store: &mut [u8], key: &[u8], nonces: &[u8]) -> Outcome
     ensures roomed { Roomed store.old result }
 {
     let room = advice::room_in(store);
-    of_compaction(calls::compact(store, key, nonces), room)
+    outcome::of_compaction(calls::compact(store, key, nonces), room)
 }
 
 // Puts a store in form, whatever the order of its rows. [02:W2.6]
@@ -145,7 +139,7 @@ pub fn order(store: &mut [u8]) -> Outcome
     ensures roomed { Roomed store.old result }
 {
     let room = advice::room_in(store);
-    of_counted(calls::order(store), room)
+    outcome::of(calls::order(store), room)
 }
 
 // Counts the rows of a store that do not go together. [check:1]
@@ -154,5 +148,5 @@ pub fn check(store: &[u8]) -> Outcome
     ensures roomed { Roomed store.now result }
 {
     let room = advice::room_in(store);
-    of_inspected(queries::check(store), room)
+    outcome::of(queries::check(store), room)
 }

@@ -9,7 +9,6 @@ ghost use Rattle.report.specs.Run.{Ends};
 use outcome::Outcome;
 use report::{Ran, answered, blank, told_count, told_faults, told_ids};
 use request::Request;
-use store::Checked;
 use words::line;
 
 // An insert whose ids go to a lent slice first.

@@ -11,7 +11,7 @@ ghost use Rattle.advice.specs.Advise.{room_for};
 ghost use Rattle.outcome.specs.Told.{told, with_room};
 
 use format::{COMPACTION_TOKEN, COUNT_TOKEN, FIND_TOKEN, INSERT_TOKEN};
-use outcome::{Outcome, of_completion};
+use outcome::Outcome;
 
 pub fn insert_token(
     key: &[u8],
@@ -27,7 +27,7 @@ pub fn insert_token(
     ensures token_after { token.new ≡ making_token (insert_token_tests key.now (field_of name.now value.now) p u nonce.now) (insert_token program key.now (field_of name.now value.now) p u nonce.now) token.old }
 {
     let made = client::insert_token(key, name, value, p, u, nonce, token);
-    of_completion(made, advice::room_for(p))
+    outcome::of(made, advice::room_for(p))
 }
 
 pub fn find_token(key: &[u8], name: &[u8], value: &[u8], token: &mut [u8; FIND_TOKEN]) -> Outcome
@@ -36,7 +36,7 @@ pub fn find_token(key: &[u8], name: &[u8], value: &[u8], token: &mut [u8; FIND_T
     ensures token_after { token.new ≡ making_token (field_token_tests key.now (field_of name.now value.now)) (find_token program key.now (field_of name.now value.now)) token.old }
 {
     let made = client::find_token(key, name, value, token);
-    of_completion(made, advice::room_for(0))
+    outcome::of(made, advice::room_for(0))
 }
 
 pub fn count_token(key: &[u8], name: &[u8], value: &[u8], token: &mut [u8; COUNT_TOKEN]) -> Outcome
@@ -45,7 +45,7 @@ pub fn count_token(key: &[u8], name: &[u8], value: &[u8], token: &mut [u8; COUNT
     ensures token_after { token.new ≡ making_token (field_token_tests key.now (field_of name.now value.now)) (count_token program key.now (field_of name.now value.now)) token.old }
 {
     let made = client::count_token(key, name, value, token);
-    of_completion(made, advice::room_for(0))
+    outcome::of(made, advice::room_for(0))
 }
 
 pub fn compaction_token(key: &[u8], token: &mut [u8; COMPACTION_TOKEN]) -> Outcome
@@ -54,5 +54,5 @@ pub fn compaction_token(key: &[u8], token: &mut [u8; COMPACTION_TOKEN]) -> Outco
     ensures token_after { token.new ≡ making_token (key_tests key.now) (compaction_token program key.now) token.old }
 {
     let made = client::compaction_token(key, token);
-    of_completion(made, advice::room_for(0))
+    outcome::of(made, advice::room_for(0))
 }

@@ -2,12 +2,12 @@
 // and a compaction may have been made with another key than the store's.
 #![tactic(auto)]
 
-ghost use Rattle.std.specs.Prelude.{◌≡◌};
-ghost use Rattle.answer.specs.Answer.{counted, tallied, inspected, completion, compaction_answer};
-ghost use Rattle.outcome.specs.Told.{told, is_wrong_key, compacted, with_room};
+ghost use Rattle.std.specs.Prelude.{◌≡◌, List, [], ◌∷◌, ℕ};
+ghost use Rattle.answer.specs.Answer.{done, answered, faults_of, totals_of, compaction_answer};
+ghost use Rattle.outcome.specs.Told.{told, is_wrong_key, with_room};
 
 use advice::Room;
-use answer::{Compaction, Completion, Counted, Faults, Inspected, Refusal, Tallied, Tally};
+use answer::{CompactionError, Faults, Refusal, Tallied, Tally};
 
 // What became of a command.
 #[derive(Clone, Copy)]
@@ -29,33 +29,48 @@ pub enum Outcome {
     BadWords,
 }
 
-pub fn of_counted(r: Result<u64, Refusal>, room: Room) -> Outcome
-    ensures result_value { told result ≡ counted r }
-    ensures value { result ≡ with_room room result }
-{
-    match r {
-        Ok(n) => Outcome::Number(n),
-        Err(why) => Outcome::Refused(why, room),
+// What a call gives where it is done: its values, and the outcome that tells them.
+pub trait Told {
+    ghost values: { Self → List ℕ };
+
+    // The outcome, where the store had this room.
+    fn outcome(self, room: Room) -> Outcome
+        ensures result_value { told result ≡ done (values self) }
+        ensures value { result ≡ with_room room result };
+}
+
+impl Told for () {
+    ghost values = { λ u. [] };
+
+    fn outcome(self, _room: Room) -> Outcome {
+        Outcome::Done
     }
 }
 
-pub fn of_tallied(r: Result<Tallied, Refusal>, room: Room) -> Outcome
-    ensures result_value { told result ≡ tallied r }
-    ensures value { result ≡ with_room room result }
-{
-    match r {
-        Ok(Tallied { n, rows }) => Outcome::Counted { n, rows },
-        Err(why) => Outcome::Refused(why, room),
+impl Told for u64 {
+    ghost values = { λ n. n ∷ [] };
+
+    fn outcome(self, _room: Room) -> Outcome {
+        Outcome::Number(self)
     }
 }
 
-pub fn of_inspected(r: Result<Faults, Refusal>, room: Room) -> Outcome
-    ensures result_value { told result ≡ inspected r }
-    ensures value { result ≡ with_room room result }
-{
-    match r {
-        Ok(f) => Outcome::Inspected(f),
-        Err(why) => Outcome::Refused(why, room),
+impl Told for Tallied {
+    ghost values = { λ t. t.n ∷ t.rows ∷ [] };
+
+    fn outcome(self, _room: Room) -> Outcome {
+        Outcome::Counted {
+            n: self.n,
+            rows: self.rows,
+        }
+    }
+}
+
+impl Told for Faults {
+    ghost values = { faults_of };
+
+    fn outcome(self, _room: Room) -> Outcome {
+        Outcome::Inspected(self)
     }
 }
 
@@ -69,14 +84,26 @@ fn is_wrong_key(logged: usize, t: Tally) -> bool
     t.anchors < 1
 }
 
-// A compaction that was done, where so many rows of S were used before it.
-fn of_tally(t: Tally, logged: usize) -> Outcome
-    ensures { result ≡ compacted logged t }
+impl Told for Tally {
+    ghost values = { totals_of };
+
+    fn outcome(self, room: Room) -> Outcome {
+        if is_wrong_key(room.logged, self) {
+            Outcome::WrongKey(self)
+        } else {
+            Outcome::Compacted(self)
+        }
+    }
+}
+
+// The outcome of a call on a store that had this room.
+pub fn of<T: Told>(r: Result<T, Refusal>, room: Room) -> Outcome
+    ensures result_value { told result ≡ answered T.values r }
+    ensures value { result ≡ with_room room result }
 {
-    if is_wrong_key(logged, t) {
-        Outcome::WrongKey(t)
-    } else {
-        Outcome::Compacted(t)
+    match r {
+        Ok(x) => x.outcome(room),
+        Err(why) => Outcome::Refused(why, room),
     }
 }
 
@@ -85,18 +112,8 @@ pub fn of_compaction(r: Result<Tally, CompactionError>, room: Room) -> Outcome
     ensures value { result ≡ with_room room result }
 {
     match r {
-        Ok(t) => of_tally(t, room.logged),
+        Ok(t) => t.outcome(room),
         Err(CompactionError::Damage(t)) => Outcome::Damaged(t),
         Err(CompactionError::Refused(why)) => Outcome::Refused(why, room),
-    }
-}
-
-pub fn of_completion(r: Result<(), Refusal>, room: Room) -> Outcome
-    ensures result_value { told result ≡ completion r }
-    ensures value { result ≡ with_room room result }
-{
-    match r {
-        Ok(()) => Outcome::Done,
-        Err(why) => Outcome::Refused(why, room),
     }
 }

@@ -9,7 +9,7 @@ ghost use Rattle.suite.specs.Program.{program};
 ghost use Rattle.client.specs.Making.{making_answer, making_token};
 ghost use Rattle.parts.specs.Parts.{part_at, parts_of, parts_tests, made_parts};
 
-use answer::Completion;
+use answer::Refusal;
 use format::PART_TOKEN;
 use words::line;
 
@@ -23,13 +23,9 @@ fn make_part(line: &[u8], key: &[u8], i: usize, to: &mut [u8]) -> Result<(), Ref
     let mut part = [0u8; PART_TOKEN];
     let name = line::word(line, 3 + 2 * i);
     let value = line::word(line, 4 + 2 * i);
-    match client::part_token(key, name, value, &mut part) {
-        Err(r) => Err(r),
-        Ok(()) => {
-            octets::copy(to, &part);
-            Ok(())
-        }
-    }
+    client::part_token(key, name, value, &mut part)?;
+    to.copy_from_slice(&part);
+    Ok(())
 }
 
 // The parts of n pairs, one after the other; the first making that is refused ends it, and clears them.
@@ -39,16 +35,13 @@ pub fn make(line: &[u8], key: &[u8], n: usize, to: &mut [u8]) -> Result<(), Refu
     ensures result_value { completion result ≡ making_answer (parts_tests (parts_of line.now key.now n)) }
     ensures to_after { to.new ≡ made_parts (parts_of line.now key.now n) n }
 {
-    let mut i = 0;
-    while i < n {
+    for i in 0..n {
         let a = PART_TOKEN * i;
         let e = a + PART_TOKEN;
-        let made = make_part(line, key, i, &mut to[a..e]);
-        if let Err(_) = made {
-            octets::clear(to);
-            return made;
+        if let Err(r) = make_part(line, key, i, &mut to[a..e]) {
+            to.fill(0);
+            return Err(r);
         }
-        i += 1;
     }
     Ok(())
 }

@@ -10,7 +10,7 @@ ghost use Rattle.scheme.specs.Compaction.{compact as compact_of};
 ghost use Rattle.suite.specs.Program.{program};
 ghost use Rattle.outcome.specs.Told.{told, Roomed};
 
-use outcome::{Outcome, of_compaction, of_counted, of_tallied};
+use outcome::Outcome;
 
 pub fn insert(store: &mut [u8], ids: &[u8], nonces: &[u8], token: &[u8]) -> Outcome
     ensures result_value { told result ≡ (insert_of program store.old ids.now nonces.now token.now).answer }
@@ -18,7 +18,7 @@ pub fn insert(store: &mut [u8], ids: &[u8], nonces: &[u8], token: &[u8]) -> Outc
     ensures roomed { Roomed store.old result }
 {
     let room = advice::room_in(store);
-    of_counted(insert::insert(store, ids, nonces, token), room)
+    outcome::of(insert::insert(store, ids, nonces, token), room)
 }
 
 pub fn find(store: &[u8], token: &[u8], output: &mut [u8]) -> Outcome
@@ -27,7 +27,7 @@ pub fn find(store: &[u8], token: &[u8], output: &mut [u8]) -> Outcome
     ensures roomed { Roomed store.now result }
 {
     let room = advice::room_in(store);
-    of_counted(find::find(store, token, output), room)
+    outcome::of(find::find(store, token, output), room)
 }
 
 pub fn count(store: &[u8], token: &[u8]) -> Outcome
@@ -35,7 +35,7 @@ pub fn count(store: &[u8], token: &[u8]) -> Outcome
     ensures roomed { Roomed store.now result }
 {
     let room = advice::room_in(store);
-    of_tallied(count::count(store, token), room)
+    outcome::of(count::count(store, token), room)
 }
 
 pub fn compact(store: &mut [u8], nonces: &[u8], token: &[u8]) -> Outcome
@@ -44,5 +44,5 @@ pub fn compact(store: &mut [u8], nonces: &[u8], token: &[u8]) -> Outcome
     ensures roomed { Roomed store.old result }
 {
     let room = advice::room_in(store);
-    of_compaction(compact::compact(store, nonces, token), room)
+    outcome::of_compaction(compact::compact(store, nonces, token), room)
 }

@@ -1,5 +1,5 @@
 use Prim.Native.Nat.{ℕ, ◌+◌, ◌*◌}
-use mathlib.Core.Path.{refl, sym, ap, ◌∙◌}
+use mathlib.Core.Path.{◌≡◌, refl, sym, ap, ◌∙◌}
 use mathlib.Core.List.{[]}
 use mathlib.Core.Option.{Option}
 use lib.ListN.{replicate}
@@ -20,27 +20,20 @@ pub loop-i-preserved : goal.loop-i-preserved
 loop-i-preserved c =
     let s = c.args in
     let l = c.loop-i in
-    let m = c.make_part-made in
+    let m = c.make_part in
     let p = part_at s.line.now s.key.now l.i in
     let v = made (part_token_tests p) (sym (ap completion c.in_default.is) ∙ m.ensures.result_value) in
     going_on s.line.now s.key.now s.n l.i l.to l.invariant c.loop-i-test.true m.new.to (128 * l.i) (128 * l.i + 128) refl refl v
     (token_made (part_token_tests p) (part_of program p) _ m.new.to v m.ensures.to_after)
 
--- the slice is as long as it was lent
-pub shape_of-to-in-Refused : goal.shape_of-to-in-Refused
-shape_of-to-in-Refused c = search rules
-
-pub returns-in-Refused : goal.returns-in-Refused
-returns-in-Refused c =
-    let y = c in
-    let e = y in
-    let s = e.args in
-    let l = e.loop-i in
-    let m = e.make_part-made in
-    let p = part_at s.line.now s.key.now l.i in
-    let v = unmade (part_token_tests p) e.in-Refused.field-0 (sym (ap completion e.in-Refused.is) ∙ m.ensures.result_value) in
-    let r = going_stops s.line.now s.key.now s.n l.i l.to l.invariant e.loop-i-test.true _ v in
-    let b = e in record { result_value = ap completion e.in-Refused.is ∙ sym (ap (λ (o : Option Answer). answer_or o (done [])) r); to_after = parts_refused (parts_of s.line.now s.key.now s.n) s.n y.clear.new.to _ r (y.clear.ensures ∙ ap (λ (k : ℕ). replicate k 0) (sym y.clear.auto.to ∙ shape_of-to-in-Refused c ∙ b.requires.0)) }
+pub returns-in-Err : goal.returns-in-Err
+returns-in-Err c =
+    let s = c.args in
+    let l = c.loop-i in
+    let v = unmade (part_token_tests (part_at s.line.now s.key.now l.i)) c.in-Err.r c.in-Err.ensures.result_value in
+    let r = going_stops s.line.now s.key.now s.n l.i l.to l.invariant c.loop-i-test.true _ v in
+    let e : c.fill.new.self ≡ replicate (128 * s.n) 0 = search rules in
+    record { result_value = sym (ap (λ (o : Option Answer). answer_or o (done [])) r); to_after = parts_refused (parts_of s.line.now s.key.now s.n) s.n c.fill.new.self _ r e }
 
 pub returns : goal.returns
 returns c =

@@ -4,4 +4,4 @@ use Rattle.outcome.proofs.Rooms.{roomed}
 use Rattle.server.proofs.insert.Goals as goal
 
 pub returns : goal.returns
-returns c = record { result_value = c.of_counted.ensures.result_value ∙ c.insert.ensures.result_value; store_after = c.insert.ensures.store_after; roomed = roomed _ _ _ c.of_counted.ensures.value c.room_in-room.ensures.0 }
+returns c = record { result_value = c.of.ensures.result_value ∙ c.insert.ensures.result_value; store_after = c.insert.ensures.store_after; roomed = roomed _ _ _ c.of.ensures.value c.room_in-room.ensures.0 }
