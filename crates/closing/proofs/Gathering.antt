@@ -21,10 +21,9 @@ use Rattle.closing.specs.Flags.{free_flagged}
 use Rattle.closing.proofs.Flags.{free_flagged_empty, free_flagged-length}
 
 -- a row copied over an earlier one
-pub moved_row : (t : Table) (to from : ℕ) → to < from → from < length t → moved t (to + (from - to)) 1 to ≡ set t to (get_or t from [])
+pub moved_row : (t : Table) (to from : ℕ) → to ≤ from → from < length t → moved t from 1 to ≡ set t to (get_or t from [])
 moved_row t to from h k =
-    ap (λ (x : ℕ). moved t x 1 to) (let e : to + (from - to) ≡ from = omega arith in e)
-    ∙ ap₂ (λ (l : Table) (j : ℕ). take to t ++ (take 1 l ++ drop j t)) (drop-cons t from [] k) (add-one to) ∙ sym (set_split t to (get_or t from []) (omega arith))
+    ap₂ (λ (l : Table) (j : ℕ). take to t ++ (take 1 l ++ drop j t)) (drop-cons t from [] k) (add-one to) ∙ sym (set_split t to (get_or t from []) (omega arith))
 
 -- ---- what is still to come
 

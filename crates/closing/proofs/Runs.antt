@@ -4,13 +4,18 @@ use mathlib.Core.Path.{◌≡◌, refl, sym, ap, ap₂, subst, ◌∙◌}
 use mathlib.Core.Bool.{Bool, true, false, cond, not, ◌&&◌}
 use mathlib.Core.List.{List, [], ◌∷◌, ◌++◌, append_assoc}
 use native.Mathlib.Nat.{add-zero, not-suc-le-zero, le_of_suc-le-suc}
-use native.Mathlib.Numerals.{add-one}
 use native.Mathlib.Omega.{arith}
-use lib.Dec.{eqb}
+use lib.Dec.{eqb, ltb}
+use borrow.Author.Tests.{ltb-true, ltb-false}
 use lib.ListN.{length, get_or, take, drop, take-append-drop}
-use lib.Seq.{slice, slice_empty, slice-cons, length-slice, drop-cons, drop-drop, get_or-take, get_or-drop}
+use lib.Seq.{slice, length-slice, drop-cons, drop-drop, get_or-take, get_or-drop}
+use Rattle.std.specs.Prelude.{Option, Some, None}
+use Rattle.std.specs.List.{position_or_len}
+use Rattle.std.proofs.lemmas.List.Recursion.{is_position_or_len}
+use Rattle.octets.proofs.Parts.{length_part}
 use Rattle.table.specs.Table.{Row, Table, is_free}
 use Rattle.table.specs.Order.{used_rows}
+use Rattle.table.proofs.Walk.{drop-take}
 use Rattle.moving.specs.Moves.{moved}
 use Rattle.moving.proofs.Moves.{take-moved_all, drop-moved, length_moved}
 use Rattle.closing.specs.Flags.{free_flagged, leading, next_flagged, next_staying}
@@ -50,18 +55,6 @@ module _ (q : ℕ → Bool) where
       go false e h k = e
 
   module _ (fs : List ℕ) (u : ℕ) (f : u ≤ length fs) where
-    run_next : (i : ℕ) → i < u → leading q (slice i u fs) ≡ cond (q (get_or fs i 0)) (suc (leading q (slice (suc i) u fs))) zero
-    run_next i h = ap (leading q) (slice-cons i u fs 0 h f)
-
-    pub run_skip : (i z : ℕ) → i < u → q (get_or fs i 0) ≡ true → i + leading q (slice i u fs) ≡ z → i + 1 + leading q (slice (i + 1) u fs) ≡ z
-    run_skip i z h e s = let k = rw e at (run_next i h) in rw (add-one i) (omega arith)
-
-    pub run_here : (i z : ℕ) → i < u → q (get_or fs i 0) ≡ false → i + leading q (slice i u fs) ≡ z → i ≡ z
-    run_here i z h e s = let k = rw e at (run_next i h) in omega arith
-
-    pub run_end : (i z : ℕ) → i ≡ u → i + leading q (slice i u fs) ≡ z → i ≡ z
-    run_end i z e s = let k : leading q (slice i u fs) ≡ 0 = ap (λ (j : ℕ). leading q (slice j u fs)) e ∙ ap (leading q) (slice_empty u fs) in omega arith
-
     -- what the place tells
     pub run_most : (i : ℕ) → i ≤ u → i + leading q (slice i u fs) ≤ u
     run_most i h = omega (arith, leading_most (slice i u fs), length-slice i u fs f)
@@ -76,6 +69,46 @@ module _ (q : ℕ → Bool) where
     run_at : (i : ℕ) → i + leading q (slice i u fs) < u → q (get_or fs (i + leading q (slice i u fs)) 0) ≡ false
     run_at i h =
         ap q (sym (flag_at i (leading q (slice i u fs)) h)) ∙ leading_at (slice i u fs) (omega (arith, length-slice i u fs f))
+
+pub twice : (b : Bool) → b ≡ not (not b)
+twice true = refl
+twice false = refl
+
+-- the first that passes another test, as `position` tells it
+module _ (q p : ℕ → Bool) (opposite : (x : ℕ) → q x ≡ not (p x)) (fs : List ℕ) (i u : ℕ) (h : i ≤ u) (f : u ≤ length fs) (r : Option ℕ) where
+  place : ℕ
+  place = position_or_len p (take (u - i) (drop i fs))
+
+  leading_place : leading q (slice i u fs) ≡ place
+  unfolding place
+  leading_place = ap (leading q) (drop-take i u fs) ∙ is_position_or_len (leading q) p refl step (take (u - i) (drop i fs))
+    where
+      step : (x : ℕ) (xs : List ℕ) → leading q (x ∷ xs) ≡ cond (p x) 0 (1 + leading q xs)
+      step x xs = rw (opposite x) (go (p x))
+        where
+          go : (b : Bool) → cond (not b) (suc (leading q xs)) zero ≡ cond b 0 (1 + leading q xs)
+          go true = refl
+          go false = omega arith
+
+  module _ (e : r ≡ cond (ltb (position_or_len p (take (u - i) (drop i fs))) (length (take (u - i) (drop i fs)))) (Some (position_or_len p (take (u - i) (drop i fs)))) None) where
+    pub run_found : (k : ℕ) → r ≡ Some k → (i + k ≡ i + leading q (slice i u fs)) × ((i ≤ i + k) × (i + k ≤ u))
+    unfolding place
+    run_found k g = go (ltb place (length (take (u - i) (drop i fs)))) refl (sym e ∙ g)
+      where
+        go : (b : Bool) → ltb place (length (take (u - i) (drop i fs))) ≡ b → cond b (Some place) None ≡ Some k → (i + k ≡ i + leading q (slice i u fs)) × ((i ≤ i + k) × (i + k ≤ u))
+        go true l s =
+            let m : place ≡ k = cc in
+            let n = ltb-true place (length (take (u - i) (drop i fs))) l in
+            (omega (arith, leading_place), (omega arith, omega (arith, length_part fs i u f)))
+        go false l s = cc
+
+    pub run_over : r ≡ None → (u ≡ i + leading q (slice i u fs)) × ((i ≤ u) × (u ≤ u))
+    unfolding place
+    run_over g = go (ltb place (length (take (u - i) (drop i fs)))) refl (sym e ∙ g)
+      where
+        go : (b : Bool) → ltb place (length (take (u - i) (drop i fs))) ≡ b → cond b (Some place) None ≡ None → (u ≡ i + leading q (slice i u fs)) × ((i ≤ u) × (u ≤ u))
+        go true l s = cc
+        go false l s = (omega (arith, leading_place, ltb-false place (length (take (u - i) (drop i fs))) l, length_part fs i u f, run_most q fs u f i h), (h, omega arith))
 
 -- ---- rows together
 
@@ -186,7 +219,7 @@ module _ (w : ℕ) (fs : List ℕ) (u : ℕ) (t₀ : Table) (f : u ≤ length fs
         ∙ goes (not (is_free (get_or t₀ (i + 1 + j) []))) (eqb (get_or fs (i + 1 + j) 0) 0)
         (set_flag (eqb (get_or fs (i + 1 + j) 0) 0) (run_before (λ f. not (eqb f 0)) fs u f (i + 1) j (omega arith) (omega arith)))
 
-    pub closing_turn : (t' : Table) → t' ≡ moved t (k + (s - k)) (e - s) k → Closing w fs u t₀ e (k + (e - s)) t'
+    pub closing_turn : (t' : Table) → t' ≡ moved t s (e - s) k → Closing w fs u t₀ e (k + (e - s)) t'
     closing_turn t' q =
         let g = c.gathering in
         let b = g.few in
@@ -194,13 +227,12 @@ module _ (w : ℕ) (fs : List ℕ) (u : ℕ) (t₀ : Table) (f : u ≤ length fs
         let n = run_most (λ f. eqb f 0) fs u f s (omega arith) in
         let x : i + (s - i) ≡ s = omega arith in
         let y : s + (e - s) ≡ e = omega arith in
-        let z : k + (s - k) ≡ s = omega arith in
         let gone : Gathering w fs t₀ s k t = subst (λ (a : ℕ). Gathering w fs t₀ a k t) x (gathering_gone w fs t₀ i k t g (s - i) (omega arith) going) in
         let run : Gathering w fs t₀ (s + (e - s)) (k + (e - s)) (moved t s (e - s) k) =
         gathering_run w fs t₀ s k t gone (e - s) (omega arith) (λ j a. staying s j (omega arith) (omega arith)) in
         record {
           gathering = subst (λ (a : ℕ). Gathering w fs t₀ a (k + (e - s)) t') y
-              (subst (λ (a : Table). Gathering w fs t₀ (s + (e - s)) (k + (e - s)) a) (sym (q ∙ ap (λ (a : ℕ). moved t a (e - s) k) z)) run);
+              (subst (λ (a : Table). Gathering w fs t₀ (s + (e - s)) (k + (e - s)) a) (sym q) run);
           most = omega arith;
           gap = subst (λ (a : ℕ). a < u → eqb (get_or fs a 0) 0 ≡ false) (sym r) (run_at (λ f. eqb f 0) fs u f s);
         }

@@ -18,17 +18,15 @@ pub fn flag(t: &[u8], w: usize, n: usize, u: usize, key: &[u8], flags: &mut [u8]
     ensures flags_after { flags.new ≡ flagged (λ b. same_bytes (take (length key.now) b) key.now) (rows w n t.now) flags.old }
 {
     let from = search::lower(t, w, n, u, key);
-    let mut i = from;
-    while i < u {
+    for i in from..u {
         let at = w * i;
         let e = at + w;
         if !table::starts(&t[at..e], key) {
             return i - from;
         }
         flags[i] = 1;
-        i += 1;
     }
-    i - from
+    u - from
 }
 
 // Takes a row that stays to its place behind those that stay, and tells the next place.
@@ -38,9 +36,7 @@ fn keep(t: &mut [u8], w: usize, n: usize, to: usize, from: usize, stays: bool) -
     ensures t_after { rows w n t.new ≡ cond stays (set (rows w n t.old) to (get_or (rows w n t.old) from [])) (rows w n t.old) }
 {
     if stays {
-        if to < from {
-            moving::rows_down(t, w, n, to, 1, from - to);
-        }
+        moving::move_rows(t, w, n, from, 1, to);
         to + 1
     } else {
         to
@@ -54,7 +50,7 @@ fn wipe(t: &mut [u8], w: usize, n: usize, from: usize, to: usize)
 {
     let a = w * from;
     let e = w * to;
-    octets::clear(&mut t[a..e]);
+    t[a..e].fill(0);
 }
 
 // The first place from one on, before u, whose flag is not 0; u where there is none.
@@ -62,14 +58,10 @@ fn next_flagged(flags: &[u8], from: usize, u: usize) -> usize
     requires { (from ≤ u) × (u ≤ length flags.now) }
     ensures { (result ≡ next_flagged flags.now from u) × ((from ≤ result) × (result ≤ u)) }
 {
-    let mut i = from;
-    while i < u {
-        if flags[i] != 0 {
-            return i;
-        }
-        i += 1;
+    match flags[from..u].iter().position(|f| *f != 0) {
+        Some(k) => from + k,
+        None => u,
     }
-    i
 }
 
 // The first place from one on, before u, whose flag is 0; u where there is none.
@@ -77,14 +69,10 @@ fn next_staying(flags: &[u8], from: usize, u: usize) -> usize
     requires { (from ≤ u) × (u ≤ length flags.now) }
     ensures { (result ≡ next_staying flags.now from u) × ((from ≤ result) × (result ≤ u)) }
 {
-    let mut i = from;
-    while i < u {
-        if flags[i] == 0 {
-            return i;
-        }
-        i += 1;
+    match flags[from..u].iter().position(|f| *f == 0) {
+        Some(k) => from + k,
+        None => u,
     }
-    i
 }
 
 // Gives up the rows whose flag is not 0: the others close up in one pass, whole runs at once, in their
@@ -101,7 +89,7 @@ pub fn close(t: &mut [u8], w: usize, n: usize, u: usize, flags: &[u8])
         let s = next_staying(flags, i + 1, u);
         let e = next_flagged(flags, s, u);
         let k = e - s;
-        moving::rows_down(t, w, n, to, k, s - to);
+        moving::move_rows(t, w, n, s, k, to);
         to += k;
         i = e;
     }
@@ -116,12 +104,9 @@ pub fn keep_used(t: &mut [u8], w: usize, n: usize) -> usize
     ensures t_after { rows w n t.new ≡ used_rows (rows w n t.old) ++ replicate (free_rows (rows w n t.old)) (zero_row w) }
 {
     let mut to = 0;
-    let mut i = 0;
-    while i < n {
-        let at = w * i;
-        let stays = t[at] != 0;
+    for i in 0..n {
+        let stays = t[w * i] != 0;
         to = keep(t, w, n, to, i, stays);
-        i += 1;
     }
     wipe(t, w, n, to, n);
     to

@@ -10,22 +10,13 @@ ghost use Rattle.firsts.specs.Firsts.{first_in, firsts, bucket_of, Chained, head
 
 const BUCKETS: usize = 4096;
 
-// A number of a table as a place.
-fn wide(x: u16) -> usize
-    ensures { result ≡ x }
-{
-    x as usize
-}
-
 // The bucket of a text: its first twelve bits.
 #[tactic(auto, unfolding(crate::specs::Firsts::bucket_of))]
 fn bucket(text: &[u8]) -> usize
     requires { 2 ≤ length text.now }
     ensures { (result ≡ bucket_of text.now) × (result < 4096) }
 {
-    let a = octets::wide(text[0]);
-    let b = octets::wide(text[1]);
-    (16 * a + b / 16) as usize
+    16 * usize::from(text[0]) + usize::from(text[1]) / 16
 }
 
 // The row that is equal to row i, among those before it that are the first of their kind; i where there
@@ -38,15 +29,15 @@ fn equal_in(log: &[u8], n: usize, i: usize, b: usize, heads: &[u16], links: &[u1
 {
     let a = 32 * i;
     let e = a + 32;
-    let mut next = wide(heads[b]);
+    let mut next = usize::from(heads[b]);
     while 0 < next {
         let j = next - 1;
         let d = 32 * j;
         let f = d + 32;
-        if octets::same(&log[d..f], &log[a..e]) {
+        if log[d..f] == log[a..e] {
             return j;
         }
-        next = wide(links[j]);
+        next = usize::from(links[j]);
     }
     i
 }
@@ -70,23 +61,14 @@ pub fn find(log: &[u8], n: usize, first: &mut [u16])
 {
     let mut heads = [0u16; BUCKETS];
     let mut links = [0u16; BUCKETS];
-    let mut i = 0;
-    while i < n {
+    for i in 0..n {
         let a = 32 * i;
         let e = a + 32;
         let b = bucket(&log[a..e]);
         let j = equal_in(log, n, i, b, &heads, &links);
         first[i] = j as u16;
         link(&mut heads, &mut links, b, i, j);
-        i += 1;
     }
-}
-
-// 1 for a number below a bound.
-fn under(x: u16, upto: usize) -> u8
-    ensures { result ≡ bit (ltb x upto) }
-{
-    if wide(x) < upto { 1 } else { 0 }
 }
 
 // Flags those of the first n texts that first stand before a place. [01:OP12]
@@ -94,9 +76,8 @@ pub fn flag_before(first: &[u16], n: usize, upto: usize, flags: &mut [u8])
     requires { (n ≤ length first.now) × (n ≤ length flags.old) }
     ensures { flags.new ≡ flags_under upto (take n first.now) ++ drop n flags.old }
 {
-    let mut i = 0;
-    while i < n {
-        flags[i] = under(first[i], upto);
-        i += 1;
+    for i in 0..n {
+        let at = usize::from(first[i]);
+        flags[i] = u8::from(at < upto);
     }
 }

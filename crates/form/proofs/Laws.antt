@@ -1,10 +1,10 @@
 -- Laws of the check of form: the first eight bytes as a number order rows, neighbours decide whether rows ascend, and the free rows
 -- are all zero where every byte behind the first n - free rows is.
-use Prim.Native.Nat.{ℕ, suc, ◌+◌, ◌*◌, ◌-◌, ◌≤◌, ◌<◌}
+use Prim.Native.Nat.{ℕ, zero, suc, ◌+◌, ◌*◌, ◌-◌, ◌≤◌, ◌<◌}
 use mathlib.Core.Path.{◌≡◌, refl, sym, ap, ap₂, subst, ◌∙◌}
 use mathlib.Core.Bool.{Bool, true, false, not, ◌&&◌, ◌||◌}
 use mathlib.Core.List.{List, [], ◌∷◌, ◌++◌}
-use native.Mathlib.Nat.{mul-suc, mul-add, zero-add}
+use native.Mathlib.Nat.{mul-suc, mul-add}
 use native.Mathlib.Numerals.{add-one}
 use native.Mathlib.Omega.{arith}
 use lib.Bits.{bit_or, or_add_and, and_le_l, and_le_r, or_zero_l}
@@ -18,7 +18,7 @@ use Rattle.table.specs.Table.{Row, Table, rows, is_free, free_rows, zero_row}
 use Rattle.table.specs.Order.{precedes, ascending, used_rows, in_form}
 use Rattle.table.proofs.Counting.{both, same_true, same-eq, count-append, count-le, none_any, all_map}
 use Rattle.table.proofs.Rows.{rows-length, rows_zero}
-use Rattle.table.proofs.Walk.{flat_rows, row_end, row_part}
+use Rattle.table.proofs.Walk.{flat_rows, row_part}
 use Rattle.table.proofs.Cuts.{rows_behind, rows_blank}
 use Rattle.table.proofs.Order.{precedes_not, not_before_trans, Ascending, ascending-true, true-ascending, none_all, Used, rows_counted, filled_free, filled_form, InForm, form_true, true_form}
 use Rattle.table.proofs.Search.{take-precedes}
@@ -56,20 +56,6 @@ continued-precedes a (x ∷ xs) (y ∷ ys) l h k e = go (ltb x y) (eqb x y) refl
             at : (b : Bool) → ltb y x ≡ b → a * 256 + y < a * 256 + x
             at true b = omega (arith, ltb-true y x b)
             at false b = absurd (d (omega (arith, ltb-false y x b)))
-
--- the first eight bytes, one after the other
-pub eight_is : (l : List ℕ) → 8 ≤ length l
-    → ((((((get_or l 0 0 * 256 + get_or l 1 0) * 256 + get_or l 2 0) * 256 + get_or l 3 0) * 256 + get_or l 4 0) * 256 + get_or l 5 0) * 256 + get_or l 6 0) * 256 + get_or l 7 0 ≡ number (take 8 l)
-unfolding continued
-eight_is (a ∷ b ∷ c ∷ d ∷ e ∷ f ∷ g ∷ h ∷ l) k = rw (zero-add a)
-eight_is [] k = absurd (omega arith)
-eight_is (a ∷ []) k = absurd (omega arith)
-eight_is (a ∷ b ∷ []) k = absurd (omega arith)
-eight_is (a ∷ b ∷ c ∷ []) k = absurd (omega arith)
-eight_is (a ∷ b ∷ c ∷ d ∷ []) k = absurd (omega arith)
-eight_is (a ∷ b ∷ c ∷ d ∷ e ∷ []) k = absurd (omega arith)
-eight_is (a ∷ b ∷ c ∷ d ∷ e ∷ f ∷ []) k = absurd (omega arith)
-eight_is (a ∷ b ∷ c ∷ d ∷ e ∷ f ∷ g ∷ []) k = absurd (omega arith)
 
 -- rows are ordered by their first eight bytes, where these differ
 pub eight_before : (x y : List ℕ) → length x ≡ length y → 8 ≤ length x → ((i : ℕ) → get_or x i 0 < 256) → ((i : ℕ) → get_or y i 0 < 256)
@@ -120,27 +106,32 @@ rising-ascending l = agree (rising l) (ascending l) (λ e. true-ascending l (up 
     down (r ∷ s ∷ rest) a = rw a.0.0 (down (s ∷ rest) a.1)
 
 -- one pair further
-pub rising_next : (l : List Row) (i : ℕ) → i + 1 < length l → rising (drop i l) ≡ (not (precedes (get_or l (i + 1) []) (get_or l i [])) && rising (drop (i + 1) l))
-rising_next l i h =
-    let k : suc i < length l = omega arith in
-    rw (add-one i, drop-cons l i [] (omega arith), drop-cons l (suc i) [] k)
+pub rising_next : (l : List Row) (i : ℕ) → 0 < i → i < length l → rising (drop (i - 1) l) ≡ (not (precedes (get_or l i []) (get_or l (i - 1) [])) && rising (drop i l))
+rising_next l zero p h = absurd (omega arith)
+rising_next l (suc i) p h =
+    let e : suc i - 1 ≡ i = omega arith in
+    rw (e, drop-cons l i [] (omega arith), drop-cons l (suc i) [] h)
 
-pub rising_end : (l : List Row) (i : ℕ) → length l ≤ i + 1 → rising (drop i l) ≡ true
-rising_end l i h = go (drop i l) (omega (arith, length-drop i l))
+pub rising_end : (l : List Row) (i : ℕ) → length l ≤ i → rising (drop (i - 1) l) ≡ true
+rising_end l i h = go (drop (i - 1) l) (omega (arith, length-drop (i - 1) l))
   where
     go : (l : List Row) → length l ≤ 1 → rising l ≡ true
     go [] h = refl
     go (r ∷ []) h = refl
     go (r ∷ s ∷ rest) h = absurd (omega arith)
 
--- the row behind a row ends within the table; as a part of the bytes
-pub next_end : (w n i : ℕ) → i + 1 < n → w * i + w + w ≤ w * n
-next_end w n i h = omega (arith, row_end w n (i + 1) h, ap (λ (k : ℕ). w * k) (add-one i), mul-suc w i)
+pub one_back : (i : ℕ) → i + 1 - 1 ≡ i
+one_back i = omega arith
 
-pub next_part : (w n i : ℕ) (t : List ℕ) → i + 1 < n → take (w * i + w + w - (w * i + w)) (drop (w * i + w) t) ≡ get_or (rows w n t) (i + 1) []
-next_part w n i t h =
-    let e : w * i + w ≡ w * (i + 1) = omega (arith, ap (λ (k : ℕ). w * k) (add-one i), mul-suc w i) in
-    rw e (row_part w n (i + 1) t h)
+-- the row before a row; as a part of the bytes
+pub row_before : (w i : ℕ) → 0 < i → w * i ≡ w * (i - 1) + w
+row_before w zero p = absurd (omega arith)
+row_before w (suc i) p = let e : suc i - 1 ≡ i = omega arith in rw e (omega (arith, mul-suc w i))
+
+pub part_before : (w n i : ℕ) (t : List ℕ) → 0 < i → i < n → take (w * i - (w * i - w)) (drop (w * i - w) t) ≡ get_or (rows w n t) (i - 1) []
+part_before w n i t p h =
+    let e : w * i - w ≡ w * (i - 1) = omega (arith, row_before w i p) in
+    rw (e, row_before w i p) (row_part w n (i - 1) t (omega arith))
 
 -- ---- zeros
 

@@ -9,19 +9,11 @@ ghost use Rattle.table.specs.Table.{rows, free_rows};
 ghost use Rattle.table.specs.Order.{precedes as precedes_bytes, ascending, in_form};
 
 // The first eight bytes as one number, big-endian: the compiler makes one load of it.
-#[tactic(auto, using(crate::proofs::Laws::eight_is))]
 fn eight(r: &[u8]) -> u64
     requires { 8 ≤ length r.now }
     ensures { result ≡ number (take 8 r.now) }
 {
-    let mut x = octets::wide(r[0]);
-    x = x * 256 + octets::wide(r[1]);
-    x = x * 256 + octets::wide(r[2]);
-    x = x * 256 + octets::wide(r[3]);
-    x = x * 256 + octets::wide(r[4]);
-    x = x * 256 + octets::wide(r[5]);
-    x = x * 256 + octets::wide(r[6]);
-    x * 256 + octets::wide(r[7])
+    octets::get(&r[..8])
 }
 
 // Whether the first of two rows comes before the second: by their first eight bytes as one number,
@@ -43,34 +35,30 @@ fn comes_before(a: &[u8], b: &[u8]) -> bool
 }
 
 // Whether the first u rows ascend, by neighbours. [02:W2.2]
-#[tactic(auto, using(table::proofs::Walk::row_part, crate::proofs::Laws::rising, crate::proofs::Laws::rising_next, crate::proofs::Laws::rising_end, crate::proofs::Laws::next_part, crate::proofs::Rules::ascend_rules))]
+#[tactic(auto, using(table::proofs::Walk::row_part, crate::proofs::Laws::rising, crate::proofs::Laws::rising_next, crate::proofs::Laws::rising_end, crate::proofs::Laws::one_back, crate::proofs::Laws::row_before, crate::proofs::Laws::part_before, crate::proofs::Rules::ascend_rules))]
 fn ascend(t: &[u8], w: usize, n: usize, u: usize) -> bool
     requires { (8 ≤ w) × ((u ≤ n) × (length t.now ≡ w * n)) }
     ensures { result ≡ ascending (take u (rows w n t.now)) }
 {
-    let mut i = 0;
-    while i + 1 < u {
-        let a = w * i;
-        let b = a + w;
+    for i in 1..u {
+        let b = w * i;
+        let a = b - w;
         let e = b + w;
         if comes_before(&t[b..e], &t[a..b]) {
             return false;
         }
-        i += 1;
     }
     true
 }
 
 // Whether all bytes are zero. There is no early exit: that is what makes it fast. [02:W2.3]
-#[tactic(auto, using(crate::proofs::Laws::zeros_next))]
+#[tactic(auto, using(crate::proofs::Laws::zeros_next, crate::proofs::Laws::zeros_end))]
 fn blank(t: &[u8]) -> bool
     ensures { result ≡ same_bytes t.now (replicate (length t.now) 0) }
 {
     let mut seen: u8 = 0;
-    let mut i = 0;
-    while i < t.len() {
-        seen |= t[i];
-        i += 1;
+    for x in t {
+        seen |= *x;
     }
     seen == 0
 }
@@ -82,9 +70,5 @@ pub fn in_form(t: &[u8], w: usize, n: usize, free: usize) -> bool
 {
     let u = n - free;
     let at = w * u;
-    if ascend(t, w, n, u) {
-        blank(&t[at..])
-    } else {
-        false
-    }
+    ascend(t, w, n, u) && blank(&t[at..])
 }

@@ -2,7 +2,7 @@
 -- that comes before all that is left is in the second just where the element before is it.
 use Prim.Native.Nat.{ℕ, zero, suc, ◌+◌, ◌-◌, ◌≤◌, ◌<◌}
 use mathlib.Core.Path.{◌≡◌, refl, sym, ap, ◌∙◌}
-use mathlib.Core.Bool.{Bool, true, false, not, true≢false, or-true}
+use mathlib.Core.Bool.{Bool, true, false, cond, not, true≢false, or-true}
 use mathlib.Core.List.{List, [], ◌∷◌}
 use native.Mathlib.Nat.{add-zero, zero-add, not-suc-le-zero}
 use native.Mathlib.Numerals.{add-one}
@@ -11,13 +11,17 @@ use lib.Dec.{ltb}
 use lib.ListN.{length, get_or, drop, drop_of_length-le}
 use lib.Seq.{drop-cons}
 use borrow.Author.Tests.{ltb-true, ltb-false, lt-ltb, le-ltb}
+use Rattle.std.specs.declared.cmp.Ordering.{Ordering}
+use Rattle.std.specs.declared.cmp.Ordering.TheVariants.{Less, Equal, Greater}
+use Rattle.std.specs.Ordering.{nat_cmp, is_lt, is_eq}
+use Rattle.std.specs.Cmp.Lexicographic.{slice_cmp}
+use Rattle.std.proofs.lemmas.Bool.Decides.{nat_tests}
+use Rattle.std.proofs.lemmas.Cmp.{same_from_slice_cmp}
 use Rattle.table.specs.Lists.{bit, same, count, any_of, lacking}
 use Rattle.table.specs.Order.{precedes}
-use Rattle.table.proofs.Counting.{same_true, ne_same, same-eq}
+use Rattle.table.proofs.Counting.{same_true, same_sym, ne_same, same-eq}
 use Rattle.table.proofs.Order.{neither_before, not_before_trans, precedes_not, all_none}
-use Rattle.lacking.specs.Meetings.{met_before, meeting_of, pick_meeting}
-use Rattle.lacking.specs.declared.Meeting.{Meeting}
-use Rattle.lacking.specs.declared.Meeting.TheVariants.{Same, Before, Past}
+use Rattle.lacking.specs.Meetings.{met_before, meeting_of}
 use Rattle.repeats.proofs.Keys.{Rising, all_from, bit_le}
 
 pub any_at : (p : List ℕ → Bool) (l : List (List ℕ)) (i : ℕ) → i < length l → p (get_or l i []) ≡ true → any_of p l ≡ true
@@ -128,30 +132,37 @@ module _ (xs ys : List (List ℕ)) (rx : Rising xs) (ry : Rising ys) (i j r : �
     most = omega (arith, w.most, bit_le (not b));
   }
 
--- ---- how a text stands to the one that the walk has come to
+-- ---- how the text that the walk has come to stands to a text
 
-pub meeting_none : (x : List ℕ) (l : List (List ℕ)) (j : ℕ) → length l ≤ j → meeting_of x l j ≡ Past
+-- what the library's comparison of two texts tells
+cmp_precedes : (y x : List ℕ) (o : Ordering) → o ≡ slice_cmp nat_cmp y x → is_lt o ≡ precedes y x
+cmp_precedes =
+    same_from_slice_cmp nat_cmp is_lt precedes refl (λ _ _. refl) (λ _ _. refl) (λ x y xs ys o h. grind (arith, nat_tests))
+
+cmp_same : (y x : List ℕ) (o : Ordering) → o ≡ slice_cmp nat_cmp y x → is_eq o ≡ same y x
+cmp_same =
+    same_from_slice_cmp nat_cmp is_eq same refl (λ _ _. refl) (λ _ _. refl) (λ x y xs ys o h. grind (arith, nat_tests))
+
+pub meeting_none : (x : List ℕ) (l : List (List ℕ)) (j : ℕ) → length l ≤ j → meeting_of x l j ≡ Greater
 unfolding meeting_of
 meeting_none x l j h = rw (le-ltb j (length l) h) refl
 
-pub meeting_here : (x : List ℕ) (l : List (List ℕ)) (j : ℕ) → j < length l → (a b : Bool) → same x (get_or l j []) ≡ a → precedes (get_or l j []) x ≡ b
-    → meeting_of x l j ≡ pick_meeting a Same (pick_meeting b Before Past)
+pub meeting_here : (x : List ℕ) (l : List (List ℕ)) (j : ℕ) → j < length l → meeting_of x l j ≡ slice_cmp nat_cmp (get_or l j []) x
 unfolding meeting_of
-meeting_here x l j h a b e f = rw (lt-ltb j (length l) h, e, f) refl
+meeting_here x l j h = rw (lt-ltb j (length l) h) refl
 
 -- what each case says
-abbrev pub Says : List ℕ → List (List ℕ) → ℕ → Meeting → Type 0
-Says x l j Same = (j < length l) × (same x (get_or l j []) ≡ true)
-Says x l j Before = (j < length l) × (precedes (get_or l j []) x ≡ true)
-Says x l j Past = j < length l → (same x (get_or l j []) ≡ false) × (precedes (get_or l j []) x ≡ false)
+abbrev pub Says : List ℕ → List (List ℕ) → ℕ → Ordering → Type 0
+Says x l j Equal = (j < length l) × (same x (get_or l j []) ≡ true)
+Says x l j Less = (j < length l) × (precedes (get_or l j []) x ≡ true)
+Says x l j Greater = j < length l → (same x (get_or l j []) ≡ false) × (precedes (get_or l j []) x ≡ false)
 
 pub says : (x : List ℕ) (l : List (List ℕ)) (j : ℕ) → Says x l j (meeting_of x l j)
 unfolding meeting_of
-says x l j = go (ltb j (length l)) refl (same x (get_or l j [])) refl (precedes (get_or l j []) x) refl
+says x l j = go (ltb j (length l)) refl (slice_cmp nat_cmp (get_or l j []) x) refl
   where
-    go : (c : Bool) → ltb j (length l) ≡ c → (a : Bool) → same x (get_or l j []) ≡ a → (b : Bool) → precedes (get_or l j []) x ≡ b
-        → Says x l j (pick_meeting c (pick_meeting a Same (pick_meeting b Before Past)) Past)
-    go true c true a b f = (ltb-true j (length l) c, a)
-    go true c false a true b = (ltb-true j (length l) c, b)
-    go true c false a false b = λ h. (a, b)
-    go false c x a y b = λ h. absurd (omega (arith, ltb-false j (length l) c))
+    go : (c : Bool) → ltb j (length l) ≡ c → (o : Ordering) → o ≡ slice_cmp nat_cmp (get_or l j []) x → Says x l j (cond c o Greater)
+    go true c Equal e = (ltb-true j (length l) c, same_sym x (get_or l j []) ∙ sym (cmp_same (get_or l j []) x Equal e))
+    go true c Less e = (ltb-true j (length l) c, sym (cmp_precedes (get_or l j []) x Less e))
+    go true c Greater e = λ h. (same_sym x (get_or l j []) ∙ sym (cmp_same (get_or l j []) x Greater e), sym (cmp_precedes (get_or l j []) x Greater e))
+    go false c o e = λ h. absurd (omega (arith, ltb-false j (length l) c))

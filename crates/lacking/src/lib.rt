@@ -9,35 +9,20 @@ ghost use Rattle.table.specs.Order.{Searchable};
 ghost use Rattle.lacking.specs.Meetings.{meeting_of, met_before};
 
 use repeats::alike;
+use std::cmp::Ordering;
 
-// How a text stands to the text of a row that a walk has come to.
-#[derive(Clone, Copy)]
-enum Meeting {
-    Same,
-    // The row's comes before it.
-    Before,
-    // The row's comes after it, or there is no row.
-    Past,
-}
-
-// How the id at a place of a text stands to that of row j.
-fn compare_id(x: &[u8], a: usize, t: &[u8], w: usize, n: usize, u: usize, j: usize) -> Meeting
+// How the id of row j stands to the id at a place of a text; after it where there is no row.
+fn compare_id(x: &[u8], a: usize, t: &[u8], w: usize, n: usize, u: usize, j: usize) -> Ordering
     requires { (((17 ≤ w) × (length t.now ≡ w * n)) × Searchable w u (rows w n t.now)) × (a + 16 ≤ length x.now) }
     ensures { result ≡ meeting_of (take 16 (drop a x.now)) (map (take 16) (used_in (rows w n t.now))) j }
 {
     if u <= j {
-        return Meeting::Past;
+        return Ordering::Greater;
     }
     let b = w * j + 1;
-    if alike(x, a, t, b, 16) {
-        return Meeting::Same;
-    }
     let d = a + 16;
     let e = b + 16;
-    if table::precedes(&t[b..e], &x[a..d]) {
-        return Meeting::Before;
-    }
-    Meeting::Past
+    t[b..e].cmp(&x[a..d])
 }
 
 // Whether the row before row j has the id at a place of a text.
@@ -70,15 +55,16 @@ pub fn lacking_ids(
     let mut r: u64 = 0;
     let mut k = 0;
     let mut j = 0;
+    // No range: the walk goes on in one table or the other.
     while k < u {
         let a = w * k + 1;
         match compare_id(t, a, v, width, m, used, j) {
-            Meeting::Same => {
+            Ordering::Equal => {
                 k += 1;
                 j += 1;
             }
-            Meeting::Before => j += 1,
-            Meeting::Past => {
+            Ordering::Less => j += 1,
+            Ordering::Greater => {
                 if !was_met(t, a, v, width, m, used, j) {
                     r += 1;
                 }

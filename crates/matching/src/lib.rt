@@ -30,9 +30,7 @@ fn bucket(t: &[u8], a: usize) -> usize
     requires { a + 2 ≤ length t.now }
     ensures { (result ≡ bucket_of (drop a t.now)) × (result < 16384) }
 {
-    let x = octets::wide(t[a]);
-    let y = octets::wide(t[a + 1]);
-    ((256 * x + y) / 4) as usize
+    (256 * usize::from(t[a]) + usize::from(t[a + 1])) / 4
 }
 
 // For each bucket the first used row whose tag is in it.
@@ -40,9 +38,7 @@ fn hint(t: &[u8], w: usize, n: usize, u: usize, hints: &mut [u16])
     requires { ((33 ≤ w) × (length t.now ≡ w * n)) × (((u ≤ n) × (n ≤ 4096)) × (length hints.old ≡ 16384)) }
     ensures { hints.new ≡ hinted u (rows w n t.now) hints.old }
 {
-    let mut i = u;
-    while 0 < i {
-        i -= 1;
+    for i in (0..u).rev() {
         let b = bucket(t, w * i + 1);
         hints[b] = i as u16;
     }
@@ -83,20 +79,13 @@ fn near(t: &[u8], w: usize, n: usize, u: usize, tag: &[u8], i: usize) -> usize
     search::settled(t, w, n, u, tag, from)
 }
 
-// A hint as a row's number.
-fn wide(x: u16) -> usize
-    ensures { (result ≡ x) × (result < 65536) }
-{
-    x as usize
-}
-
 // The same, by the hint of the tag's bucket.
 fn place(t: &[u8], w: usize, n: usize, u: usize, hints: &[u16], tag: &[u8]) -> usize
     requires { ((((33 ≤ w) × (length tag.now ≡ 32)) × (length t.now ≡ w * n)) × Searchable w u (rows w n t.now)) × (length hints.now ≡ 16384) }
     ensures { result ≡ place_of tag.now (rows w n t.now) }
 {
     let b = bucket(tag, 0);
-    near(t, w, n, u, tag, wide(hints[b]))
+    near(t, w, n, u, tag, usize::from(hints[b]))
 }
 
 // Flags the first used row of a table with the tag of each used row of another, where a tag is the last 32
@@ -118,9 +107,8 @@ fn reach(
     ensures value { result ≡ lacking_in (map (drop (width - 33)) (used_in (rows width m v.now))) (map (take 32) (used_in (rows w n t.now))) }
     ensures flags_after { flags.new ≡ reached (rows w n t.now) (map (drop (width - 33)) (used_in (rows width m v.now))) flags.old }
 {
-    let mut lost: u64 = 0;
-    let mut j = 0;
-    while j < used {
+    let mut lost = 0;
+    for j in 0..used {
         let e = width * j + width;
         let a = e - 32;
         let i = place(t, w, n, u, hints, &v[a..e]);
@@ -129,7 +117,6 @@ fn reach(
         } else {
             lost += 1;
         }
-        j += 1;
     }
     lost
 }
@@ -152,15 +139,13 @@ fn unflagged(t: &[u8], w: usize, n: usize, u: usize, flags: &[u8]) -> u64
     requires { (((33 ≤ w) × (length t.now ≡ w * n)) × Searchable w u (rows w n t.now)) × (n ≤ length flags.now) }
     ensures { result ≡ unflagged_in (rows w n t.now) flags.now }
 {
-    let mut left: u64 = 0;
+    let mut left = 0;
     let mut first = 0;
-    let mut j = 0;
-    while j < u {
+    for j in 0..u {
         first = start(t, w, n, u, j, first);
         if flags[first] == 0 {
             left += 1;
         }
-        j += 1;
     }
     left
 }

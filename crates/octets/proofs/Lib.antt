@@ -1,4 +1,3 @@
 pub mod Compare
 pub mod Numbers
 pub mod Parts
-pub mod Rules

@@ -1,12 +1,12 @@
 -- Laws of numbers as bytes, over every width: how many bytes, and reading gives back what was written.
 use mathlib.Core.Path.{◌≡◌, refl, sym, ap, subst, ◌∙◌}
-use mathlib.Core.List.{List, [], ◌∷◌, ◌++◌, append_assoc, append-nil}
+use mathlib.Core.List.{List, [], ◌∷◌, ◌++◌, append_assoc}
 use Prim.Native.Nat.{ℕ, zero, suc, ◌+◌, ◌-◌, ◌*◌, ◌/◌, ◌%◌, ◌^◌, ◌<◌, ◌≤◌}
 use native.Mathlib.Omega.{arith}
 use native.Mathlib.Nat.{pow-suc, one-le-pow, mod-one, mod-eq_of_lt, not-suc-le-zero, lt_of_lt_of_le, mul-add}
 use native.Mathlib.Numerals.{add-one}
 use lib.ListN.{length, length-append, length-set, drop, set, get_or, drop_of_length-le}
-use lib.Seq.{drop-cons, drop-length, get_or-set_same, drop-set-lt}
+use lib.Seq.{drop-cons, get_or-set_same, drop-set-lt}
 use lib.Arith.{mod-mul, digits_lt}
 use lib.Pow.{pow-add, pow_mono}
 use lib.Dec.{lit<}
@@ -47,9 +47,6 @@ put_byte (suc n) x to p h =
     (drop-cons (set to n (x % 256)) n 0 (rw (length-set to n (x % 256)) h)
     ∙ rw (get_or-set_same to n (x % 256) 0 h, drop-set-lt (suc n) to n (x % 256) (omega arith)))
     ∙ sym (append_assoc (bytes n (x / 256)) (x % 256 ∷ []) (drop (suc n) to)))
-
-pub put_all : (x : ℕ) (to : List ℕ) → bytes (length to) x ++ drop (length to) to ≡ bytes (length to) x
-put_all x to = rw (drop-length to) (append-nil (bytes (length to) x))
 
 pub put_done : (i x : ℕ) (to l : List ℕ) → i ≤ 0 → bytes i x ++ drop i to ≡ l → to ≡ l
 unfolding bytes

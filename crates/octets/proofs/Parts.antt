@@ -1,16 +1,12 @@
--- Laws of copying in place, and of a part that was lent and has come back (specs/Part): what stands before, in and after it.
+-- Laws of a part that was lent and has come back (specs/Part): what stands before, in and after it.
 use mathlib.Core.Path.{◌≡◌, refl, sym, ap, ap₂, ◌∙◌}
 use mathlib.Core.List.{List, [], ◌∷◌, ◌++◌, map, map-append, append_assoc, append-nil}
 use Prim.Native.Nat.{ℕ, suc, ◌+◌, ◌-◌, ◌<◌, ◌≤◌}
 use native.Mathlib.Omega.{arith}
 use native.Mathlib.Numerals.{add-one}
 use lib.ListN.{length, length-append, length-take, length-drop, length-map, drop_of_length-le, take, drop, set, get_or, take-append-drop}
-use lib.Seq.{take-suc, take-suc-set, take_all, take_at, drop_at, drop-cons, drop-drop, get_or_at, set_at, length-take-le}
+use lib.Seq.{take-suc, take_all, take_at, drop_at, drop-cons, drop-drop, get_or_at, set_at, length-take-le}
 use Rattle.octets.specs.Part.{back, written}
-
-pub copy_byte : (i : ℕ) (to from : List ℕ) → i < length to → i < length from → take i to ≡ take i from
-    → take (i + 1) (set to i (get_or from i 0)) ≡ take (i + 1) from
-copy_byte i to from h k e = rw (add-one i, take-suc-set to i (get_or from i 0) h, e, take-suc from i 0 k)
 
 -- how long a lent part is
 pub length_part : (xs : List ℕ) (a e : ℕ) → e ≤ length xs → length (take (e - a) (drop a xs)) ≡ e - a

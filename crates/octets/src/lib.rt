@@ -8,14 +8,13 @@ ghost use Rattle.octets.specs.Number.{bytes, number};
 ghost use Rattle.octets.specs.Part.{written};
 
 // Writes x over the whole of a slice, big-endian: its last bytes, as many as there is room for.
-#[tactic(auto, using(crate::proofs::Numbers::put_byte, crate::proofs::Numbers::put_done, crate::proofs::Rules::put_rules))]
+#[tactic(auto, using(crate::proofs::Numbers::put_byte))]
 pub fn put(to: &mut [u8], x: u64)
     ensures { to.new ≡ bytes (length to.old) x }
 {
     let mut rest = x;
-    let mut i = to.len();
-    while 0 < i {
-        i -= 1;
+    // An index loop: a proof does not know what was written by way of `iter_mut().rev()`.
+    for i in (0..to.len()).rev() {
         to[i] = (rest % 256) as u8;
         rest /= 256;
     }
@@ -25,34 +24,32 @@ pub fn put(to: &mut [u8], x: u64)
 pub fn least(a: usize, b: usize) -> usize
     ensures { result ≡ min a b }
 {
-    if a < b { a } else { b }
+    a.min(b)
 }
 
 // The difference, or 0.
 pub fn above(a: usize, b: usize) -> usize
     ensures { result ≡ a - b }
 {
-    if b < a { a - b } else { 0 }
+    a.saturating_sub(b)
 }
 
 // A byte as a wider number.
 pub fn wide(x: u8) -> u64
     ensures { (result ≡ x) × (result < 256) }
 {
-    x as u64
+    u64::from(x)
 }
 
 // The number of which a slice of at most 8 bytes is the bytes, big-endian.
-#[tactic(auto, using(crate::proofs::Numbers::get_byte, crate::proofs::Numbers::get_done, crate::proofs::Numbers::one_more, crate::proofs::Numbers::fits_eight))]
+#[tactic(auto, using(crate::proofs::Numbers::get_done))]
 pub fn get(from: &[u8]) -> u64
     requires { length from.now ≤ 8 }
     ensures { result ≡ number from.now }
 {
-    let mut x: u64 = 0;
-    let mut i = 0;
-    while i < from.len() {
-        x = x * 256 + wide(from[i]);
-        i += 1;
+    let mut x = 0;
+    for byte in from {
+        x = x * 256 + u64::from(*byte);
     }
     x
 }
@@ -62,22 +59,14 @@ pub fn copy(to: &mut [u8], from: &[u8])
     requires { length from.now ≡ length to.old }
     ensures { to.new ≡ from.now }
 {
-    let mut i = 0;
-    while i < from.len() {
-        to[i] = from[i];
-        i += 1;
-    }
+    to.copy_from_slice(from);
 }
 
 // Zeroes a slice.
 pub fn clear(to: &mut [u8])
     ensures { to.new ≡ replicate (length to.old) 0 }
 {
-    let mut i = 0;
-    while i < to.len() {
-        to[i] = 0;
-        i += 1;
-    }
+    to.fill(0);
 }
 
 // Copies a slice over the part of another that starts at a place.
@@ -86,21 +75,13 @@ pub fn copy_at(to: &mut [u8], at: usize, from: &[u8])
     ensures { to.new ≡ written to.old at from.now }
 {
     let e = at + from.len();
-    copy(&mut to[at..e], from);
+    to[at..e].copy_from_slice(from);
 }
 
-// Whether two texts of one length are equal. There is no early exit: that is what makes it fast.
+// Whether two texts of one length are equal.
 pub fn same(a: &[u8], b: &[u8]) -> bool
     requires { length a.now ≡ length b.now }
     ensures { result ≡ same_bytes a.now b.now }
 {
-    let mut agree = 0;
-    let mut i = 0;
-    while i < b.len() {
-        if a[i] == b[i] {
-            agree += 1;
-        }
-        i += 1;
-    }
-    agree == b.len()
+    a == b
 }

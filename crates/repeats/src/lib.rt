@@ -15,7 +15,7 @@ pub fn alike(a: &[u8], i: usize, b: &[u8], j: usize, k: usize) -> bool
 {
     let d = i + k;
     let e = j + k;
-    octets::same(&a[i..d], &b[j..e])
+    a[i..d] == b[j..e]
 }
 
 // How many used rows have a tag that a row before them has: equal tags stand together. [check:2 check:3 check:9]
@@ -23,14 +23,12 @@ pub fn repeats(t: &[u8], w: usize, n: usize, u: usize) -> u64
     requires { ((33 ≤ w) × (length t.now ≡ w * n)) × Searchable w u (rows w n t.now) }
     ensures { result ≡ repeats_in (map (take 32) (used_in (rows w n t.now))) }
 {
-    let mut r: u64 = 0;
-    let mut i = 1;
-    while i < u {
+    let mut r = 0;
+    for i in 1..u {
         let a = w * i + 1;
         if alike(t, a - w, t, a, 32) {
             r += 1;
         }
-        i += 1;
     }
     r
 }

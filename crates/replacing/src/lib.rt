@@ -11,23 +11,13 @@ ghost use Rattle.scheme.specs.Store.{table_c, width_of};
 
 use store::{C_WIDTH, MOST_ROWS};
 
-// A place as an index.
-fn wide(x: u16) -> usize
-    ensures { result ≡ x }
-{
-    x as usize
-}
-
 // Flags the rows at the first k places.
 fn flag_places(places: &[u16], k: usize, flags: &mut [u8])
     requires { (k ≤ length places.now) × All (λ i. i < length flags.old) (take k places.now) }
     ensures { flags.new ≡ flagged_at (take k places.now) flags.old }
 {
-    let mut j = 0;
-    while j < k {
-        let at = wide(places[j]);
-        flags[at] = 1;
-        j += 1;
+    for place in &places[..k] {
+        flags[usize::from(*place)] = 1;
     }
 }
 
@@ -40,7 +30,7 @@ pub fn replace(t: &mut [u8], c: usize, u: usize, places: &[u16], k: usize, row: 
     ensures t_after { rows (width_of table_c) c t.new ≡ with_rows (width_of table_c) (row.now ∷ []) (free_at (width_of table_c) (take k places.now) (rows (width_of table_c) c t.old)) }
 {
     if k == 1 {
-        let at = wide(places[0]);
+        let at = usize::from(places[0]);
         merging::exchange(t, C_WIDTH, c, u, at, row);
         return u;
     }

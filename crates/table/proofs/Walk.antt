@@ -2,21 +2,23 @@
 -- lent and has come back.
 use Prim.Native.Nat.{ℕ, zero, suc, ◌+◌, ◌*◌, ◌-◌, ◌≤◌, ◌<◌}
 use mathlib.Core.Path.{◌≡◌, refl, sym, ap, ap₂, ◌∙◌}
-use mathlib.Core.Bool.{Bool, true, false, cond, not, ◌&&◌, true≢false}
+use mathlib.Core.Bool.{Bool, true, false, cond, not, ◌&&◌, ◌||◌, true≢false}
 use mathlib.Core.Option.{Option, none, some}
 use mathlib.Core.List.{List, [], ◌∷◌, ◌++◌, append_assoc}
 use native.Mathlib.Nat.{mul-zero, mul-suc, add-zero, mul-le-mul_left, add-sub_cancel_left, not-suc-le-zero, le_of_suc-le-suc}
 use native.Mathlib.Numerals.{add-one}
 use native.Mathlib.Omega.{arith}
-use lib.Dec.{ltb}
+use lib.Dec.{eqb, ltb}
 use lib.ListN.{length, get_or, take, drop, set, length-drop, drop_of_length-le, take-append-drop}
-use lib.Seq.{take_at, drop_at, take-add, take-take, drop-drop, drop-cons, get_or-take, get_or-drop, take-nil, length-take-le}
-use borrow.Author.Tests.{lt-ltb, le-ltb, ltb-true, ltb-false}
+use lib.Pointwise.{pointwise}
+use lib.Seq.{take_all, take_at, drop_at, take-add, take-take, drop-drop, drop-cons, get_or-take, get_or-drop, take-nil, length-take-le}
+use borrow.Author.Tests.{ne_eqb, le-ltb, ltb-true, ltb-false}
+use Rattle.std.specs.List.{starts_with}
 use Rattle.octets.specs.Part.{back}
 use Rattle.octets.proofs.Parts.{length_part}
-use Rattle.table.specs.Lists.{bit, count, first, is_some, flat}
+use Rattle.table.specs.Lists.{bit, same, count, first, is_some, flat}
 use Rattle.table.specs.Table.{Row, Table, rows, mark_of, mark_bad, is_free, body, used, has_tag, lookup, holds, index_of, place_of}
-use Rattle.table.proofs.Counting.{any_count, any_none}
+use Rattle.table.proofs.Counting.{same_sym}
 use Rattle.table.proofs.Rows.{rows-length, place_held}
 
 -- ---- the row at an index
@@ -65,6 +67,20 @@ mark_at w n i t p h =
     ap mark_of (row_at w n i t h) ∙ get_or-take w (drop (w * i) t) 0 0 p ∙ get_or-drop (w * i) t 0 0
     ∙ ap (λ (k : ℕ). get_or t k 0) (add-zero (w * i))
 
+-- what `starts_with` tells of a used row's body
+pub starts_said : (key row : List ℕ) (r : Bool) → length key < length row → (get_or row 0 0 ≡ 0 → ⊥)
+    → r ≡ starts_with eqb (take (length row - 1) (drop 1 row)) key → r ≡ (not (is_free row) && same (take (length key) (body row)) key)
+starts_said key row r h u e =
+    rw (ne_eqb (get_or row 0 0) 0 u)
+    (e ∙ ap (λ (l : List ℕ). starts_with eqb l key) (take_all (length row - 1) (drop 1 row) (omega (arith, length-drop 1 row)))
+    ∙ go key (take (length key) (drop 1 row)) ∙ same_sym key (take (length key) (drop 1 row)))
+  where
+    go : (a b : List ℕ) → pointwise eqb a b ≡ same a b
+    go [] [] = refl
+    go [] (y ∷ ys) = refl
+    go (x ∷ xs) [] = refl
+    go (x ∷ xs) (y ∷ ys) = ap (λ (t : Bool). eqb x y && t) (go xs ys)
+
 -- the rows, one after the other, are the bytes
 pub flat_rows : (w n : ℕ) (t : List ℕ) → length t ≡ w * n → flat (rows w n t) ≡ t
 flat_rows w zero t h = sym (empty t (h ∙ mul-zero w))
@@ -97,13 +113,24 @@ count_end p w n i x z t h e =
     let l : length (rows w n t) ≤ i = rw (rows-length w n t) h in
     sym (add-zero x) ∙ ap (λ (r : Table). x + count p r) (sym (drop_of_length-le (rows w n t) l)) ∙ e
 
--- some mark is bad where one or more were counted
-pub bad_counted : (most : ℕ) (t : Table) (k : ℕ) → k ≡ count (λ r. ltb most (mark_of r)) t → ltb 0 k ≡ mark_bad most t
-bad_counted most t k e = go (mark_bad most t) refl
+-- the same of a mark above the greatest
+pub bad_turn : (most w n i : ℕ) (t : List ℕ) (b : Bool) → 1 ≤ w → i < n
+    → ((b || ltb most (get_or t (w * i) 0)) || mark_bad most (drop (i + 1) (rows w n t))) ≡ (b || mark_bad most (drop i (rows w n t)))
+bad_turn most w n i t b q h =
+    rw (add-one i, drop-cons (rows w n t) i [] (rw (rows-length w n t) h), mark_at w n i t q h) (either b _ _)
   where
-    go : (b : Bool) → mark_bad most t ≡ b → ltb 0 k ≡ b
-    go true m = lt-ltb 0 k (omega (arith, any_count (λ r. ltb most (mark_of r)) t m))
-    go false m = le-ltb 0 k (omega (arith, any_none (λ r. ltb most (mark_of r)) t m))
+    either : (b c d : Bool) → ((b || c) || d) ≡ (b || (c || d))
+    either true c d = refl
+    either false c d = refl
+
+pub bad_end : (most w n i : ℕ) (t : List ℕ) (b z : Bool) → n ≤ i → (b || mark_bad most (drop i (rows w n t))) ≡ z → b ≡ z
+bad_end most w n i t b z h e =
+    let l : length (rows w n t) ≤ i = rw (rows-length w n t) h in
+    go b (rw (drop_of_length-le (rows w n t) l) at e)
+  where
+    go : (b : Bool) → (b || false) ≡ z → b ≡ z
+    go true e = e
+    go false e = e
 
 -- ---- what an index tells
 

@@ -2,8 +2,8 @@
 // 01, "Store"). The definitions stand in specs/Table.antt, the laws in proofs/Rows.antt and Walk.antt.
 #![tactic(auto)]
 
-ghost use Rattle.std.specs.Prelude.{◌≡◌, not, ◌&&◌, ◌+◌, ◌*◌, ◌<◌, ◌≤◌, eqb, ltb, length, take, set};
-ghost use Rattle.table.specs.Lists.{bit, same as same_bytes};
+ghost use Rattle.std.specs.Prelude.{◌≡◌, not, ◌&&◌, ◌+◌, ◌*◌, ◌<◌, ◌≤◌, length, take, set};
+ghost use Rattle.table.specs.Lists.{same as same_bytes};
 ghost use Rattle.table.specs.Table.{rows, is_free, body, free_rows, mark_bad};
 ghost use Rattle.table.specs.Order.{precedes as precedes_bytes};
 
@@ -16,70 +16,38 @@ pub struct Marks {
     pub free: usize,
 }
 
-// 1 for the mark of a free row.
-fn free_mark(x: u8) -> usize
-    ensures { (result ≡ bit (eqb x 0)) × (result ≤ 1) }
-{
-    if x == 0 { 1 } else { 0 }
-}
-
-// 1 for a mark above the greatest.
-fn other_mark(x: u8, most: u8) -> usize
-    ensures { (result ≡ bit (ltb most x)) × (result ≤ 1) }
-{
-    if most < x { 1 } else { 0 }
-}
-
 // The check of every mark against the greatest allowed, and the number of free rows, in one pass.
 // [01:ST5 RS3]
 pub fn survey(t: &[u8], w: usize, n: usize, most: u8) -> Marks
     requires { (1 ≤ w) × (length t.now ≡ w * n) }
     ensures { (result.bad ≡ mark_bad most (rows w n t.now)) × (result.free ≡ free_rows (rows w n t.now)) }
 {
-    let mut other = 0;
+    let mut bad = false;
     let mut free = 0;
-    let mut i = 0;
-    while i < n {
-        let at = w * i;
-        free += free_mark(t[at]);
-        other += other_mark(t[at], most);
-        i += 1;
+    for i in 0..n {
+        let mark = t[w * i];
+        bad |= most < mark;
+        free += usize::from(mark == 0);
     }
-    Marks {
-        bad: 0 < other,
-        free,
-    }
+    Marks { bad, free }
 }
 
 // Whether a row is used and its body starts with a key.
+#[tactic(auto, using(crate::proofs::Walk::starts_said))]
 pub fn starts(row: &[u8], key: &[u8]) -> bool
     requires { length key.now < length row.now }
     ensures { result ≡ (not (is_free row.now) && same_bytes (take (length key.now) (body row.now)) key.now) }
 {
-    let e = key.len() + 1;
-    if row[0] == 0 {
-        false
-    } else {
-        octets::same(&row[1..e], key)
-    }
+    row[0] != 0 && row[1..].starts_with(key)
 }
 
 // Whether the first of two texts of one length comes before the second, byte by byte. [02:W2.2]
+#[tactic(auto, using(crate::proofs::Order::lt_precedes))]
 pub fn precedes(a: &[u8], b: &[u8]) -> bool
     requires { length a.now ≡ length b.now }
     ensures { result ≡ precedes_bytes a.now b.now }
 {
-    let mut i = 0;
-    while i < b.len() {
-        if a[i] < b[i] {
-            return true;
-        }
-        if b[i] < a[i] {
-            return false;
-        }
-        i += 1;
-    }
-    false
+    a < b
 }
 
 // Writes a row; every other row keeps its bytes. [01:ST15]
@@ -90,5 +58,5 @@ pub fn put_row(t: &mut [u8], w: usize, n: usize, i: usize, row: &[u8])
 {
     let at = w * i;
     let e = at + w;
-    octets::copy(&mut t[at..e], row);
+    t[at..e].copy_from_slice(row);
 }

@@ -36,19 +36,14 @@ fn passed(t: &[u8], w: usize, n: usize, u: usize, tag: &[u8]) -> Walked
     ensures at_value { result.at ≡ first_not_before tag.now (rows w n t.now) }
     ensures rows_value { result.rows ≡ looked_at tag.now (rows w n t.now) }
 {
-    let mut rows: u64 = 0;
-    let mut i = 0;
-    let mut a = 1;
-    while i < u {
+    let mut rows = 0;
+    for i in 0..u {
         rows += 1;
-        if smaller(t, a, tag) {
-            a += w;
-            i += 1;
-        } else {
+        if !smaller(t, w * i + 1, tag) {
             return Walked { at: i, rows };
         }
     }
-    Walked { at: i, rows }
+    Walked { at: u, rows }
 }
 
 // The used row of lowest index with a tag, n where there is none, and the rows looked at.

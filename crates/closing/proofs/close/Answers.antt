@@ -46,15 +46,17 @@ pub next_flagged-e-requires : goal.next_flagged-e-requires
 next_flagged-e-requires c =
     (c.next_staying-s.ensures.1.1, flags_most (goal.at.next_flagged-e-requires c).Start)
 
-pub rows_down-requires : goal.rows_down-requires
-rows_down-requires c =
-    (c.loop-i.invariant.0 ∙ c.requires.t_len.0, omega (arith, most (goal.at.rows_down-requires c).Start, c.loop-i.invariant.1.0, c.next_staying-s.ensures.1, c.next_flagged-e.ensures.1))
+pub move_rows-requires : goal.move_rows-requires
+move_rows-requires c = (
+  c.loop-i.invariant.0 ∙ c.requires.t_len.0,
+  (omega (arith, most (goal.at.move_rows-requires c).Start, c.next_flagged-e.ensures.1), omega (arith, most (goal.at.move_rows-requires c).Start, c.loop-i.invariant.1.0, c.next_staying-s.ensures.1, c.next_flagged-e.ensures.1)),
+)
 
 pub loop-i-preserved : goal.loop-i-preserved
 loop-i-preserved c =
     let a = c.args in
     let l = c.loop-i in
-    (c.rows_down.auto.t ∙ l.invariant.0, (omega (arith, l.invariant.1.0, c.next_staying-s.ensures.1, c.next_flagged-e.ensures.1), (c.next_flagged-e.ensures.1.1, closing_turn a.w a.flags.now a.u (rows a.w a.n a.t.now) (flags_most (goal.at.loop-i-preserved c).Start) (rows_most (goal.at.loop-i-preserved c).Start) (used (goal.at.loop-i-preserved c).Start) l.i l.to (rows a.w a.n l.t) l.invariant.1.1.1 c.loop-i-test.true _ _ c.next_staying-s.ensures.0 c.next_flagged-e.ensures.0 _ c.rows_down.ensures)))
+    (c.move_rows.auto.t ∙ l.invariant.0, (omega (arith, l.invariant.1.0, c.next_staying-s.ensures.1, c.next_flagged-e.ensures.1), (c.next_flagged-e.ensures.1.1, closing_turn a.w a.flags.now a.u (rows a.w a.n a.t.now) (flags_most (goal.at.loop-i-preserved c).Start) (rows_most (goal.at.loop-i-preserved c).Start) (used (goal.at.loop-i-preserved c).Start) l.i l.to (rows a.w a.n l.t) l.invariant.1.1.1 c.loop-i-test.true _ _ c.next_staying-s.ensures.0 c.next_flagged-e.ensures.0 _ c.move_rows.ensures)))
 
 pub wipe-requires : goal.wipe-requires
 wipe-requires c =

@@ -1,11 +1,13 @@
-use Prim.Native.Nat.{◌+◌, ◌*◌, ◌≤◌, ◌<◌}
+use Prim.Native.Nat.{ℕ, ◌+◌, ◌*◌, ◌≤◌, ◌<◌}
 use mathlib.Core.Path.{◌≡◌, sym, ap, ◌∙◌}
-use mathlib.Core.Bool.{Bool, not, ◌&&◌}
-use mathlib.Core.List.{[]}
+use mathlib.Core.Bool.{Bool, true, false, not, ◌&&◌}
+use mathlib.Core.List.{List, []}
 use native.Mathlib.Omega.{arith}
 use lib.ListN.{length, get_or, take}
 use Rattle.octets.specs.Compare.{same}
-use Rattle.table.specs.Table.{Row, Table, rows, body, zero_row}
+use Rattle.table.specs.Table.{Row, Table, rows, body, zero_row, mark_bad}
+use Rattle.table.specs.Order.{in_form, used_rows}
+use Rattle.table.specs.Search.{first_not_before}
 use Rattle.table.proofs.Rows.{rows-length, zero_free}
 use Rattle.table.proofs.Walk.{row_end, row_part}
 use Rattle.table.proofs.Order.{rows_counted, InForm, form_true}
@@ -26,6 +28,10 @@ inside c = let s = c in
     let k : c.loop-i.i < a.n = omega (arith, s.requires.t_value.1.1, c.loop-i-test.true) in
     (k, omega (arith, row_end a.w a.n c.loop-i.i k, s.requires.key_len_bound.1.0))
 
+-- the first row that is not before the key is one of the used ones, or the next
+below : (w n u : ℕ) (t key : List ℕ) → in_form w (rows w n t) ≡ true → mark_bad 1 (rows w n t) ≡ false → u ≡ length (used_rows (rows w n t)) → first_not_before key (rows w n t) ≤ u
+below w n u t key f m e = omega (arith, first_most w (rows w n t) (form_true w (rows w n t) f) m key)
+
 -- what was found of it
 tested : (c : After-starts) →
     let a = c.args in
@@ -40,7 +46,6 @@ loop-i-init c =
     let t : Table = rows a.w a.n a.t.now in
     let f : InForm a.w t = form_true a.w t s.requires.t_value.0 in
     let e = c.lower-from.ensures in (
-      omega (arith, e, first_most a.w t f s.requires.t_value.1.0 a.key.now, s.requires.t_value.1.1),
       e,
       flagging_none (λ b. same (take (length a.key.now) b) a.key.now) t a.flags.now c.lower-from.result (λ j h. starts_before a.w t f s.requires.t_value.1.0 a.key.now j (omega arith)),
     )
@@ -63,9 +68,9 @@ returns-then-not-starts c =
     let a = s.args in
     let l = c.loop-i in
     let t : Table = rows a.w a.n a.t.now in
-    let g = l.invariant.2 in
+    let g = l.invariant.1 in
     let both = flagging_end (λ b. same (take (length a.key.now) b) a.key.now) t a.flags.now c.lower-from.result l.i l.flags g
-    (λ j h k. starts_after a.w t (form_true a.w t s.requires.t_value.0) s.requires.t_value.1.0 a.key.now l.i j (omega (arith, l.invariant.1, g.past)) (tested (goal.at.returns-then-not-starts c).After-starts ∙ c.if-not-starts.true) h k) in
+    (λ j h k. starts_after a.w t (form_true a.w t s.requires.t_value.0) s.requires.t_value.1.0 a.key.now l.i j (omega (arith, l.invariant.0, g.past)) (tested (goal.at.returns-then-not-starts c).After-starts ∙ c.if-not-starts.true) h k) in
     record { value = both.0; flags_after = both.1 }
 
 pub loop-i-preserved : goal.loop-i-preserved
@@ -74,9 +79,8 @@ loop-i-preserved c =
     let a = s.args in
     let l = c.loop-i in
     let t : Table = rows a.w a.n a.t.now in (
-      omega arith,
-      l.invariant.1,
-      flagging_turn (λ b. same (take (length a.key.now) b) a.key.now) t a.flags.now c.lower-from.result l.i l.flags l.invariant.2
+      l.invariant.0,
+      flagging_turn (λ b. same (take (length a.key.now) b) a.key.now) t a.flags.now c.lower-from.result l.i l.flags l.invariant.1
           (rw (rows-length a.w a.n a.t.now) (inside (goal.at.loop-i-preserved c).In-loop-i).0) (tested (goal.at.loop-i-preserved c).After-starts ∙ c.if-not-starts.false),
     )
 
@@ -86,7 +90,13 @@ returns c =
     let a = s.args in
     let l = c.loop-i in
     let t : Table = rows a.w a.n a.t.now in
-    let both = flagging_end (λ b. same (take (length a.key.now) b) a.key.now) t a.flags.now c.lower-from.result l.i l.flags l.invariant.2
+    let both = flagging_end (λ b. same (take (length a.key.now) b) a.key.now) t a.flags.now c.lower-from.result l.i l.flags l.invariant.1
     (λ j h k. ap (λ (r : Row). starts_with a.key.now r) (free_row a.w t (form_true a.w t s.requires.t_value.0) j (omega (arith, s.requires.t_value.1.1, c.loop-i-test.false)) k)
     ∙ ap (λ (b : Bool). not b && same (take (length a.key.now) (body (zero_row a.w))) a.key.now) (zero_free a.w)) in
-    record { value = both.0; flags_after = both.1 }
+    record { value = omega (arith, both.0, below a.w a.n a.u a.t.now a.key.now s.requires.t_value.0 s.requires.t_value.1.0 s.requires.t_value.1.1, c.lower-from.ensures); flags_after = both.1 }
+
+pub overflow_sub-result-2 : goal.overflow_sub-result-2
+overflow_sub-result-2 c =
+    let a = c.args in
+    let v = c.requires.t_value in
+    omega (arith, below a.w a.n a.u a.t.now a.key.now v.0 v.1.0 v.1.1, c.lower-from.ensures)

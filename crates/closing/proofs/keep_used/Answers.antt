@@ -20,12 +20,9 @@ loop-i-preserved c =
     let t : Table = rows a.w a.n l.t in
     let h = c.loop-i-test.true in
     let m : eqb (get_or l.t (a.w * l.i) 0) 0 ≡ is_free (get_or t₀ l.i []) =
-    ap (λ (x : ℕ). eqb x 0) (sym (mark_at a.w a.n l.i l.t s.requires.0 h)) ∙ ap is_free (gathering_at a.w [] t₀ l.i l.to t l.invariant.2) in (
-      omega arith,
-      c.keep-to.auto.t ∙ l.invariant.1,
-      gathering_turn a.w [] t₀ l.i l.to t l.invariant.2 (rw (rows-length a.w a.n a.t.now) h)
-          (not (eqb (get_or l.t (a.w * l.i) 0) 0)) (ap not m ∙ used_stays (is_free (get_or t₀ l.i []))) _ _ c.keep-to.ensures.t_after c.keep-to.ensures.value,
-    )
+    ap (λ (x : ℕ). eqb x 0) (sym (mark_at a.w a.n l.i l.t s.requires.0 h)) ∙ ap is_free (gathering_at a.w [] t₀ l.i l.to t l.invariant) in
+    gathering_turn a.w [] t₀ l.i l.to t l.invariant (rw (rows-length a.w a.n a.t.now) h)
+    (not (eqb (get_or l.t (a.w * l.i) 0) 0)) (ap not m ∙ used_stays (is_free (get_or t₀ l.i []))) _ _ c.keep-to.ensures.t_after c.keep-to.ensures.value
 
 pub returns : goal.returns
 returns c =
@@ -35,7 +32,7 @@ returns c =
     let t₀ : Table = rows a.w a.n a.t.now in
     let t : Table = rows a.w a.n l.t in
     let n : length t₀ ≡ a.n = rows-length a.w a.n a.t.now in
-    let e : l.i ≡ length t₀ = omega (arith, l.invariant.0, c.loop-i-test.false) in
-    let both = gathered_used a.w t₀ l.to t (subst (λ (i : ℕ). Gathering a.w [] t₀ i l.to t) e l.invariant.2) _
+    let e : l.i ≡ length t₀ = omega (arith, c.loop-i-test.false) in
+    let both = gathered_used a.w t₀ l.to t (subst (λ (i : ℕ). Gathering a.w [] t₀ i l.to t) e l.invariant) _
     (c.wipe.ensures ∙ ap (λ (m : ℕ). take l.to t ++ (replicate (m - l.to) (zero_row a.w) ++ drop m t)) (sym n)) in
     record { value = both.0; t_after = both.1 }

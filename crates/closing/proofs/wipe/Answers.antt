@@ -20,5 +20,5 @@ returns c =
     let s = (goal.at.returns c).Start in
     let a = s.args in
     let h = inside s in
-    ap (λ (l : List ℕ). rows a.w a.n (back a.t.now (a.w * a.from) (a.w * a.to) l)) (c.clear.ensures ∙ ap (λ (m : ℕ). replicate m 0) (length_part a.t.now (a.w * a.from) (a.w * a.to) h.1))
+    ap (λ (l : List ℕ). rows a.w a.n (back a.t.now (a.w * a.from) (a.w * a.to) l)) (c.fill.ensures.after (λ y h. h) ∙ ap (λ (m : ℕ). replicate m 0) (length_part a.t.now (a.w * a.from) (a.w * a.to) h.1))
     ∙ rows_wiped a.w a.n a.from a.to a.t.now s.requires.0 s.requires.1.0 s.requires.1.1

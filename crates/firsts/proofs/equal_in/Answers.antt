@@ -24,18 +24,18 @@ pub loop-next-init : goal.loop-next-init
 loop-next-init c =
     let a = c.args in
     let l = rows 32 a.n a.log.now in
-    walking_start l a.i (within a.n a.i a.log.now c.requires.n_in_bounds.1.1.0) c.wide-next.result
-    (c.wide-next.ensures ∙ c.requires.n_in_bounds.1.1.1.head a.b c.requires.b_value.1 ∙ ap (λ (b : ℕ). last_in l b a.i) c.requires.b_value.0)
+    walking_start l a.i (within a.n a.i a.log.now c.requires.n_in_bounds.1.1.0) c.from-next.result
+    (c.from-next.ensures ∙ c.requires.n_in_bounds.1.1.1.head a.b c.requires.b_value.1 ∙ ap (λ (b : ℕ). last_in l b a.i) c.requires.b_value.0)
 
-pub returns-then-same : goal.returns-then-same
-returns-then-same c =
+pub returns-then-eq : goal.returns-then-eq
+returns-then-eq c =
     let a = c.args in
     let l = rows 32 a.n a.log.now in
     let x = c.loop-next.next in
     let h = within a.n a.i a.log.now c.requires.n_in_bounds.1.1.0 in
     let w = c.loop-next.invariant in (
       walking_hit l a.i h x (x - 1) w (omega (arith, c.loop-next-test.true))
-          (sym (compared a.log.now a.n a.i (x - 1) c.requires.n_in_bounds.1.1.0 (omega (arith, c.requires.n_in_bounds, c.requires.b_value, w.below, c.loop-next-test.true)) c.same.result c.same.ensures) ∙ c.if-same.true),
+          (sym (compared a.log.now a.n a.i (x - 1) c.requires.n_in_bounds.1.1.0 (omega (arith, c.requires.n_in_bounds, c.requires.b_value, w.below, c.loop-next-test.true)) c.eq.result c.eq.ensures) ∙ c.if-eq.true),
       omega (arith, w.below),
     )
 
@@ -48,5 +48,5 @@ loop-next-preserved c =
     let w = c.loop-next.invariant in
     let e : x ≡ suc (x - 1) = omega (arith, c.loop-next-test.true) in
     walking_next l a.i h x (x - 1) w e
-    (sym (compared a.log.now a.n a.i (x - 1) c.requires.n_in_bounds.1.1.0 (omega (arith, c.requires.n_in_bounds, c.requires.b_value, w.below, c.loop-next-test.true)) c.same.result c.same.ensures) ∙ c.if-same.false)
-    c.wide-next-in-loop-next.result (c.wide-next-in-loop-next.ensures ∙ c.requires.n_in_bounds.1.1.1.link (x - 1) (omega (arith, w.below, c.loop-next-test.true)) (walking_leads l a.i h x (x - 1) w e))
+    (sym (compared a.log.now a.n a.i (x - 1) c.requires.n_in_bounds.1.1.0 (omega (arith, c.requires.n_in_bounds, c.requires.b_value, w.below, c.loop-next-test.true)) c.eq.result c.eq.ensures) ∙ c.if-eq.false)
+    c.from-next-in-loop-next.result (c.from-next-in-loop-next.ensures ∙ c.requires.n_in_bounds.1.1.1.link (x - 1) (omega (arith, w.below, c.loop-next-test.true)) (walking_leads l a.i h x (x - 1) w e))

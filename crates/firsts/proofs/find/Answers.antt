@@ -13,7 +13,7 @@ use Rattle.firsts.proofs.find.Goals as goal
 pub loop-i-init : goal.loop-i-init
 loop-i-init c =
     let a = c.args in
-    (omega arith, (chained_start (rows 32 a.n a.log.now) _ _ refl refl, found_none (rows 32 a.n a.log.now) _))
+    (chained_start (rows 32 a.n a.log.now) _ _ refl refl, found_none (rows 32 a.n a.log.now) _)
 
 pub loop-i-preserved : goal.loop-i-preserved
 loop-i-preserved c =
@@ -23,13 +23,10 @@ loop-i-preserved c =
     let i = c.loop-i.i in
     let v = c.loop-i.invariant in
     let w = rows-length 32 a.n a.log.now in (
-      omega arith,
-      (
-        chained_turn l i _ _ v.1.0 (omega (arith, p, c.loop-i-test.true)) c.bucket-b.result
-            (c.bucket-b.ensures.0 ∙ ap bucket_of (row_part 32 a.n i a.log.now c.loop-i-test.true)) c.bucket-b.ensures.1
-            c.equal_in-j.result c.equal_in-j.ensures.0 _ _ c.link.ensures.0 c.link.ensures.1,
-        found_turn l a.first.now i c.loop-i.first v.1.1 (omega (arith, w, c.loop-i-test.true)) (omega (arith, w, p)) c.equal_in-j.result c.equal_in-j.ensures.0,
-      ),
+      chained_turn l i _ _ v.0 (omega (arith, p, c.loop-i-test.true)) c.bucket-b.result
+          (c.bucket-b.ensures.0 ∙ ap bucket_of (row_part 32 a.n i a.log.now c.loop-i-test.true)) c.bucket-b.ensures.1
+          c.equal_in-j.result c.equal_in-j.ensures.0 _ _ c.link.ensures.0 c.link.ensures.1,
+      found_turn l a.first.now i c.loop-i.first v.1 (omega (arith, w, c.loop-i-test.true)) (omega (arith, w, p)) c.equal_in-j.result c.equal_in-j.ensures.0,
     )
 
 pub returns : goal.returns
@@ -37,5 +34,5 @@ returns c =
     let a = c.args in
     let l = rows 32 a.n a.log.now in
     let w = rows-length 32 a.n a.log.now in
-    found_all l a.first.now c.loop-i.i c.loop-i.first c.loop-i.invariant.1.1 (omega (arith, w, c.loop-i-test.false, c.loop-i.invariant.0))
+    found_all l a.first.now c.loop-i.i c.loop-i.first c.loop-i.invariant.1 (omega (arith, w, c.loop-i-test.false))
     ∙ ap (λ (k : ℕ). firsts l ++ drop k a.first.now) w

@@ -25,4 +25,4 @@ returns-then-ascend c =
 pub returns-else-ascend : goal.returns-else-ascend
 returns-else-ascend c =
     let a = c.args in
-    sym (form_is a.w a.n a.free a.t.now c.requires.1.0 c.requires.1.1 ∙ ap (λ (b : Bool). b && zeros (drop (a.w * (a.n - a.free)) a.t.now)) (sym c.ascend.ensures ∙ c.if-ascend.false))
+    c.if-ascend.false ∙ sym (form_is a.w a.n a.free a.t.now c.requires.1.0 c.requires.1.1 ∙ ap (λ (b : Bool). b && zeros (drop (a.w * (a.n - a.free)) a.t.now)) (sym c.ascend.ensures ∙ c.if-ascend.false))

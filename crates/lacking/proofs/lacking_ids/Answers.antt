@@ -7,7 +7,7 @@ use native.Mathlib.Omega.{arith}
 use lib.ListN.{length, get_or, take, drop}
 use Rattle.table.specs.Lists.{bit}
 use Rattle.table.specs.Table.{rows}
-use Rattle.lacking.specs.declared.Meeting.{Meeting}
+use Rattle.std.specs.declared.cmp.Ordering.{Ordering}
 use Rattle.lacking.specs.Meetings.{met_before}
 use Rattle.repeats.proofs.Keys.{Rising, inside, key_text, keys_length, rising}
 use Rattle.lacking.proofs.Walks.{Walking, walk_start, walk_end, walk_same, walk_before, walk_past, Says, says}
@@ -15,7 +15,7 @@ use Rattle.lacking.proofs.lacking_ids.Goals as goal
 use Rattle.lacking.proofs.lacking_ids.Goals.{else-not-was_met, then-not-was_met}
 use Rattle.lacking.proofs.lacking_ids.Invariants.{ids}
 use Rattle.lacking.proofs.lacking_ids.Lts.View as view
-use Rattle.lacking.proofs.lacking_ids.Goals.{After-compare_id, In-Before, In-Same, In-loop-k, Joined-not-was_met, Start}
+use Rattle.lacking.proofs.lacking_ids.Goals.{After-compare_id, In-Less, In-Equal, In-loop-k, Joined-not-was_met, Start}
 
 module _ (s : Start) where
   abbrev xs : List (List ℕ)
@@ -56,7 +56,7 @@ text c = let a = c.args in
     key_text a.w a.n a.u a.t.now c.requires.le_w.1 c.requires.le_w.0.1 16 c.loop-k.k (omega (arith, c.requires.le_w.0.0)) (omega (arith, c.loop-k-test.true))
 
 -- what the comparison says of it
-said : (c : After-compare_id) (k : Meeting) → c.compare_id.result ≡ k →
+said : (c : After-compare_id) (k : Ordering) → c.compare_id.result ≡ k →
     let s = c.before.before.before.before.before.before in
     Says (get_or (xs s) c.loop-k.k []) (ys s) c.loop-k.j k
 said c k e = let s = c.before.before.before.before.before.before in
@@ -72,36 +72,36 @@ past c b e = let s = c.before.before.before.before.before.before.before.before.b
     let l = c.loop-k in
     let n = (view.up-In-loop-k _ _ _ _ _ _ c.before.before.before.before.before) in
     walk_past (xs s) (ys s) (up s) (up' s) l.k l.j l.r l.invariant (row n).0 b
-    (said (view.up-After-compare_id _ _ _ _ _ _ c.before.before.before.before) Meeting.Past c.in-Past.is)
+    (said (view.up-After-compare_id _ _ _ _ _ _ c.before.before.before.before) Ordering.Greater c.in-Greater.is)
     (ap (λ (x : List ℕ). met_before x (ys s) l.j) (text n) ∙ sym c.was_met.ensures ∙ e)
 
 -- where the walk has come to a row, that is a used one
 here : (c : After-compare_id) → c.loop-k.j < length (ys c.before.before.before.before.before.before) → c.loop-k.j < c.args.used
 here c h = omega (arith, other c.before.before.before.before.before.before)
 
-here_1 : (c : In-Same) → c.loop-k.j < c.args.used
-here_1 c = here (view.up-After-compare_id _ _ _ _ _ _ c.before.before) (said (view.up-After-compare_id _ _ _ _ _ _ c.before.before) Meeting.Same c.in-Same.is).0
+here_1 : (c : In-Equal) → c.loop-k.j < c.args.used
+here_1 c = here (view.up-After-compare_id _ _ _ _ _ _ c.before.before) (said (view.up-After-compare_id _ _ _ _ _ _ c.before.before) Ordering.Equal c.in-Equal.is).0
 
-here_2 : (c : In-Before) → c.loop-k.j < c.args.used
-here_2 c = here (view.up-After-compare_id _ _ _ _ _ _ c.before.before) (said (view.up-After-compare_id _ _ _ _ _ _ c.before.before) Meeting.Before c.in-Before.is).0
+here_2 : (c : In-Less) → c.loop-k.j < c.args.used
+here_2 c = here (view.up-After-compare_id _ _ _ _ _ _ c.before.before) (said (view.up-After-compare_id _ _ _ _ _ _ c.before.before) Ordering.Less c.in-Less.is).0
 
 pub compare_id-requires : goal.compare_id-requires
 compare_id-requires c =
     (c.requires.le_width, omega (arith, (row c).1, c.requires.le_w.0.0))
 
-pub loop-k-preserved-in-Same : goal.loop-k-preserved-in-Same
-loop-k-preserved-in-Same c =
-    let s = (goal.at.loop-k-preserved-in-Same c).Start in
+pub loop-k-preserved-in-Equal : goal.loop-k-preserved-in-Equal
+loop-k-preserved-in-Equal c =
+    let s = (goal.at.loop-k-preserved-in-Equal c).Start in
     let l = c.loop-k in
-    let q = said (goal.at.loop-k-preserved-in-Same c).After-compare_id Meeting.Same c.in-Same.is in
-    walk_same (xs s) (ys s) (up s) (up' s) l.k l.j l.r l.invariant (row (goal.at.loop-k-preserved-in-Same c).In-loop-k).0 q.0 q.1
+    let q = said (goal.at.loop-k-preserved-in-Equal c).After-compare_id Ordering.Equal c.in-Equal.is in
+    walk_same (xs s) (ys s) (up s) (up' s) l.k l.j l.r l.invariant (row (goal.at.loop-k-preserved-in-Equal c).In-loop-k).0 q.0 q.1
 
-pub loop-k-preserved-in-Before : goal.loop-k-preserved-in-Before
-loop-k-preserved-in-Before c =
-    let s = (goal.at.loop-k-preserved-in-Before c).Start in
+pub loop-k-preserved-in-Less : goal.loop-k-preserved-in-Less
+loop-k-preserved-in-Less c =
+    let s = (goal.at.loop-k-preserved-in-Less c).Start in
     let l = c.loop-k in
-    let q = said (goal.at.loop-k-preserved-in-Before c).After-compare_id Meeting.Before c.in-Before.is in
-    walk_before (xs s) (ys s) (up s) (up' s) l.k l.j l.r l.invariant (row (goal.at.loop-k-preserved-in-Before c).In-loop-k).0 q.0 q.1
+    let q = said (goal.at.loop-k-preserved-in-Less c).After-compare_id Ordering.Less c.in-Less.is in
+    walk_before (xs s) (ys s) (up s) (up' s) l.k l.j l.r l.invariant (row (goal.at.loop-k-preserved-in-Less c).In-loop-k).0 q.0 q.1
 
 pub was_met-requires : goal.was_met-requires
 was_met-requires c =
@@ -132,8 +132,8 @@ overflow_add-a c = omega (arith, (row c).1)
 pub overflow_add-j : goal.overflow_add-j
 overflow_add-j c = omega (arith, here_1 c, c.ranges.used)
 
-pub overflow_add-j-in-Before : goal.overflow_add-j-in-Before
-overflow_add-j-in-Before c = omega (arith, here_2 c, c.ranges.used)
+pub overflow_add-j-in-Less : goal.overflow_add-j-in-Less
+overflow_add-j-in-Less c = omega (arith, here_2 c, c.ranges.used)
 
-pub loop-k-smaller-in-Before : goal.loop-k-smaller-in-Before
-loop-k-smaller-in-Before c = omega (arith, here_2 c)
+pub loop-k-smaller-in-Less : goal.loop-k-smaller-in-Less
+loop-k-smaller-in-Less c = omega (arith, here_2 c)

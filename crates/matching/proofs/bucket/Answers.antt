@@ -17,6 +17,6 @@ bucket_is t a x y e f =
 pub returns : goal.returns
 returns c =
     let a = c.args in
-    let x = c.wide-x in
-    let y = c.wide-y in
-    (bucket_is a.t.now a.a x.result y.result x.ensures.0 y.ensures.0, omega (arith, x.ensures.1, y.ensures.1))
+    let x = c.from in
+    let y = c.from-2 in
+    (bucket_is a.t.now a.a x.result y.result x.ensures y.ensures, omega (arith, c.type_inv.t a.a, c.type_inv.t (a.a + 1)))

@@ -3,7 +3,7 @@ use mathlib.Core.Path.{◌≡◌, refl, ap, ◌∙◌}
 use mathlib.Core.List.{List, []}
 use native.Mathlib.Nat.{not-suc-le-zero}
 use native.Mathlib.Omega.{arith}
-use lib.ListN.{length, get_or, take, drop, set, length-set}
+use lib.ListN.{length, get_or, take, drop, set}
 use lib.Seq.{get_or-take}
 use Rattle.table.specs.Table.{Table, rows, body}
 use Rattle.table.proofs.Walk.{row_end, body_tail}
@@ -33,7 +33,7 @@ row : (c : In-loop-i) →
 row c = let a = c.args in
     let i = c.loop-i.i in
     let h : 0 < i = omega (arith, c.loop-i-test.true) in
-    let k : i - 1 < a.n = omega (arith, c.loop-i.invariant.0, c.requires.1.0.0) in
+    let k : i - 1 < a.n = omega (arith, c.requires.1.0.0) in
     (h, k, omega (arith, row_end a.w a.n (i - 1) k, c.requires.0.1), omega (arith, k, c.requires.1.0.1))
 
 pub loop-i-preserved : goal.loop-i-preserved
@@ -41,8 +41,5 @@ loop-i-preserved c =
     let a = c.args in
     let l = c.loop-i in
     let r = row (goal.at.loop-i-preserved c).In-loop-i in
-    let b = c.bucket-b in (
-      omega (arith, l.invariant.0),
-      hinted_turn l.i b.result (rows a.w a.n a.t.now) l.hints r.0 (b.ensures.0 ∙ bucket_row a.w a.n (l.i - 1) a.t.now r.1 c.requires.0.0) ∙ l.invariant.1,
-      length-set l.hints b.result (l.i - 1) ∙ l.invariant.2,
-    )
+    let b = c.bucket-b in
+    hinted_turn l.i b.result (rows a.w a.n a.t.now) l.hints r.0 (b.ensures.0 ∙ bucket_row a.w a.n (l.i - 1) a.t.now r.1 c.requires.0.0) ∙ l.invariant

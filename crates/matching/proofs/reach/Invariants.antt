@@ -8,6 +8,3 @@ use Rattle.matching.proofs.reach.Given as goal
 
 abbrev pub invariant-loop-j : goal.invariant-loop-j
 invariant-loop-j l = Reaching (rows l.w l.n l.t) (map (drop (l.width - 33)) (used (rows l.width l.m l.v))) l.initial.flags l.j l.lost l.flags
-
-abbrev pub decreases-loop-j : goal.decreases-loop-j
-decreases-loop-j l = l.used - l.j

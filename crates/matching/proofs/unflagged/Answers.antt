@@ -50,7 +50,7 @@ loop-j-preserved c =
     let g : l.j + 1 - 1 ≡ l.j = omega arith in
     let t : Table = rows a.w a.n a.t.now in
     let f = inr (c.start-first.ensures ∙ ap (λ (k : ℕ). place_of (get_or (map (take 32) (used t)) k []) t) (sym g)) in
-    elim c.if-flags-first-eq0.branch [ then-flags-first-eq0 w ↦ let q = turn c _ (eq-eqb _ _ w.if-flags-first-eq0.true) in ((omega (arith, v, c.loop-j-test.true), omega (arith, v, w.left-is)), (f, omega (arith, w.left-is, q))) | else-flags-first-eq0 w ↦ let q = turn c _ (ne_eqb _ _ w.if-flags-first-eq0.false) in ((omega (arith, v, c.loop-j-test.true), omega (arith, v, w.left-is)), (f, omega (arith, w.left-is, q))) ]
+    elim c.if-flags-first-eq0.branch [ then-flags-first-eq0 w ↦ let q = turn c _ (eq-eqb _ _ w.if-flags-first-eq0.true) in (omega (arith, v, w.left-is), (f, omega (arith, w.left-is, q))) | else-flags-first-eq0 w ↦ let q = turn c _ (ne_eqb _ _ w.if-flags-first-eq0.false) in (omega (arith, v, w.left-is), (f, omega (arith, w.left-is, q))) ]
 
 pub returns : goal.returns
 returns c =
@@ -60,7 +60,7 @@ returns c =
     unflagged_end t a.flags.now l.j l.left (omega (arith, c.loop-j-test.false, used-length a.w a.u t c.requires.0.1)) l.invariant.1.1
 
 pub loop-j-init : goal.loop-j-init
-loop-j-init c = let a = c.args in ((omega arith, omega arith), (inl refl, unflagged_start (rows a.w a.n a.t.now) a.flags.now))
+loop-j-init c = let a = c.args in (omega arith, (inl refl, unflagged_start (rows a.w a.n a.t.now) a.flags.now))
 
 pub bounds-flags-first : goal.bounds-flags-first
 bounds-flags-first c = omega (arith, place (goal.at.bounds-flags-first c).After-start-first)

@@ -14,7 +14,4 @@ abbrev pub rest : Table → List ℕ → ℕ → ℕ
 rest t flags i = count (λ b. eqb (get_or flags (place_of (take 32 b) t) 0) 0) (drop i (used t))
 
 abbrev pub invariant-loop-j : goal.invariant-loop-j
-invariant-loop-j l = ((l.j ≤ l.u) × (l.left ≤ l.j)) × (((l.j ≡ 0) ⊎ (l.first ≡ place_of (get_or (map (take 32) (used (rows l.w l.n l.t))) (l.j - 1) []) (rows l.w l.n l.t))) × (l.left + rest (rows l.w l.n l.t) l.flags l.j ≡ Matching.unflagged (rows l.w l.n l.t) l.flags))
-
-abbrev pub decreases-loop-j : goal.decreases-loop-j
-decreases-loop-j l = l.u - l.j
+invariant-loop-j l = (l.left ≤ l.j) × (((l.j ≡ 0) ⊎ (l.first ≡ place_of (get_or (map (take 32) (used (rows l.w l.n l.t))) (l.j - 1) []) (rows l.w l.n l.t))) × (l.left + rest (rows l.w l.n l.t) l.flags l.j ≡ Matching.unflagged (rows l.w l.n l.t) l.flags))

@@ -21,7 +21,7 @@ row : (c : In-loop-i) →
     (a.w * i + a.w ≤ length a.t.now) × (a.w ≤ a.w * i)
 row c = let a = c.args in
     let i = c.loop-i.i in
-    ((inside a.w a.n a.u a.t.now c.requires.1 c.requires.0.1 i (omega (arith, c.loop-i-test.true))).1, row_reach a.w i (omega (arith, c.loop-i.invariant.0)))
+    ((inside a.w a.n a.u a.t.now c.requires.1 c.requires.0.1 i (omega (arith, c.loop-i-test.true))).1, row_reach a.w i (omega arith))
 
 -- what the comparison tells
 compared : (c : After-alike) →
@@ -31,7 +31,7 @@ compared : (c : After-alike) →
 compared c = let a = c.args in
     let i = c.loop-i.i in
     let h : i < a.u = omega (arith, c.loop-i-test.true) in
-    ap₂ same (key_before a.w a.n a.u a.t.now c.requires.1 c.requires.0.1 32 i (omega (arith, c.requires.0.0)) (omega (arith, c.loop-i.invariant.0)) h)
+    ap₂ same (key_before a.w a.n a.u a.t.now c.requires.1 c.requires.0.1 32 i (omega (arith, c.requires.0.0)) (omega arith) h)
     (key_text a.w a.n a.u a.t.now c.requires.1 c.requires.0.1 32 i (omega (arith, c.requires.0.0)) h)
     ∙ sym c.alike.ensures
 
@@ -45,13 +45,13 @@ turn c b e = let a = c.args in
     let k = keys_length a.w a.u (rows a.w a.n a.t.now) c.requires.1 (take 32) in
     let t = repeats_turn (tags a.w a.n a.t.now) l.i (omega (arith, c.loop-i-test.true)) in
     let q = ap bit (compared (view.up-After-alike _ _ _ _ _ c.before.before) ∙ e) in
-    let v = l.invariant.2 in
+    let v = l.invariant.1 in
     omega arith
 
 pub loop-i-init : goal.loop-i-init
 loop-i-init c =
     let a = c.args in
-    (omega arith, omega arith, repeats_start (tags a.w a.n a.t.now) (rising a.w a.u (rows a.w a.n a.t.now) c.requires.1 32))
+    (omega arith, repeats_start (tags a.w a.n a.t.now) (rising a.w a.u (rows a.w a.n a.t.now) c.requires.1 32))
 
 pub alike-requires : goal.alike-requires
 alike-requires c =
@@ -60,13 +60,13 @@ alike-requires c =
 pub loop-i-preserved : goal.loop-i-preserved
 loop-i-preserved c =
     let v = c.loop-i.invariant in
-    elim c.if-alike.branch [ then-alike w ↦ let t = turn c _ w.if-alike.true in (omega (arith, v), omega (arith, v, w.r-is), omega (arith, w.r-is, t)) | else-alike w ↦ let t = turn c _ w.if-alike.false in (omega (arith, v), omega (arith, v, w.r-is), omega (arith, w.r-is, t)) ]
+    elim c.if-alike.branch [ then-alike w ↦ let t = turn c _ w.if-alike.true in (omega (arith, v, w.r-is), omega (arith, w.r-is, t)) | else-alike w ↦ let t = turn c _ w.if-alike.false in (omega (arith, v, w.r-is), omega (arith, w.r-is, t)) ]
 
 pub returns : goal.returns
 returns c =
     let a = c.args in
     let l = c.loop-i in
-    repeats_end (tags a.w a.n a.t.now) l.i l.r (omega (arith, c.loop-i-test.false, keys_length a.w a.u (rows a.w a.n a.t.now) c.requires.1 (take 32))) l.invariant.2
+    repeats_end (tags a.w a.n a.t.now) l.i l.r (omega (arith, c.loop-i-test.false, keys_length a.w a.u (rows a.w a.n a.t.now) c.requires.1 (take 32))) l.invariant.1
 
 pub overflow_mul-a : goal.overflow_mul-a
 overflow_mul-a c = omega (arith, row c)

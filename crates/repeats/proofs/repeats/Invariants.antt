@@ -12,7 +12,4 @@ abbrev pub tags : ℕ → ℕ → List ℕ → List (List ℕ)
 tags w n t = map (take 32) (used (rows w n t))
 
 abbrev pub invariant-loop-i : goal.invariant-loop-i
-invariant-loop-i l = (1 ≤ l.i) × (l.r ≤ l.i) × (l.r + next (get_or (tags l.w l.n l.t) (l.i - 1) []) (drop l.i (tags l.w l.n l.t)) ≡ repeats (tags l.w l.n l.t))
-
-abbrev pub decreases-loop-i : goal.decreases-loop-i
-decreases-loop-i l = l.u - l.i
+invariant-loop-i l = (l.r ≤ l.i) × (l.r + next (get_or (tags l.w l.n l.t) (l.i - 1) []) (drop l.i (tags l.w l.n l.t)) ≡ repeats (tags l.w l.n l.t))

@@ -31,7 +31,7 @@ returns-then-k-eq1 c =
     let a = c.args in
     let t = rows (width_of table_c) a.c a.t.now in
     let s = c.requires.k_in_bounds.1.1.1 in
-    let e = c.exchange.ensures ∙ ap (λ (i : ℕ). with_rows (width_of table_c) (a.row.now ∷ []) (set t i (zero_row (width_of table_c)))) c.wide-at.ensures in record { value = one_number (width_of table_c) a.u t s a.places.now a.k c.requires.k_in_bounds.0.0 c.requires.k_in_bounds.0.1 c.if-k-eq1.true a.row.now c.requires.k_in_bounds.1.1.0 _ e; t_after = one_is (width_of table_c) a.u t s a.places.now a.k c.requires.k_in_bounds.0.0 c.requires.k_in_bounds.0.1 c.if-k-eq1.true a.row.now c.requires.k_in_bounds.1.1.0 _ e }
+    let e = c.exchange.ensures ∙ ap (λ (i : ℕ). with_rows (width_of table_c) (a.row.now ∷ []) (set t i (zero_row (width_of table_c)))) c.from-at.ensures in record { value = one_number (width_of table_c) a.u t s a.places.now a.k c.requires.k_in_bounds.0.0 c.requires.k_in_bounds.0.1 c.if-k-eq1.true a.row.now c.requires.k_in_bounds.1.1.0 _ e; t_after = one_is (width_of table_c) a.u t s a.places.now a.k c.requires.k_in_bounds.0.0 c.requires.k_in_bounds.0.1 c.if-k-eq1.true a.row.now c.requires.k_in_bounds.1.1.0 _ e }
 
 pub flag_places-requires : goal.flag_places-requires
 flag_places-requires c =

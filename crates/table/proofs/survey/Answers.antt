@@ -1,23 +1,21 @@
-use native.Mathlib.Omega.{arith}
-use lib.Dec.{eqb, ltb}
-use Rattle.table.specs.Table.{rows, mark_of}
-use Rattle.table.proofs.Walk.{count_turn, count_end, bad_counted}
+use Rattle.std.proofs.Common.{arith, ◌∙◌, ◌*◌, eqb, slice_index}
+use Rattle.octets.proofs.Compare.{bit_from}
+use Rattle.table.specs.Table.{is_free}
+use Rattle.table.proofs.Walk.{count_turn, count_end, bad_turn, bad_end}
 use Rattle.table.proofs.survey.Goals as goal
 
 pub loop-i-preserved : goal.loop-i-preserved
 loop-i-preserved c =
     let l = c.loop-i in
-    let s = c in
+    let s = c.args in
     let h = c.loop-i-test.true in
-    let bad = count_turn (λ x. ltb s.args.most x) s.args.w s.args.n l.i s.args.t.now s.requires.0 h in
-    let free = count_turn (λ x. eqb x 0) s.args.w s.args.n l.i s.args.t.now s.requires.0 h in
-    (omega arith, omega arith, omega arith, omega arith, omega arith)
+    let e = count_turn (λ x. eqb x 0) s.w s.n l.i s.t.now c.requires.0 h in
+    let b = bit_from (eqb (slice_index s.t.now (s.w * l.i)) 0) in
+    (omega arith, bad_turn s.most s.w s.n l.i s.t.now l.bad c.requires.0 h ∙ l.invariant.1, omega arith)
 
 pub returns : goal.returns
 returns c =
     let l = c.loop-i in
-    let a = c.args in (
-      bad_counted a.most (rows a.w a.n a.t.now) l.other
-          (count_end (λ r. ltb a.most (mark_of r)) a.w a.n l.i l.other _ a.t.now c.loop-i-test.false l.invariant.3),
-      count_end (λ r. eqb (mark_of r) 0) a.w a.n l.i l.free _ a.t.now c.loop-i-test.false l.invariant.4,
-    )
+    let s = c.args in
+    let h = c.loop-i-test.false in
+    (bad_end s.most s.w s.n l.i s.t.now l.bad _ h l.invariant.1, count_end is_free s.w s.n l.i l.free _ s.t.now h l.invariant.2)

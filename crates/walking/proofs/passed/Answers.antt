@@ -1,5 +1,5 @@
 use Prim.Native.Nat.{ℕ, ◌+◌, ◌*◌, ◌≤◌, ◌<◌}
-use mathlib.Core.Path.{◌≡◌, sym, ap, ap₂, ◌∙◌}
+use mathlib.Core.Path.{◌≡◌, sym, ap, ◌∙◌}
 use mathlib.Core.List.{List, []}
 use native.Mathlib.Omega.{arith}
 use lib.ListN.{length, take, drop, get_or}
@@ -33,7 +33,7 @@ found c = let a = c.args in
     let l = c.loop-i in
     sym (c.smaller.ensures
     ∙ ap (λ (x : List ℕ). precedes x a.tag.now)
-    (ap₂ (λ (m k : ℕ). take m (drop k a.t.now)) (sym c.requires.0.0.1) l.invariant.1
+    (ap (λ (m : ℕ). take m (drop (a.w * l.i + 1) a.t.now)) (sym c.requires.0.0.1)
     ∙ sym (body_field a.w a.n l.i 0 (length a.tag.now) a.t.now (inside (view.up-In-loop-i _ _ _ _ _ _ c.before.before)).0 (omega (arith, c.requires.0.0)))))
 
 pub loop-i-preserved : goal.loop-i-preserved
@@ -42,17 +42,17 @@ loop-i-preserved c =
     let t : Table = rows a.w a.n a.t.now in
     let l = c.loop-i in
     let k = c.loop-i-test.true in
-    let h = first_above a.w t (form_true a.w t c.requires.1.form) c.requires.1.marks a.tag.now l.i (omega (arith, c.requires.1.number)) (found (goal.at.loop-i-preserved c).After-smaller ∙ c.if-smaller.true) in
-    (omega (arith, l.invariant), omega (arith, l.invariant), omega arith, omega arith)
+    let h = first_above a.w t (form_true a.w t c.requires.1.form) c.requires.1.marks a.tag.now l.i (omega (arith, c.requires.1.number)) (found (goal.at.loop-i-preserved c).After-smaller ∙ c.if-not-smaller.false) in
+    (omega (arith, l.invariant), omega arith)
 
-pub returns-else-smaller : goal.returns-else-smaller
-returns-else-smaller c =
+pub returns-then-not-smaller : goal.returns-then-not-smaller
+returns-then-not-smaller c =
     let a = c.args in
     let t : Table = rows a.w a.n a.t.now in
     let l = c.loop-i in
     let k = c.loop-i-test.true in
     let e : l.i ≡ first_not_before a.tag.now t =
-    omega (arith, l.invariant, first_below a.w t (form_true a.w t c.requires.1.form) c.requires.1.marks a.tag.now l.i (omega (arith, c.requires.1.number)) (found (goal.at.returns-else-smaller c).After-smaller ∙ c.if-smaller.false)) in record {
+    omega (arith, l.invariant, first_below a.w t (form_true a.w t c.requires.1.form) c.requires.1.marks a.tag.now l.i (omega (arith, c.requires.1.number)) (found (goal.at.returns-then-not-smaller c).After-smaller ∙ c.if-not-smaller.true)) in record {
       at_value = e;
       rows_value = omega (arith, l.invariant, looked_here a.w a.u t c.requires.1 a.tag.now c.requires.0.0.1 l.i e k);
     }
@@ -71,5 +71,8 @@ returns c =
 pub smaller-requires : goal.smaller-requires
 smaller-requires c = (c.requires.0.0.1, omega (arith, inside c, c.loop-i.invariant, c.requires.0.0))
 
-pub overflow_add-a : goal.overflow_add-a
-overflow_add-a c = omega (arith, inside (goal.at.overflow_add-a c).In-loop-i, c.loop-i.invariant)
+pub overflow_mul-w : goal.overflow_mul-w
+overflow_mul-w c = omega (arith, inside c)
+
+pub overflow_add-w : goal.overflow_add-w
+overflow_add-w c = omega (arith, inside c)
