@@ -1,16 +1,8 @@
 -- What the tests of an insert make of a call (document 01, "Refusals from the input", "Refusals from the state").
 use Rattle.std.specs.Prelude.{ℕ, ◌||◌, List, [], ◌∷◌, ltb}
-use Rattle.std.proofs.Math.Option.{Option, none, some}
-use Rattle.answer.specs.Answer.{Answer, refusal}
 use Rattle.answer.specs.Verdict.{Test, ◌⇒◌}
 use Rattle.scheme.specs.Reading.{limit}
 use Rattle.store.specs.declared.Shape.{Shape}
-use Rattle.admission.specs.declared.Tested.{Tested}
-use Rattle.admission.specs.declared.Tested.TheVariants.{Passed, Refused}
-
-abbrev pub tested_of : Tested → Option Answer
-tested_of Passed = none
-tested_of (Refused r) = some (refusal r)
 
 -- 14 to 17, then 21, for a new count and n ids [01:RS7 RS8 RS9 RS10] [02:W4.28 W4.30]
 unfoldable pub room_tests : Shape → ℕ → ℕ → List Test

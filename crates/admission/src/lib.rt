@@ -4,22 +4,15 @@
 #![tactic(auto)]
 
 ghost use Rattle.std.specs.Prelude.{◌≡◌, not, ◌||◌, ◌++◌, ◌/◌, ◌%◌, eqb, ltb};
-ghost use Rattle.answer.specs.Verdict.{verdict};
+ghost use Rattle.answer.specs.Verdict.{verdict, tested};
 ghost use Rattle.scheme.specs.Refusals.{insert_input_tests, token_tests};
 ghost use Rattle.scheme.specs.Keys.{insert_token_length};
-ghost use Rattle.admission.specs.Tests.{tested_of, room_tests};
+ghost use Rattle.admission.specs.Tests.{room_tests};
 
 use answer::Refusal;
 use format::{ID, INSERT_TOKEN, NONCE};
 use numbers::GREATEST;
 use store::Shape;
-
-// What tests make of a call: it may go on, or the first of them that holds refuses it.
-#[derive(Clone, Copy)]
-pub enum Tested {
-    Passed,
-    Refused(Refusal),
-}
 
 // Whether the id bytes are not 16 x 1 to 64. [01:RI6]
 fn bad_ids(n: usize) -> bool
@@ -36,20 +29,20 @@ fn bad_ids(n: usize) -> bool
 
 // 4, 5 and 6. [01:RI5 RI6 RI7] [02:W4.11]
 #[tactic(auto, using(crate::proofs::Rules::input_rules), unfolding(scheme::specs::Refusals::insert_input_tests, scheme::specs::Refusals::token_tests))]
-pub fn input(ids: &[u8], nonces: &[u8], token: &[u8]) -> Tested
-    ensures { tested_of result ≡ verdict (insert_input_tests ids.now nonces.now ++ token_tests insert_token_length token.now) }
+pub fn input(ids: &[u8], nonces: &[u8], token: &[u8]) -> Result<(), Refusal>
+    ensures { tested result ≡ verdict (insert_input_tests ids.now nonces.now ++ token_tests insert_token_length token.now) }
 {
     let n = ids.len() / ID;
     if nonces.len() != NONCE * (2 * n + 1) {
-        return Tested::Refused(Refusal::NonceLength);
+        return Err(Refusal::NonceLength);
     }
     if bad_ids(ids.len()) {
-        return Tested::Refused(Refusal::IdLength);
+        return Err(Refusal::IdLength);
     }
     if token.len() != INSERT_TOKEN {
-        return Tested::Refused(Refusal::TokenLength);
+        return Err(Refusal::TokenLength);
     }
-    Tested::Passed
+    Ok(())
 }
 
 // Whether the free rows of M or of V are fewer than the ids. [01:RS8]
@@ -61,23 +54,23 @@ fn crowded(z: Shape, n: usize) -> bool
 
 // 14 to 17, then 21, for a new count and the number of ids. [01:RS7 RS8 RS9 RS10] [02:W4.28 W4.30]
 #[tactic(auto, using(crate::proofs::Rules::room_rules), unfolding(crate::specs::Tests::room_tests))]
-pub fn room(z: Shape, count: u64, n: usize) -> Tested
-    ensures { tested_of result ≡ verdict (room_tests z count n) }
+pub fn room(z: Shape, count: u64, n: usize) -> Result<(), Refusal>
+    ensures { tested result ≡ verdict (room_tests z count n) }
 {
     if GREATEST < count {
-        return Tested::Refused(Refusal::CountRange);
+        return Err(Refusal::CountRange);
     }
     if crowded(z, n) {
-        return Tested::Refused(Refusal::EntryRows);
+        return Err(Refusal::EntryRows);
     }
     if z.c.free < 1 {
-        return Tested::Refused(Refusal::CounterRows);
+        return Err(Refusal::CounterRows);
     }
     if z.s.free < 1 {
-        return Tested::Refused(Refusal::LogRows);
+        return Err(Refusal::LogRows);
     }
     if z.r.free < n {
-        return Tested::Refused(Refusal::LabelRows);
+        return Err(Refusal::LabelRows);
     }
-    Tested::Passed
+    Ok(())
 }

@@ -4,8 +4,9 @@ use Rattle.scheme.specs.Store.{length_for}
 use Rattle.answer.specs.declared.Refusal.{Refusal}
 use Rattle.answer.specs.declared.Refusal.TheVariants.{KeyLength, FieldLength, ShareRange, NonceLength, IdLength, TokenLength, SizeRange, SliceLength, TextLength, Header, Mark, TokenShares, Damage, CountRange, EntryRows, CounterRows, LogRows, OutputLength, NonceCount, Form, LabelRows}
 use Rattle.store.specs.Check.{checked_of}
-use Rattle.store.specs.declared.Checked.{Checked}
-use Rattle.store.specs.declared.Checked.TheVariants.{Fit, Refused}
+use Rattle.std.specs.Prelude.{Result}
+use Rattle.store.specs.declared.Shape.{Shape}
+use Rattle.std.specs.Prelude.{Ok, Err}
 use Rattle.advice.specs.declared.Room.{Room}
 use Rattle.advice.specs.declared.Advice.{Advice}
 use Rattle.advice.specs.declared.Advice.TheVariants.{Key, Field, Share, Shares, Ids, Token, Sizes, NoStore, Old, Marks, Order, Count, Entries, Compact, Larger, Log, Labels, Output, Fault}
@@ -24,9 +25,9 @@ is_old before = eqb (get_or before 0 0) 1
 
 -- entries take a row of M and one of V, and a row of R; a row of S is used for each insert since the last compaction. What is no store
 -- may be one of version 1
-abbrev pub room_by : Checked → Bool → Room
-room_by (Fit x) old = record { p = x.p; entries = min x.m.free x.v.free; labels = x.r.free; logged = x.s.rows - x.s.free; old = false }
-room_by (Refused r) old = record { p = 0; entries = 0; labels = 0; logged = 0; old = old }
+abbrev pub room_by : Result Shape Refusal → Bool → Room
+room_by (Ok x) old = record { p = x.p; entries = min x.m.free x.v.free; labels = x.r.free; logged = x.s.rows - x.s.free; old = false }
+room_by (Err r) old = record { p = 0; entries = 0; labels = 0; logged = 0; old = old }
 
 abbrev pub room_of : List ℕ → Room
 room_of before = room_by (checked_of before) (is_old before)

@@ -73,14 +73,14 @@ pub fn room_in(store: &[u8]) -> Room
     ensures { (result ≡ room_of store.now) × (result.logged ≤ 4096) }
 {
     match store::sizes(store) {
-        Checked::Refused(_) => Room {
+        Err(_) => Room {
             p: 0,
             entries: 0,
             labels: 0,
             logged: 0,
             old: is_old(store),
         },
-        Checked::Fit(shape) => {
+        Ok(shape) => {
             let s = shape.s;
             let r = shape.r;
             Room {

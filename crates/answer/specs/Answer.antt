@@ -1,19 +1,13 @@
 -- The paper's view of an answer (document 01, "Refusals from the input", "Refusals from the state"): values, or a number
 -- with what it carries. Every contract of a public call is stated through it. [01:FM14 FM15]
-use Rattle.std.specs.Prelude.{ℕ, List, [], ◌∷◌, take, get_or}
+use Rattle.std.specs.Prelude.{ℕ, List, [], ◌∷◌, take, get_or, Result, Ok, Err}
 use Rattle.answer.specs.declared.Refusal.{Refusal}
 use Rattle.answer.specs.declared.Refusal.TheVariants.{KeyLength, FieldLength, ShareRange, NonceLength, IdLength, TokenLength, SizeRange, SliceLength, TextLength, Header, Mark, TokenShares, Damage, CountRange, EntryRows, CounterRows, LogRows, OutputLength, NonceCount, Form, LabelRows}
-use Rattle.answer.specs.declared.Completion.{Completion}
-use Rattle.answer.specs.declared.Completion.TheVariants.{Done, Refused as Refused₀}
-use Rattle.answer.specs.declared.Counted.{Counted}
-use Rattle.answer.specs.declared.Counted.TheVariants.{Number, Refused as Refused₁}
 use Rattle.answer.specs.declared.Tallied.{Tallied}
-use Rattle.answer.specs.declared.Tallied.TheVariants.{Number as Number₂, Refused as Refused₂}
 use Rattle.answer.specs.declared.Faults.{Faults}
-use Rattle.answer.specs.declared.Inspected.{Inspected}
-use Rattle.answer.specs.declared.Inspected.TheVariants.{Numbers, Refused as Refused₃}
-use Rattle.answer.specs.declared.Compaction.{Compaction}
-use Rattle.answer.specs.declared.Compaction.TheVariants.{Done as Done₄, Refused as Refused₄, Damage as Damage₄}
+use Rattle.answer.specs.declared.Tally.{Tally}
+use Rattle.answer.specs.declared.CompactionError.{CompactionError}
+use Rattle.answer.specs.declared.CompactionError.TheVariants.{Refused, Damage as Damage₀}
 
 -- done, with the values answered; refused, with the paper's number and what it carries
 pub data Answer : Type 0 where
@@ -71,31 +65,31 @@ carried_by LabelRows = []
 abbrev pub refusal : Refusal → Answer
 refusal r = refused (number_of r) (carried_by r)
 
-abbrev pub completion : Completion → Answer
-completion Done = done []
-completion (Refused₀ r) = refusal r
+abbrev pub completion : Result (Unit {0}) Refusal → Answer
+completion (Ok u) = done []
+completion (Err r) = refusal r
 
-abbrev pub counted : Counted → Answer
-counted (Number n) = done (n ∷ [])
-counted (Refused₁ r) = refusal r
+abbrev pub counted : Result ℕ Refusal → Answer
+counted (Ok n) = done (n ∷ [])
+counted (Err r) = refusal r
 
-abbrev pub tallied : Tallied → Answer
-tallied (Number₂ n rows) = done (n ∷ rows ∷ [])
-tallied (Refused₂ r) = refusal r
+abbrev pub tallied : Result Tallied Refusal → Answer
+tallied (Ok t) = done (t.n ∷ t.rows ∷ [])
+tallied (Err r) = refusal r
 
 -- what a check counts, in the order in which it is told [check:2 check:3 check:4 check:5 check:6 check:7 check:8]
 abbrev pub faults_of : Faults → List ℕ
 faults_of f = f.mm ∷ f.cc ∷ f.vm ∷ f.mv ∷ f.vr ∷ f.rv ∷ f.excess ∷ []
 
-abbrev pub inspected : Inspected → Answer
-inspected (Numbers f) = done (faults_of f)
-inspected (Refused₃ r) = refusal r
+abbrev pub inspected : Result Faults Refusal → Answer
+inspected (Ok f) = done (faults_of f)
+inspected (Err r) = refusal r
 
 -- anchors written and counters freed [01:OP13]; 13 carries both numbers so far [01:RS13]
-abbrev pub compaction_answer : Compaction → Answer
-compaction_answer (Done₄ t) = done (t.anchors ∷ t.counters ∷ [])
-compaction_answer (Refused₄ r) = refusal r
-compaction_answer (Damage₄ t) = refused 13 (t.anchors ∷ t.counters ∷ [])
+abbrev pub compaction_answer : Result Tally CompactionError → Answer
+compaction_answer (Ok t) = done (t.anchors ∷ t.counters ∷ [])
+compaction_answer (Err (Refused r)) = refusal r
+compaction_answer (Err (Damage₀ t)) = refused 13 (t.anchors ∷ t.counters ∷ [])
 
 -- the rows looked at that a count's answer carries; a refusal carries none [02:W3.8]
 abbrev pub rows_of : Answer → ℕ

@@ -1,9 +1,10 @@
-// What a call answers: done, with its values, or refused, by a number of document 01.
+// What a call answers where it is done, and what it is refused by: every call gives a `Result` of both.
 // The definitions of specs/Answer.antt give each case the paper's number and values.
 #![tactic(auto)]
 
 ghost use Rattle.std.specs.Prelude.{◌≡◌};
 ghost use Rattle.answer.specs.Answer.{number_of};
+ghost use Rattle.answer.specs.declared.CompactionError.TheVariants.{Refused};
 
 // One case for each number of document 01, "Refusals from the input" and "Refusals from the
 // state", and of document 02. [01:RI2 RI3 RI4 RI5 RI6 RI7 RI8 RI9 RI10 RS2 RS3 RS4 RS5 RS6 RS7 RS8 RS9 RS10 RS11]
@@ -53,25 +54,11 @@ pub enum Refusal {
     LabelRows,
 }
 
-// The answer of a call that gives no value.
+// A count, and how many rows were looked at for it. [02:W3.8]
 #[derive(Clone, Copy)]
-pub enum Completion {
-    Done,
-    Refused(Refusal),
-}
-
-// The answer of a call that gives one number.
-#[derive(Clone, Copy)]
-pub enum Counted {
-    Number(u64),
-    Refused(Refusal),
-}
-
-// The answer of a call that gives one number, and how many rows were looked at for it. [02:W3.8]
-#[derive(Clone, Copy)]
-pub enum Tallied {
-    Number { n: u64, rows: u64 },
-    Refused(Refusal),
+pub struct Tallied {
+    pub n: u64,
+    pub rows: u64,
 }
 
 // What a check counts: rows of a store that do not go together. [check:2 check:3 check:4 check:5 check:6 check:7 check:8]
@@ -93,13 +80,6 @@ pub struct Faults {
     pub excess: u64,
 }
 
-// The answer of a check.
-#[derive(Clone, Copy)]
-pub enum Inspected {
-    Numbers(Faults),
-    Refused(Refusal),
-}
-
 // How many anchors were written and counters freed. [01:OP13]
 #[derive(Clone, Copy)]
 pub struct Tally {
@@ -107,40 +87,49 @@ pub struct Tally {
     pub counters: u64,
 }
 
-// The answer of a compaction.
+// Why a compaction did not come to its end.
 #[derive(Clone, Copy)]
-pub enum Compaction {
-    Done(Tally),
+pub enum CompactionError {
     Refused(Refusal),
     // 13: the CL before it stay treated. [01:RS13]
     Damage(Tally),
 }
 
-// The paper's number of a refusal.
-pub fn number(r: Refusal) -> u64
-    ensures { result ≡ number_of r }
-{
-    match r {
-        Refusal::KeyLength => 1,
-        Refusal::FieldLength => 2,
-        Refusal::ShareRange => 3,
-        Refusal::NonceLength => 4,
-        Refusal::IdLength => 5,
-        Refusal::TokenLength => 6,
-        Refusal::SizeRange => 7,
-        Refusal::SliceLength => 8,
-        Refusal::TextLength => 9,
-        Refusal::Header => 10,
-        Refusal::Mark => 11,
-        Refusal::TokenShares => 12,
-        Refusal::Damage => 13,
-        Refusal::CountRange => 14,
-        Refusal::EntryRows => 15,
-        Refusal::CounterRows => 16,
-        Refusal::LogRows => 17,
-        Refusal::OutputLength(_) => 18,
-        Refusal::NonceCount => 19,
-        Refusal::Form => 20,
-        Refusal::LabelRows => 21,
+impl From<Refusal> for CompactionError {
+    ghost from_gives = { λ r e. e ≡ Refused r };
+
+    fn from(r: Refusal) -> CompactionError {
+        CompactionError::Refused(r)
+    }
+}
+
+impl Refusal {
+    // The paper's number of a refusal.
+    pub fn number(self) -> u64
+        ensures { result ≡ number_of self }
+    {
+        match self {
+            Refusal::KeyLength => 1,
+            Refusal::FieldLength => 2,
+            Refusal::ShareRange => 3,
+            Refusal::NonceLength => 4,
+            Refusal::IdLength => 5,
+            Refusal::TokenLength => 6,
+            Refusal::SizeRange => 7,
+            Refusal::SliceLength => 8,
+            Refusal::TextLength => 9,
+            Refusal::Header => 10,
+            Refusal::Mark => 11,
+            Refusal::TokenShares => 12,
+            Refusal::Damage => 13,
+            Refusal::CountRange => 14,
+            Refusal::EntryRows => 15,
+            Refusal::CounterRows => 16,
+            Refusal::LogRows => 17,
+            Refusal::OutputLength(_) => 18,
+            Refusal::NonceCount => 19,
+            Refusal::Form => 20,
+            Refusal::LabelRows => 21,
+        }
     }
 }

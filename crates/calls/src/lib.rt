@@ -10,7 +10,7 @@ ghost use Rattle.scheme.specs.Run.{perform};
 ghost use Rattle.suite.specs.Program.{program};
 ghost use Rattle.client.specs.Making.{field_of};
 
-use answer::{Compaction, Completion, Counted};
+use answer::{CompactionError, Refusal, Tally};
 use format::{COMPACTION_TOKEN, INSERT_TOKEN};
 
 // Inserts ids under a field in share u. [01:OP1]
@@ -24,19 +24,17 @@ pub fn insert(
     nonce: &[u8],
     ids: &[u8],
     nonces: &[u8],
-) -> Counted
+) -> Result<u64, Refusal>
     ensures result_value { counted result ≡ (perform program (Call.insert key.now (field_of name.now value.now) p u nonce.now ids.now nonces.now) store.old).answer }
     ensures store_after { store.new ≡ (perform program (Call.insert key.now (field_of name.now value.now) p u nonce.now ids.now nonces.now) store.old).store }
 {
     let mut token = [0u8; INSERT_TOKEN];
-    match client::insert_token(key, name, value, p, u, nonce, &mut token) {
-        Completion::Refused(r) => Counted::Refused(r),
-        Completion::Done => insert::insert(store, ids, nonces, &token),
-    }
+    client::insert_token(key, name, value, p, u, nonce, &mut token)?;
+    insert::insert(store, ids, nonces, &token)
 }
 
 // Erases an id from every field. [01:OP4]
-pub fn erase(store: &mut [u8], id: &[u8]) -> Counted
+pub fn erase(store: &mut [u8], id: &[u8]) -> Result<u64, Refusal>
     ensures result_value { counted result ≡ (perform program (Call.erase id.now) store.old).answer }
     ensures store_after { store.new ≡ (perform program (Call.erase id.now) store.old).store }
 {
@@ -44,19 +42,17 @@ pub fn erase(store: &mut [u8], id: &[u8]) -> Counted
 }
 
 // Compacts the counters of every field inserted under since the last compaction. [01:OP10]
-pub fn compact(store: &mut [u8], key: &[u8], nonces: &[u8]) -> Compaction
+pub fn compact(store: &mut [u8], key: &[u8], nonces: &[u8]) -> Result<Tally, CompactionError>
     ensures result_value { compaction_answer result ≡ (perform program (Call.compact key.now nonces.now) store.old).answer }
     ensures store_after { store.new ≡ (perform program (Call.compact key.now nonces.now) store.old).store }
 {
     let mut token = [0u8; COMPACTION_TOKEN];
-    match client::compaction_token(key, &mut token) {
-        Completion::Refused(r) => Compaction::Refused(r),
-        Completion::Done => compact::compact(store, nonces, &token),
-    }
+    client::compaction_token(key, &mut token)?;
+    compact::compact(store, nonces, &token)
 }
 
 // Puts a store in form. [02:W2.6]
-pub fn order(store: &mut [u8]) -> Counted
+pub fn order(store: &mut [u8]) -> Result<u64, Refusal>
     ensures result_value { counted result ≡ (perform program Call.order store.old).answer }
     ensures store_after { store.new ≡ (perform program Call.order store.old).store }
 {

@@ -9,7 +9,7 @@ ghost use Rattle.chacha20_block.specs.Block.{block as block_of};
 ghost use Rattle.chacha20.specs.Cipher.{xored, E};
 ghost use Rattle.chacha20.specs.Call.{cipher_answer, cipher_text};
 
-use answer::{Completion, Refusal};
+use answer::Refusal;
 use chacha20_block::{State, block, first_state, next_state};
 
 // A text of n bytes XORed with bytes of the stream.
@@ -74,19 +74,19 @@ pub fn apply_checked(key: &[u8], nonce: &[u8], text: &mut [u8])
 
 // E: refused by 1, 4 and 9, and the text is then as it was lent. [01:KF3 KF7]
 #[tactic(auto, using(crate::proofs::Rules::apply_rules), unfolding(crate::specs::Call::cipher_tests, crate::specs::Call::cipher_answer, crate::specs::Call::cipher_text))]
-pub fn apply(key: &[u8], nonce: &[u8], text: &mut [u8]) -> Completion
+pub fn apply(key: &[u8], nonce: &[u8], text: &mut [u8]) -> Result<(), Refusal>
     ensures result_value { completion result ≡ cipher_answer key.now nonce.now text.old }
     ensures text_after { text.new ≡ cipher_text key.now nonce.now text.old }
 {
     if key.len() != 32 {
-        return Completion::Refused(Refusal::KeyLength);
+        return Err(Refusal::KeyLength);
     }
     if nonce.len() != 12 {
-        return Completion::Refused(Refusal::NonceLength);
+        return Err(Refusal::NonceLength);
     }
     if text.len() > 65536 {
-        return Completion::Refused(Refusal::TextLength);
+        return Err(Refusal::TextLength);
     }
     apply_checked(key, nonce, text);
-    Completion::Done
+    Ok(())
 }

@@ -9,7 +9,7 @@ ghost use Rattle.choosing.specs.Choice.{part_counts, better_of, chosen_to};
 
 use find::Counts;
 use format::{FIND_TOKEN, PART_TOKEN};
-use store::{Checked, Shape};
+use store::Shape;
 
 // The number of a part, and what its shares count.
 #[derive(Clone, Copy)]
@@ -38,7 +38,7 @@ fn better(c: Choice, i: usize, k: Counts) -> Choice
 
 // What the part of number i counts.
 fn counts_of(store: &[u8], z: Shape, parts: &[u8], n: usize, i: usize) -> Counts
-    requires { (checked_of store.now ≡ Checked.Fit z) × ((length parts.now ≡ 128 * n) × ((i < n) × (n ≤ 8))) }
+    requires { (checked_of store.now ≡ Ok z) × ((length parts.now ≡ 128 * n) × ((i < n) × (n ≤ 8))) }
     ensures { result ≡ part_counts store.now z.p (get_or (rows 128 n parts.now) i []) }
 {
     let a = PART_TOKEN * i;
@@ -49,7 +49,7 @@ fn counts_of(store: &[u8], z: Shape, parts: &[u8], n: usize, i: usize) -> Counts
 // The part with the least count, the earlier on a tie, or one that is damaged: every part is read.
 // [02:W4.19 W4.20 W4.22]
 pub fn choose(store: &[u8], z: Shape, parts: &[u8], n: usize) -> Choice
-    requires { (checked_of store.now ≡ Checked.Fit z) × ((length parts.now ≡ 128 * n) × ((1 ≤ n) × (n ≤ 8))) }
+    requires { (checked_of store.now ≡ Ok z) × ((length parts.now ≡ 128 * n) × ((1 ≤ n) × (n ≤ 8))) }
     ensures { result ≡ chosen_to (part_counts store.now z.p) (rows 128 n parts.now) (n - 1) }
 {
     let counts = counts_of(store, z, parts, n, 0);

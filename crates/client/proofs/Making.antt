@@ -47,6 +47,14 @@ module _ (o : Option Answer) (result : Result) (before output : List ℕ) where
   pub call_made : o ≡ none → made_or o result before output ≡ result
   call_made e = ap (λ (x : Option Answer). made_or x result before output) e
 
+-- the same, by what the making answered
+module _ (ts : List Test) (result : Result) (before output : List ℕ) where
+  pub unmade_call : (r : Refusal) → refusal r ≡ answer_or (verdict ts) (done []) → made_or (verdict ts) result before output ≡ record { answer = refusal r; store = before; output = output }
+  unmade_call r e = call_unmade (verdict ts) result before output (refusal r) (unmade ts r e)
+
+  pub made_call : done [] ≡ answer_or (verdict ts) (done []) → made_or (verdict ts) result before output ≡ result
+  made_call e = call_made (verdict ts) result before output (made ts e)
+
 -- the tokens' lengths [01:KT8 KT9 KT10]
 module _ (K : List ℕ) where
   pub count-length : (f : Field) → length (count_token program K f) ≡ 32

@@ -68,8 +68,8 @@ pub fn insert(
     ensures roomed { Roomed store.old result }
 {
     match store::sizes(store) {
-        Checked::Refused(r) => Outcome::Refused(r, advice::room_in(store)),
-        Checked::Fit(shape) => {
+        Err(r) => Outcome::Refused(r, advice::room_in(store)),
+        Ok(shape) => {
             let p = shape.p;
             insert_fit(store, key, name, value, p, u, nonce, ids, nonces)
         }
@@ -93,15 +93,15 @@ fn find_parts(
     n: usize,
     parts: &mut [u8],
     output: &mut [u8],
-) -> Counted
+) -> Result<u64, Refusal>
     requires { (length parts.old ≡ 128 * n) × (n ≤ 8) }
     ensures result_value { counted result ≡ (perform program (Call.joint_find (parts_of line.now key.now n) output.old) store.now).answer }
     ensures output_after { output.new ≡ (perform program (Call.joint_find (parts_of line.now key.now n) output.old) store.now).output }
     ensures parts_after { parts.new ≡ made_parts (parts_of line.now key.now n) n }
 {
     match parts::make(line, key, n, parts) {
-        Completion::Refused(r) => Counted::Refused(r),
-        Completion::Done => joint_find::joint_find(store, parts, output),
+        Err(r) => Err(r),
+        Ok(()) => joint_find::joint_find(store, parts, output),
     }
 }
 

@@ -18,12 +18,12 @@ use Rattle.scheme.specs.Refusals.{compaction_input_tests, token_tests}
 use Rattle.scheme.specs.Compaction.{compact_verdict, treated, compacted_store, compact}
 use Rattle.suite.specs.Program.{program}
 use Rattle.store.specs.declared.Shape.{Shape}
-use Rattle.store.specs.declared.Checked.TheVariants.{Fit, Refused}
+use Rattle.std.specs.Prelude.{Ok, Err}
 use Rattle.store.specs.Check.{checked_of}
 use Rattle.store.proofs.Laws.{table_s, unfit, fit_verdict, laid_fit, free_rows_lem}
 
 -- the used rows of S, by the free ones
-pub rows_left : (before : List ℕ) (z : Shape) → checked_of before ≡ Fit z → z.s.rows ≡ z.s.free + length (used ((cut before).table table_s))
+pub rows_left : (before : List ℕ) (z : Shape) → checked_of before ≡ Ok z → z.s.rows ≡ z.s.free + length (used ((cut before).table table_s))
 rows_left before z e =
     let n = ((laid_fit before z e).wide table_s).number in
     let f = free_rows_lem before z e table_s in
@@ -67,10 +67,10 @@ module _ (before nonces token : List ℕ) where
       unfolding compact_verdict compaction_input_tests token_tests
       state = rw (eq-eqb (length nonces % 12) 0 n, eq-eqb (length token) compaction_token_length t)
 
-      pub verdict_store : (r : Refusal) → checked_of before ≡ Refused r → compact_verdict program before nonces token ≡ some (refusal r)
+      pub verdict_store : (r : Refusal) → checked_of before ≡ Err r → compact_verdict program before nonces token ≡ some (refusal r)
       verdict_store r e = state ∙ unfit before r few_nonces e
 
-      module _ (z : Shape) (e : checked_of before ≡ Fit z) where
+      module _ (z : Shape) (e : checked_of before ≡ Ok z) where
         rest : compact_verdict program before nonces token ≡ verdict few_nonces
         rest = state ∙ fit_verdict before z few_nonces e
 

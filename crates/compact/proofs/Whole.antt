@@ -19,7 +19,7 @@ use Rattle.scheme.specs.Compaction.{Treated, treat_all, logged, treated, compact
 use Rattle.scheme.proofs.Plan.{laid_back}
 use Rattle.suite.specs.Program.{program}
 use Rattle.store.specs.declared.Shape.{Shape}
-use Rattle.store.specs.declared.Checked.TheVariants.{Fit}
+use Rattle.std.specs.Prelude.{Ok}
 use Rattle.store.specs.Check.{checked_of, span_in}
 use Rattle.store.proofs.Laws.{table_c, table_s, fit_sizes, laid_fit, used_rows_lem, formed}
 use Rattle.firsts.specs.Firsts.{firsts}
@@ -43,7 +43,7 @@ module _ (l : List (List ℕ)) (n : ℕ) (first rest : List ℕ) (e : first ≡ 
   pub found_front : take n first ≡ firsts l
   found_front = ap (take n) e ∙ take_at (firsts l) rest n (firsts-length l ∙ k)
 
-module _ (b nonces ks : List ℕ) (z : Shape) (e : checked_of b ≡ Fit z) where
+module _ (b nonces ks : List ℕ) (z : Shape) (e : checked_of b ≡ Ok z) where
   abbrev n : ℕ
   n = z.s.rows - z.s.free
 

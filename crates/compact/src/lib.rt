@@ -3,20 +3,21 @@
 // changed; the CL are treated in course.
 #![tactic(auto)]
 
-ghost use Rattle.std.specs.Prelude.{◌≡◌, cond, [], ◌∷◌, ◌+◌, ◌-◌, ◌*◌, ◌/◌, ◌≤◌, ◌<◌, length, take, drop};
-ghost use Rattle.answer.specs.Answer.{done, refused, compaction_answer};
+ghost use Rattle.std.specs.Prelude.{◌≡◌, cond, [], ◌∷◌, ◌+◌, ◌-◌, ◌*◌, ◌/◌, ◌≤◌, ◌<◌, length, take, drop, MatchResult};
+ghost use Rattle.answer.specs.Answer.{done, refused, refusal, compaction_answer};
 ghost use Rattle.table.specs.Table.{rows};
 ghost use Rattle.scheme.specs.Keys.{compaction_token_length};
 ghost use Rattle.scheme.specs.Store.{table_s, width_of, joined};
-ghost use Rattle.scheme.specs.Compaction.{treated, compacted_store, compact as compact_of};
+ghost use Rattle.std.proofs.Math.Option.{some};
+ghost use Rattle.scheme.specs.Compaction.{treated, compacted_store, compact_verdict, compact as compact_of};
 ghost use Rattle.suite.specs.Program.{program};
-ghost use Rattle.store.specs.declared.Checked.TheVariants.{Fit};
 ghost use Rattle.store.specs.Check.{checked_of};
 ghost use Rattle.compact.specs.Log.{cls_in};
+ghost use Rattle.compact.specs.Admitted.{Admitted};
 
-use answer::{Compaction, Refusal, Tally};
+use answer::{CompactionError, Refusal, Tally};
 use format::{COMPACTION_TOKEN, NONCE, row};
-use store::{Checked, MOST_ROWS, S_WIDTH, Shape};
+use store::{MOST_ROWS, S_WIDTH, Shape};
 
 // Decrypts the first n rows of S, once, into a log of 32 bytes per row. [01:ST12]
 fn open_log(t: &[u8], s: usize, n: usize, ks: &[u8], log: &mut [u8])
@@ -33,19 +34,24 @@ fn open_log(t: &[u8], s: usize, n: usize, ks: &[u8], log: &mut [u8])
 }
 
 // The answer, by whether damage stopped the treatment. [01:OP13 RS13]
-fn outcome(t: Tally, stopped: bool) -> Compaction
+fn outcome(t: Tally, stopped: bool) -> Result<Tally, CompactionError>
     ensures { compaction_answer result ≡ cond stopped (refused 13 (t.anchors ∷ t.counters ∷ [])) (done (t.anchors ∷ t.counters ∷ [])) }
 {
     if stopped {
-        return Compaction::Damage(t);
+        return Err(CompactionError::Damage(t));
     }
-    Compaction::Done(t)
+    Ok(t)
 }
 
 // Treats all CL of S: table C one after the other, and table S at the end, in one pass.
 // [01:OP10 OP12 OP13 RS13] [02:W2.4]
-fn treat_logged(store: &mut [u8], z: Shape, nonces: &[u8], token: &[u8]) -> Compaction
-    requires { (checked_of store.old ≡ Fit z) × ((z.s.rows - z.s.free ≤ length nonces.now / 12) × (length token.now ≡ compaction_token_length)) }
+fn treat_logged(
+    store: &mut [u8],
+    z: Shape,
+    nonces: &[u8],
+    token: &[u8],
+) -> Result<Tally, CompactionError>
+    requires { (checked_of store.old ≡ Ok z) × ((z.s.rows - z.s.free ≤ length nonces.now / 12) × (length token.now ≡ compaction_token_length)) }
     ensures result_value { compaction_answer result ≡ (treated program store.old nonces.now token.now).answer }
     ensures store_after { store.new ≡ joined (compacted_store store.old (treated program store.old nonces.now token.now).t_c (treated program store.old nonces.now token.now).t_s) }
 {
@@ -75,27 +81,32 @@ fn treat_logged(store: &mut [u8], z: Shape, nonces: &[u8], token: &[u8]) -> Comp
     outcome(r.totals, r.stopped)
 }
 
-// Compaction, refused by 4, 6, 10, 11 and 19, which leave the store as it was; or stopped by 13, with
+// 4, 6, 10, 11, 20 and 19, in this order: the shape of a store of which nothing refuses the compaction.
+#[tactic(auto, using(crate::proofs::Verdicts::verdict_nonces, crate::proofs::Verdicts::verdict_token, crate::proofs::Verdicts::verdict_store, crate::proofs::Verdicts::verdict_count, crate::proofs::Verdicts::verdict_none, crate::proofs::Verdicts::rows_left))]
+fn admitted(store: &[u8], nonces: &[u8], token: &[u8]) -> Result<Shape, Refusal>
+    ensures { MatchResult result (Admitted store.now nonces.now token.now) (λ r. compact_verdict program store.now nonces.now token.now ≡ some (refusal r)) }
+{
+    if nonces.len() % NONCE != 0 {
+        return Err(Refusal::NonceLength);
+    }
+    if token.len() != COMPACTION_TOKEN {
+        return Err(Refusal::TokenLength);
+    }
+    let z = store::sizes(store)?;
+    let s = z.s;
+    if nonces.len() / NONCE < s.rows - s.free {
+        return Err(Refusal::NonceCount);
+    }
+    Ok(z)
+}
+
+// Compaction, refused by 4, 6, 10, 11, 20 and 19, which leave the store as it was; or stopped by 13, with
 // the CL before it treated. [01:OP10 OP13 RS13]
-pub fn compact(store: &mut [u8], nonces: &[u8], token: &[u8]) -> Compaction
+#[tactic(auto, using(crate::proofs::Verdicts::refuses, crate::proofs::Verdicts::goes))]
+pub fn compact(store: &mut [u8], nonces: &[u8], token: &[u8]) -> Result<Tally, CompactionError>
     ensures result_value { compaction_answer result ≡ (compact_of program store.old nonces.now token.now).answer }
     ensures store_after { store.new ≡ (compact_of program store.old nonces.now token.now).store }
 {
-    if nonces.len() % NONCE != 0 {
-        return Compaction::Refused(Refusal::NonceLength);
-    }
-    if token.len() != COMPACTION_TOKEN {
-        return Compaction::Refused(Refusal::TokenLength);
-    }
-    let checked = store::sizes(store);
-    match checked {
-        Checked::Refused(r) => Compaction::Refused(r),
-        Checked::Fit(z) => {
-            let s = z.s;
-            if nonces.len() / NONCE < s.rows - s.free {
-                return Compaction::Refused(Refusal::NonceCount);
-            }
-            treat_logged(store, z, nonces, token)
-        }
-    }
+    let z = admitted(store, nonces, token)?;
+    treat_logged(store, z, nonces, token)
 }

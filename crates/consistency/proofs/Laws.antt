@@ -14,13 +14,13 @@ use Rattle.scheme.specs.Store.{Which, table_m, table_v, table_c, table_r, width_
 use Rattle.scheme.specs.Check
 use Rattle.scheme.specs.Check.{tags_in, reverse_tags, repeated_entries, repeated_counters, reverses_without_entry, entries_without_reverse, reverses_without_label, labels_without_reverse, labels_in_excess, faults, check_verdict}
 use Rattle.store.specs.declared.Shape.{Shape}
-use Rattle.store.specs.declared.Checked.TheVariants.{Fit, Refused}
+use Rattle.std.specs.Prelude.{Ok, Err}
 use Rattle.store.specs.Check.{checked_of, part_in}
 use Rattle.store.specs.Tables.{table_of}
 use Rattle.store.proofs.Laws.{fits, free_le, part_searchable, used_rows_lem, unfit, fit_verdict}
 use Rattle.consistency.specs.Ready.{Ready}
 
-module _ (b : List ℕ) (z : Shape) (e : checked_of b ≡ Fit z) where
+module _ (b : List ℕ) (z : Shape) (e : checked_of b ≡ Ok z) where
   pub ready : (k : Which) → greatest_mark k ≡ 1 → Ready b (part_in z k) (width_of k)
   ready k g = record {
     within = record { from = (fits b z e k).from; to = (fits b z e k).to; long = (fits b z e k).long };
@@ -66,7 +66,7 @@ module _ (b : List ℕ) (z : Shape) (e : checked_of b ≡ Fit z) where
       let v = ap verdict (sym (append-nil (state_tests b))) ∙ fit_verdict b z [] e in
       ap done h ∙ sym (ap (λ (o : _). answer_or o (done (faults (cut b)))) v)
 
-pub check_refused : (b : List ℕ) (r : Refusal) → checked_of b ≡ Refused r → refusal r ≡ (Check.check b).answer
+pub check_refused : (b : List ℕ) (r : Refusal) → checked_of b ≡ Err r → refusal r ≡ (Check.check b).answer
 unfolding Check.check check_verdict
 check_refused b r e =
     let v = ap verdict (sym (append-nil (state_tests b))) ∙ unfit b r [] e in

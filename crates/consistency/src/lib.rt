@@ -12,9 +12,9 @@ ghost use Rattle.store.specs.Check.{checked_of};
 ghost use Rattle.store.specs.Tables.{table_of};
 ghost use Rattle.consistency.specs.Ready.{Ready};
 
-use answer::{Faults, Inspected};
+use answer::{Faults, Refusal};
 use matching::Unmatched;
-use store::{C_WIDTH, Checked, M_WIDTH, Part, R_WIDTH, Shape, V_WIDTH};
+use store::{C_WIDTH, M_WIDTH, Part, R_WIDTH, Shape, V_WIDTH};
 
 // The rows of a part whose tag a row before them has. [check:2 check:3]
 fn repeated(store: &[u8], part: Part, w: usize) -> u64
@@ -71,7 +71,7 @@ fn without(store: &[u8], x: Part, w: usize, y: Part, width: usize) -> u64
 
 // The seven numbers of a store that passed the checks.
 fn count_faults(store: &[u8], z: Shape) -> Faults
-    requires { checked_of store.now ≡ Checked.Fit z }
+    requires { checked_of store.now ≡ Ok z }
     ensures { faults_of result ≡ faults (cut store.now) }
 {
     let m = z.m;
@@ -97,12 +97,10 @@ fn count_faults(store: &[u8], z: Shape) -> Faults
 
 // Counts the rows of a store that do not go together; refused by 10, 11 and 20. It changes nothing, and
 // takes no key. [check:1 check:2 check:3 check:4 check:5 check:6 check:7 check:8 check:9]
-pub fn check(store: &[u8]) -> Inspected
+#[tactic(auto, using(crate::proofs::Laws::check_refused))]
+pub fn check(store: &[u8]) -> Result<Faults, Refusal>
     ensures { inspected result ≡ (check_of store.now).answer }
 {
-    let checked = store::sizes(store);
-    match checked {
-        Checked::Refused(r) => Inspected::Refused(r),
-        Checked::Fit(z) => Inspected::Numbers(count_faults(store, z)),
-    }
+    let z = store::sizes(store)?;
+    Ok(count_faults(store, z))
 }

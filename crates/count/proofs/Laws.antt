@@ -23,7 +23,7 @@ use Rattle.scheme.specs.Find.{share_reading}
 use Rattle.scheme.specs.Count.{count_verdict, sum_of_counts, share_rows, rows_read, count}
 use Rattle.suite.specs.Program.{program}
 use Rattle.store.specs.declared.Shape.{Shape}
-use Rattle.store.specs.declared.Checked.TheVariants.{Fit, Refused}
+use Rattle.std.specs.Prelude.{Ok, Err}
 use Rattle.store.specs.Check.{checked_of}
 use Rattle.store.proofs.Laws.{table_c, unfit, fit_verdict, fit_sizes, fits}
 use Rattle.format.specs.Tags.{Prepared}
@@ -52,7 +52,7 @@ module _ (before token : List ℕ) where
   other_length h = rw (ne_eqb (length token) count_token_length h)
 
   module _ (h : length token ≡ count_token_length) where
-    pub unfit_store : (r : Refusal) → checked_of before ≡ Refused r → refusal r ≡ (count program before token).answer
+    pub unfit_store : (r : Refusal) → checked_of before ≡ Err r → refusal r ≡ (count program before token).answer
     unfolding count count_verdict token_tests
     unfit_store r e =
         rw (eq-eqb (length token) count_token_length h)
@@ -60,7 +60,7 @@ module _ (before token : List ℕ) where
         (sym (unfit before r ((any_of (λ u. damaged (share_reading program before token u)) (up_to (sizes_of before).p) ⇒ 13) ∷ []) e)))
 
     -- the readings are the scheme's, so is their sum
-    pub fit_store : (z : Shape) (clx : Keyed) → checked_of before ≡ Fit z → Prepared clx token
+    pub fit_store : (z : Shape) (clx : Keyed) → checked_of before ≡ Ok z → Prepared clx token
         → let t = rows (width_of table_c) z.c.rows (take (z.c.end - z.c.start) (drop z.c.start before)) in
         sum_answer (share_read clx z.c.rows t) (share_looked clx z.c.rows t) z.p ≡ (count program before token).answer
     unfolding count count_verdict token_tests sum_of_counts rows_read sum_answer

@@ -7,7 +7,7 @@ ghost use Rattle.answer.specs.Answer.{carried_by, refusal, completion as complet
 ghost use Rattle.table.specs.Lists.{sum};
 ghost use Rattle.encoding.specs.Encoding.{packed, magnitude, encoded, answering, rows_lent, summed, numbers_lent};
 
-use answer::{Compaction, Completion, Counted, Faults, Inspected, Refusal, Tallied};
+use answer::{CompactionError, Faults, Refusal, Tallied, Tally};
 
 // An answer's number. [01:FM14]
 fn positive(x: u64) -> i64
@@ -41,77 +41,79 @@ fn refused(r: Refusal) -> i64
     requires { magnitude (refusal r) < 2 ^ 63 }
     ensures { result ≡ encoded (refusal r) }
 {
-    negative(answer::number(r) + 256 * carried(r))
+    negative(r.number() + 256 * carried(r))
 }
 
 // The answer of a call that gives no value: 0 where it is done.
-pub fn completed(r: Completion) -> i64
+pub fn completed(r: Result<(), Refusal>) -> i64
     requires { magnitude (completion_of r) < 2 ^ 63 }
     ensures { result ≡ encoded (completion_of r) }
 {
     match r {
-        Completion::Done => 0,
-        Completion::Refused(z) => refused(z),
+        Ok(()) => 0,
+        Err(z) => refused(z),
     }
 }
 
 // A token making answers the token's length.
-pub fn made(r: Completion, n: u64) -> i64
+pub fn made(r: Result<(), Refusal>, n: u64) -> i64
     requires { (magnitude (completion_of r) < 2 ^ 63) × (n < 2 ^ 63) }
     ensures { result ≡ encoded (answering n (completion_of r)) }
 {
     match r {
-        Completion::Done => positive(n),
-        Completion::Refused(z) => refused(z),
+        Ok(()) => positive(n),
+        Err(z) => refused(z),
     }
 }
 
 // The answer of a call that gives one number.
-pub fn counted(r: Counted) -> i64
+pub fn counted(r: Result<u64, Refusal>) -> i64
     requires { magnitude (counted_of r) < 2 ^ 63 }
     ensures { result ≡ encoded (counted_of r) }
 {
     match r {
-        Counted::Number(n) => positive(n),
-        Counted::Refused(z) => refused(z),
+        Ok(n) => positive(n),
+        Err(z) => refused(z),
     }
 }
 
 // The number alone of an answer with the rows looked at. [02:W3.8]
-pub fn number_alone(r: Tallied) -> i64
+pub fn number_alone(r: Result<Tallied, Refusal>) -> i64
     requires { magnitude (without_rows (tallied_of r)) < 2 ^ 63 }
     ensures { result ≡ encoded (without_rows (tallied_of r)) }
 {
     match r {
-        Tallied::Number { n, rows: _ } => positive(n),
-        Tallied::Refused(z) => refused(z),
+        Ok(Tallied { n, rows: _ }) => positive(n),
+        Err(z) => refused(z),
     }
 }
 
 // The same, and the rows looked at where they were asked for; a refusal leaves what was lent. [02:W3.8]
-pub fn tallied(t: Tallied, rows: &mut [u64; 1]) -> i64
+pub fn tallied(t: Result<Tallied, Refusal>, rows: &mut [u64; 1]) -> i64
     requires { magnitude (without_rows (tallied_of t)) < 2 ^ 63 }
     ensures value { result ≡ encoded (without_rows (tallied_of t)) }
     ensures rows_after { rows.new ≡ rows_lent (tallied_of t) rows.old }
 {
     match t {
-        Tallied::Number { n, rows: looked } => {
+        Ok(Tallied { n, rows: looked }) => {
             rows[0] = looked;
             positive(n)
         }
-        Tallied::Refused(z) => refused(z),
+        Err(z) => refused(z),
     }
 }
 
 // A compaction's two numbers as one, also where 13 carries them. [01:OP13 RS13]
-pub fn compacted(r: Compaction) -> i64
+pub fn compacted(r: Result<Tally, CompactionError>) -> i64
     requires { magnitude (compaction_answer r) < 2 ^ 63 }
     ensures { result ≡ encoded (compaction_answer r) }
 {
     match r {
-        Compaction::Done(t) => positive(t.anchors * 0x1_0000_0000 + t.counters),
-        Compaction::Refused(z) => refused(z),
-        Compaction::Damage(t) => negative(13 + 256 * (t.anchors * 0x1_0000_0000 + t.counters)),
+        Ok(t) => positive(t.anchors * 0x1_0000_0000 + t.counters),
+        Err(CompactionError::Refused(z)) => refused(z),
+        Err(CompactionError::Damage(t)) => negative(
+            13 + 256 * (t.anchors * 0x1_0000_0000 + t.counters),
+        ),
     }
 }
 
@@ -124,16 +126,16 @@ fn total(f: Faults) -> u64
 }
 
 // The numbers of a check where they were asked for, and their sum; a refusal leaves what was lent. [check:14]
-pub fn inspected(r: Inspected, numbers: &mut [u64; 7]) -> i64
+pub fn inspected(r: Result<Faults, Refusal>, numbers: &mut [u64; 7]) -> i64
     requires { magnitude (summed (inspected_of r)) < 2 ^ 63 }
     ensures value { result ≡ encoded (summed (inspected_of r)) }
     ensures numbers_after { numbers.new ≡ numbers_lent (inspected_of r) numbers.old }
 {
     match r {
-        Inspected::Numbers(f) => {
+        Ok(f) => {
             *numbers = [f.mm, f.cc, f.vm, f.mv, f.vr, f.rv, f.excess];
             positive(total(f))
         }
-        Inspected::Refused(z) => refused(z),
+        Err(z) => refused(z),
     }
 }

@@ -23,7 +23,7 @@ use Rattle.scheme.specs.Layout.{Laid}
 use Rattle.scheme.specs.Refusals.{id_tests}
 use Rattle.scheme.specs.Erase.{is_reverse, erased_tags, is_erased, is_label, erased_store, erase_verdict, erase}
 use Rattle.store.specs.declared.Shape.{Shape}
-use Rattle.store.specs.declared.Checked.TheVariants.{Fit, Refused}
+use Rattle.std.specs.Prelude.{Ok, Err}
 use Rattle.store.specs.Check.{checked_of, part_in, span_in}
 use Rattle.store.proofs.Laws.{unfit, fit_verdict, fits, searchable}
 use Rattle.store.proofs.Stores.{LaidStore, part-rows, still_in_order}
@@ -132,7 +132,7 @@ pub closed_by : (w : ℕ) (q : List ℕ → Bool) (t : Table) (fs : List ℕ) �
 unfolding closed
 closed_by w q t fs h f = ap (λ (g : List ℕ). reordered w (free_flagged w g t)) f ∙ ap (reordered w) (free_flagged_one w q 4096 t h)
 
-module _ (b : List ℕ) (z : Shape) (e : checked_of b ≡ Fit z) (g : LaidStore z) (k : Which) where
+module _ (b : List ℕ) (z : Shape) (e : checked_of b ≡ Ok z) (g : LaidStore z) (k : Which) where
   -- a table that has not been lent yet is as the checks found it
   pub still_clean : greatest_mark k ≡ 1 → g.store.table k ≡ (cut b).table k → Clean g.bytes (part_in z k) (width_of k)
   still_clean m s = record {
@@ -166,12 +166,12 @@ module _ (before id : List ℕ) where
     unfolding erase_verdict id_tests
     verdict_is = rw (eq-eqb (length id) 16 h) (ap verdict (sym (append-nil (state_tests before))))
 
-    pub erase_unfit : (r : Refusal) → checked_of before ≡ Refused r → (refusal r ≡ (erase before id).answer) × (before ≡ (erase before id).store)
+    pub erase_unfit : (r : Refusal) → checked_of before ≡ Err r → (refusal r ≡ (erase before id).answer) × (before ≡ (erase before id).store)
     unfolding erase
     erase_unfit r c = let e = verdict_is ∙ unfit before r [] c in (rw e, rw e)
 
     -- the id was copied
-    pub erase_fit : (z : Shape) → checked_of before ≡ Fit z → (name : List ℕ) → name ≡ id → (n : ℕ) (after : List ℕ) → n ≡ count (is_reverse before name) (used ((cut before).table table_v)) → after ≡ joined (erased_store before name)
+    pub erase_fit : (z : Shape) → checked_of before ≡ Ok z → (name : List ℕ) → name ≡ id → (n : ℕ) (after : List ℕ) → n ≡ count (is_reverse before name) (used ((cut before).table table_v)) → after ≡ joined (erased_store before name)
         → (done (n ∷ []) ≡ (erase before id).answer) × (after ≡ (erase before id).store)
     unfolding erase
     erase_fit z c name q n after f g =

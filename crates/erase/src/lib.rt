@@ -11,13 +11,12 @@ ghost use Rattle.answer.specs.Answer.{counted};
 ghost use Rattle.scheme.specs.Store.{table_m, table_v, width_of, cut, joined};
 ghost use Rattle.scheme.specs.Erase.{is_reverse, erased_store, erase as erase_of};
 ghost use Rattle.store.specs.Check.{checked_of};
-ghost use Rattle.store.specs.declared.Checked.TheVariants.{Fit};
 ghost use Rattle.store.specs.Tables.{table_of, Replaced};
 ghost use Rattle.erase.specs.Tags.{Clean, has_id, erased_by};
 
-use answer::{Counted, Refusal};
+use answer::Refusal;
 use format::{ID, row};
-use store::{Checked, M_WIDTH, MOST_ROWS, Part, R_WIDTH, Shape, V_WIDTH};
+use store::{M_WIDTH, MOST_ROWS, Part, R_WIDTH, Shape, V_WIDTH};
 
 // A flag for each row that a table can have, none set.
 fn blank() -> [u8; MOST_ROWS]
@@ -101,7 +100,7 @@ fn free_rows(store: &mut [u8], part: Part, w: usize, id: &[u8; ID]) -> u64
 // The erasure in a store that passed the checks: the rows of M with a tag of the id's rows of V, then
 // these, then the id's rows of R. Tells how many V rows were freed. [01:OP4 OP5] [02:W4.14]
 fn erase_rows(store: &mut [u8], z: Shape, id: &[u8; ID]) -> u64
-    requires { checked_of store.old ≡ Fit z }
+    requires { checked_of store.old ≡ Ok z }
     ensures value { result ≡ count (is_reverse store.old id.now) (used ((cut store.old).table table_v)) }
     ensures store_after { store.new ≡ joined (erased_store store.old id.now) }
 {
@@ -115,17 +114,16 @@ fn erase_rows(store: &mut [u8], z: Shape, id: &[u8; ID]) -> u64
 }
 
 // Erases an id. [01:OP4 OP5 RI6] [02:W4.14]
-pub fn erase(store: &mut [u8], id: &[u8]) -> Counted
+#[tactic(auto, using(crate::proofs::Laws::erase_unfit))]
+pub fn erase(store: &mut [u8], id: &[u8]) -> Result<u64, Refusal>
     ensures result_value { counted result ≡ (erase_of store.old id.now).answer }
     ensures store_after { store.new ≡ (erase_of store.old id.now).store }
 {
     if id.len() != ID {
-        return Counted::Refused(Refusal::IdLength);
+        return Err(Refusal::IdLength);
     }
     let mut name = [0u8; ID];
     octets::copy(&mut name, id);
-    match store::sizes(store) {
-        Checked::Refused(r) => Counted::Refused(r),
-        Checked::Fit(z) => Counted::Number(erase_rows(store, z, &name)),
-    }
+    let z = store::sizes(store)?;
+    Ok(erase_rows(store, z, &name))
 }

@@ -8,8 +8,9 @@ use lib.Seq.{take_all}
 use Rattle.answer.specs.declared.Refusal.{Refusal}
 use Rattle.scheme.specs.Labels.{Field}
 use Rattle.client.specs.Making.{field_of}
-use Rattle.store.specs.declared.Checked.{Checked}
-use Rattle.store.specs.declared.Checked.TheVariants.{Refused as Refused₀}
+use Rattle.std.specs.Prelude.{Result}
+use Rattle.store.specs.declared.Shape.{Shape}
+use Rattle.std.specs.Prelude.{Err}
 use Rattle.words.specs.Line.{word_at}
 use Rattle.advice.specs.declared.Room.{Room}
 use Rattle.commands.specs.Insert.{insert_result}
@@ -35,7 +36,7 @@ rest random a e =
     go (suc k) h = ap (λ (n : ℕ). drop n random) (let n : a ≡ 12 = omega arith in n)
 
 -- an insert with the line's words
-pub inserted : (x : Checked) (before key : List ℕ) (u : ℕ) (line name value nonce ids nonces n k d : List ℕ)
+pub inserted : (x : Result Shape Refusal) (before key : List ℕ) (u : ℕ) (line name value nonce ids nonces n k d : List ℕ)
     → name ≡ word_at 3 line → value ≡ word_at 4 line → nonce ≡ n → ids ≡ k → nonces ≡ d
     → insert_result x before key (field_of name value) u nonce ids nonces ≡ insert_result x before key (field_in line) u n k d
 inserted x before key u line name value nonce ids nonces n k d e f g h i =
@@ -44,8 +45,8 @@ inserted x before key u line name value nonce ids nonces n k d e f g h i =
     ∙ ap₂ (λ (y z : List ℕ). insert_result x before key (field_in line) u n y z) h i
 
 -- a file that is no store, and one that is
-pub shown_refused : (x : Checked) (e : Refusal) (room now : Room) → x ≡ Refused₀ e → room ≡ now → Refused e room ≡ show_by x now
-shown_refused x e room now h k = ap (Refused e) k ∙ sym (ap (λ (z : Checked). show_by z now) h)
+pub shown_refused : (x : Result Shape Refusal) (e : Refusal) (room now : Room) → x ≡ Err e → room ≡ now → Refused e room ≡ show_by x now
+shown_refused x e room now h k = ap (Refused e) k ∙ sym (ap (λ (z : Result Shape Refusal). show_by z now) h)
 
-pub shown_text_lem : (x : Checked) (e : Refusal) (o : Outcome) → x ≡ Refused₀ e → answer_line o ≡ shown_text x o
-shown_text_lem x e o h = sym (ap (λ (z : Checked). shown_text z o) h)
+pub shown_text_lem : (x : Result Shape Refusal) (e : Refusal) (o : Outcome) → x ≡ Err e → answer_line o ≡ shown_text x o
+shown_text_lem x e o h = sym (ap (λ (z : Result Shape Refusal). shown_text z o) h)

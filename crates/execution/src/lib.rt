@@ -108,11 +108,11 @@ pub fn show(store: &[u8], out: &mut [u8], err: &mut [u8]) -> Ran
     ensures { Ends Request.Show [] store.now [] [] out.old err.old result store.now out.new err.new }
 {
     match store::sizes(store) {
-        Checked::Refused(r) => {
+        Err(r) => {
             let room = advice::room_in(store);
             answered(Outcome::Refused(r, room), 0, out, err)
         }
-        Checked::Fit(x) => {
+        Ok(x) => {
             let n = show::shape(x, out);
             Ran {
                 outcome: Outcome::Done,

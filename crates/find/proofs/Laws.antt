@@ -30,7 +30,7 @@ use Rattle.scheme.specs.Find.{share_reading, ids_of_share, ids_held, ids_found, 
 use Rattle.scheme.proofs.Verdicts.{map-up_to}
 use Rattle.suite.specs.Program.{program}
 use Rattle.store.specs.declared.Shape.{Shape}
-use Rattle.store.specs.declared.Checked.TheVariants.{Fit, Refused}
+use Rattle.std.specs.Prelude.{Ok, Err}
 use Rattle.store.specs.Check.{checked_of}
 use Rattle.store.proofs.Laws.{table_m, table_c, unfit, fit_verdict, fit_sizes, fit_range, fits}
 use Rattle.format.specs.Tags.{numbered_by, Prepared}
@@ -125,7 +125,7 @@ token-CL : (token : List ℕ) → length token ≡ find_token_length → take 32
 unfolding find_cl
 token-CL token h = take_all 32 (drop 64 token) (omega (arith, length-drop 64 token))
 
-module _ (before token : List ℕ) (z : Shape) (e : checked_of before ≡ Fit z) (h : length token ≡ find_token_length) where
+module _ (before token : List ℕ) (z : Shape) (e : checked_of before ≡ Ok z) (h : length token ≡ find_token_length) where
   -- the readings of the shares
   pub readings : (clx : Keyed) → Prepared clx (take 32 (drop 64 token))
       → share_read clx z.c.rows (rows (width_of table_c) z.c.rows (take (z.c.end - z.c.start) (drop z.c.start before))) ≡ share_reading program before (find_cl token)
@@ -179,10 +179,10 @@ module _ (before token output : List ℕ) where
     unfolding find_verdict token_tests
     from_state = rw (eq-eqb (length token) find_token_length h) refl
 
-    pub unfit_store : (r : Refusal) → checked_of before ≡ Refused r → (refusal r ≡ (find program before token output).answer) × (output ≡ (find program before token output).output)
+    pub unfit_store : (r : Refusal) → checked_of before ≡ Err r → (refusal r ≡ (find program before token output).answer) × (output ≡ (find program before token output).output)
     unfit_store r e = told (some (refusal r)) (from_state ∙ unfit before r later_tests e)
 
-    module _ (z : Shape) (e : checked_of before ≡ Fit z) where
+    module _ (z : Shape) (e : checked_of before ≡ Ok z) where
       passed : find_verdict program before token output ≡ verdict later_tests
       passed = from_state ∙ fit_verdict before z later_tests e
 

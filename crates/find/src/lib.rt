@@ -19,14 +19,14 @@ ghost use Rattle.ids.specs.Ids.{ids_in, noted_in};
 ghost use Rattle.find.specs.Counts.{counts_of};
 ghost use Rattle.find.specs.Given.{given_answer, given_output, Empty};
 
-use answer::{Counted, Refusal};
+use answer::Refusal;
 use chains::{BUCKETS, FIRST_BYTES};
 use counter::Reading;
 use format::{FIND_TOKEN, ID};
 use hmac::Keyed;
 use ids::EntryKeys;
 use lookups::Lookup;
-use store::{Checked, MOST_ROWS, Shape};
+use store::{MOST_ROWS, Shape};
 
 // An index for as many ids as a table has rows, and for as many in each share.
 const FEW: usize = BUCKETS + MOST_ROWS;
@@ -73,7 +73,7 @@ fn read_all(t: &[u8], c: usize, used: usize, clx: Keyed, p: u64) -> Counts
 
 // Reads the counters of all shares of a store that passed the checks, under a find token. [01:RS6]
 pub fn counts_in(store: &[u8], z: Shape, token: &[u8]) -> Counts
-    requires { (checked_of store.now ≡ Checked.Fit z) × (length token.now ≡ find_token_length) }
+    requires { (checked_of store.now ≡ Ok z) × (length token.now ≡ find_token_length) }
     ensures { result ≡ counts_of (share_reading program store.now (find_cl token.now)) z.p }
 {
     let c = z.c;
@@ -94,7 +94,7 @@ fn give(
     p: u64,
     index: &mut [u32],
     output: &mut [u8],
-) -> Counted
+) -> Result<u64, Refusal>
     requires { ((length t.now ≡ width_of table_m * m) × Searchable (width_of table_m) used (rows (width_of table_m) m t.now)) × ((m ≤ 4096) × ((p ≤ 15) × Empty index.old (length (distinct (ids_in keys (rows (width_of table_m) m t.now) of (p + 1)))))) }
     ensures result_value { counted result ≡ given_answer (distinct (ids_in keys (rows (width_of table_m) m t.now) of (p + 1))) output.old }
     ensures output_after { output.new ≡ given_output (distinct (ids_in keys (rows (width_of table_m) m t.now) of (p + 1))) output.old }
@@ -104,10 +104,10 @@ fn give(
     let n = ids::gather(t, m, used, keys, of, p, index, &mut ids);
     let room = output.len() / ID;
     if room < n {
-        return Counted::Refused(Refusal::OutputLength(n as u64));
+        return Err(Refusal::OutputLength(n as u64));
     }
     chains::write(t, m, keys.me, index, &ids, n, output);
-    Counted::Number(n as u64)
+    Ok(n as u64)
 }
 
 // The same, where the counts sum to no more than a table has rows: a small index serves.
@@ -119,7 +119,7 @@ fn give_few(
     of: [u64; 16],
     p: u64,
     output: &mut [u8],
-) -> Counted
+) -> Result<u64, Refusal>
     requires { ((length t.now ≡ width_of table_m * m) × Searchable (width_of table_m) used (rows (width_of table_m) m t.now)) × ((m ≤ 4096) × ((p ≤ 15) × (sum (map (λ u. get_or of u 0) (up_to p)) ≤ 4096))) }
     ensures result_value { counted result ≡ given_answer (distinct (ids_in keys (rows (width_of table_m) m t.now) of (p + 1))) output.old }
     ensures output_after { output.new ≡ given_output (distinct (ids_in keys (rows (width_of table_m) m t.now) of (p + 1))) output.old }
@@ -137,7 +137,7 @@ fn give_many(
     of: [u64; 16],
     p: u64,
     output: &mut [u8],
-) -> Counted
+) -> Result<u64, Refusal>
     requires { ((length t.now ≡ width_of table_m * m) × Searchable (width_of table_m) used (rows (width_of table_m) m t.now)) × ((m ≤ 4096) × (p ≤ 15)) }
     ensures result_value { counted result ≡ given_answer (distinct (ids_in keys (rows (width_of table_m) m t.now) of (p + 1))) output.old }
     ensures output_after { output.new ≡ given_output (distinct (ids_in keys (rows (width_of table_m) m t.now) of (p + 1))) output.old }
@@ -148,8 +148,8 @@ fn give_many(
 
 // Find in a store that passed the checks, with a token of its length: refused by 13 and 18.
 // [01:RS6 RS11]
-fn find_in(store: &[u8], z: Shape, token: &[u8], output: &mut [u8]) -> Counted
-    requires { (checked_of store.now ≡ Checked.Fit z) × (length token.now ≡ find_token_length) }
+fn find_in(store: &[u8], z: Shape, token: &[u8], output: &mut [u8]) -> Result<u64, Refusal>
+    requires { (checked_of store.now ≡ Ok z) × (length token.now ≡ find_token_length) }
     ensures result_value { counted result ≡ (find_of program store.now token.now output.old).answer }
     ensures output_after { output.new ≡ (find_of program store.now token.now output.old).output }
 {
@@ -158,7 +158,7 @@ fn find_in(store: &[u8], z: Shape, token: &[u8], output: &mut [u8]) -> Counted
     let e = m.end;
     let counts = counts_in(store, z, token);
     if counts.damaged {
-        return Counted::Refused(Refusal::Damage);
+        return Err(Refusal::Damage);
     }
     let mt = hmac::prepare(&token[0..32]);
     let me = hmac::prepare(&token[32..64]);
@@ -172,16 +172,14 @@ fn find_in(store: &[u8], z: Shape, token: &[u8], output: &mut [u8]) -> Counted
 
 // The ids of all shares at the start of the output, and how many: refused by 6, 10, 11, 20, 13 and 18, with
 // the output as lent. [01:OP6 OP7 OP8]
-pub fn find(store: &[u8], token: &[u8], output: &mut [u8]) -> Counted
+#[tactic(auto, using(crate::proofs::Laws::unfit_store))]
+pub fn find(store: &[u8], token: &[u8], output: &mut [u8]) -> Result<u64, Refusal>
     ensures result_value { counted result ≡ (find_of program store.now token.now output.old).answer }
     ensures output_after { output.new ≡ (find_of program store.now token.now output.old).output }
 {
     if token.len() != FIND_TOKEN {
-        return Counted::Refused(Refusal::TokenLength);
+        return Err(Refusal::TokenLength);
     }
-    let checked = store::sizes(store);
-    match checked {
-        Checked::Refused(r) => Counted::Refused(r),
-        Checked::Fit(z) => find_in(store, z, token, output),
-    }
+    let z = store::sizes(store)?;
+    find_in(store, z, token, output)
 }

@@ -9,7 +9,7 @@ ghost use Rattle.sha256.specs.Constants.{H0};
 ghost use Rattle.compression.specs.Compression.{words, compress};
 ghost use Rattle.hmac.specs.Hmac.{block, inner_hash, outer_hash, tag, mac_answer, mac_tag};
 
-use answer::{Completion, Refusal};
+use answer::Refusal;
 use compression::State;
 
 // A prepared key: the hash values after the two key blocks.
@@ -90,17 +90,17 @@ pub fn tagged(k: Keyed, m: &[u8]) -> [u8; 32]
 // F(key, message), for a key and a message of at most 65,536 bytes each; refusal 9 above, with the
 // tag left as lent. [01:KF7]
 #[tactic(auto, using(crate::proofs::Laws::from_prepared, crate::proofs::Rules::mac_rules), unfolding(crate::specs::Hmac::mac_answer, crate::specs::Hmac::mac_tag, crate::specs::Hmac::mac_tests))]
-pub fn mac(key: &[u8], message: &[u8], out: &mut [u8; 32]) -> Completion
+pub fn mac(key: &[u8], message: &[u8], out: &mut [u8; 32]) -> Result<(), Refusal>
     ensures result_value { completion result ≡ mac_answer key.now message.now }
     ensures out_after { out.new ≡ mac_tag key.now message.now out.old }
 {
     if 65536 < key.len() {
-        return Completion::Refused(Refusal::TextLength);
+        return Err(Refusal::TextLength);
     }
     if 65536 < message.len() {
-        return Completion::Refused(Refusal::TextLength);
+        return Err(Refusal::TextLength);
     }
     let k = prepare(key);
     tag(k, message, out);
-    Completion::Done
+    Ok(())
 }

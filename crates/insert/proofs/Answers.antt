@@ -23,7 +23,7 @@ use Rattle.scheme.specs.Insert.{entry_rows, reverse_rows, label_rows, counter_no
 use Rattle.scheme.proofs.Verdicts.{or_else, verdict-append, passed, length_passed}
 use Rattle.suite.specs.Program.{program}
 use Rattle.store.specs.declared.Shape.{Shape}
-use Rattle.store.specs.declared.Checked.TheVariants.{Fit, Refused}
+use Rattle.std.specs.Prelude.{Ok, Err}
 use Rattle.store.specs.Check.{checked_of}
 use Rattle.store.proofs.Laws.{table_m, table_v, table_c, table_s, table_r, unfit, fit_verdict, fit_sizes, free_rows_lem, fits}
 use Rattle.counter.proofs.Readings.{reading_bounds}
@@ -75,7 +75,7 @@ roomy z count n e =
 
 -- ---- the reading
 
-module _ (before token : List ℕ) (z : Shape) (f : checked_of before ≡ Fit z) where
+module _ (before token : List ℕ) (z : Shape) (f : checked_of before ≡ Ok z) where
   pub reading_is : (cl : List ℕ) → cl ≡ token_cl token
       → reading program z.c.rows cl (rows (width_of table_c) z.c.rows (take (z.c.end - z.c.start) (drop z.c.start before))) ≡ insert_reading program before token
   unfolding insert_reading
@@ -127,10 +127,10 @@ module _ (before ids nonces token : List ℕ) where
     state : insert_verdict program before ids nonces token ≡ verdict (state_tests before ++ insert_state_tests program before ids nonces token)
     state = verdict_is ∙ ap (λ (v : Option Answer). or_else v (verdict (state_tests before ++ insert_state_tests program before ids nonces token))) a.passes
 
-    pub refused_store : (r : Refusal) → Refused r ≡ checked_of before → Gives (refusal r) before
+    pub refused_store : (r : Refusal) → Err r ≡ checked_of before → Gives (refusal r) before
     refused_store r e = refuse (refusal r) (state ∙ unfit before r (insert_state_tests program before ids nonces token) (sym e))
 
-    module _ (z : Shape) (f : checked_of before ≡ Fit z) where
+    module _ (z : Shape) (f : checked_of before ≡ Ok z) where
       -- 10 and 11 have passed
       checked : insert_verdict program before ids nonces token
           ≡ cond (not (eqb (token_p token) z.p)) (some (refused 12 []))

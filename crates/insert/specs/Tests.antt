@@ -6,7 +6,7 @@ use Rattle.answer.specs.Verdict.{verdict}
 use Rattle.scheme.specs.Keys.{insert_token_length, token_p}
 use Rattle.scheme.specs.Refusals.{insert_input_tests, token_tests}
 use Rattle.store.specs.declared.Shape.{Shape}
-use Rattle.store.specs.declared.Checked.TheVariants.{Fit}
+use Rattle.std.specs.Prelude.{Ok}
 use Rattle.store.specs.Check.{checked_of}
 
 -- 4, 5 and 6 don't refuse the call
@@ -15,5 +15,5 @@ pub record Accepted (ids nonces token : List ℕ) : Type 0 where
 
 -- 10, 11 and 12 don't refuse it, and the store has these sizes and free rows
 pub record Matching (before token : List ℕ) (z : Shape) : Type 0 where
-  pub fits : checked_of before ≡ Fit z
+  pub fits : checked_of before ≡ Ok z
   pub shares : token_p token ≡ z.p

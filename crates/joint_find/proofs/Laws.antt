@@ -30,7 +30,7 @@ use Rattle.scheme.specs.Count.{sum_of_counts}
 use Rattle.scheme.specs.JointFind.{least_at, without, part_damaged, part_sum, part_ids, part_test, chosen_at, chosen_part, ids_kept, joint_verdict, joint_find}
 use Rattle.suite.specs.Program.{program}
 use Rattle.store.specs.declared.Shape.{Shape}
-use Rattle.store.specs.declared.Checked.TheVariants.{Fit, Refused}
+use Rattle.std.specs.Prelude.{Ok, Err}
 use Rattle.store.specs.Check.{checked_of}
 use Rattle.store.proofs.Laws.{unfit, fit_verdict, fit_sizes}
 use Rattle.hmac.specs.declared.Keyed.{Keyed}
@@ -222,10 +222,10 @@ module _ (before parts output : List ℕ) where
     unfolding joint_verdict part_tests parts_bad
     from_state = rw h refl
 
-    pub unfit_store : (r : Refusal) → checked_of before ≡ Refused r → (refusal r ≡ (joint_find program before parts output).answer) × (output ≡ (joint_find program before parts output).output)
+    pub unfit_store : (r : Refusal) → checked_of before ≡ Err r → (refusal r ≡ (joint_find program before parts output).answer) × (output ≡ (joint_find program before parts output).output)
     unfit_store r e = told (some (refusal r)) (from_state ∙ unfit before r later_tests e)
 
-    module _ (z : Shape) (e : checked_of before ≡ Fit z) where
+    module _ (z : Shape) (e : checked_of before ≡ Ok z) where
       passed : joint_verdict program before parts output ≡ verdict later_tests
       passed = from_state ∙ fit_verdict before z later_tests e
 

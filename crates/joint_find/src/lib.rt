@@ -22,13 +22,13 @@ ghost use Rattle.find.specs.Given.{given_answer, given_output, Empty};
 ghost use Rattle.find.specs.Counts.{Sound};
 ghost use Rattle.joint_find.specs.Kept.{test_of, parts_bad, kept_of};
 
-use answer::{Counted, Refusal};
+use answer::Refusal;
 use chains::{BUCKETS, FIRST_BYTES};
 use choosing::Choice;
 use format::{ID, PART_TOKEN};
 use hmac::Keyed;
 use ids::EntryKeys;
-use store::{Checked, MOST_ROWS, Shape};
+use store::{MOST_ROWS, Shape};
 
 // The most ids where the counts sum to no more than a table has rows, and the most in all shares.
 const FEW: usize = MOST_ROWS;
@@ -87,7 +87,7 @@ fn write_unset(
     found: usize,
     flags: &[u8],
     output: &mut [u8],
-) -> Counted
+) -> Result<u64, Refusal>
     requires t_len { (length t.now ≡ width_of table_m * m) × (Chained me (rows (width_of table_m) m t.now) (kept index.now ids.now found) × (found ≤ length flags.now)) }
     requires all { All (λ id. length id ≡ 16) (staying (kept_ids me (rows (width_of table_m) m t.now) index.now found) flags.now) }
     ensures result_value { counted result ≡ given_answer (staying (kept_ids me (rows (width_of table_m) m t.now) index.now found) flags.now) output.old }
@@ -96,10 +96,10 @@ fn write_unset(
     let k = sifting::kept(flags, found);
     let room = output.len() / ID;
     if room < k {
-        return Counted::Refused(Refusal::OutputLength(k as u64));
+        return Err(Refusal::OutputLength(k as u64));
     }
     sifting::write(t, m, me, index, ids, found, flags, output);
-    Counted::Number(k as u64)
+    Ok(k as u64)
 }
 
 // Of the ids of the shares 0 to p, by their counts, each once, those for which every part but the one at a
@@ -120,7 +120,7 @@ fn give(
     at: usize,
     index: &mut [u32],
     output: &mut [u8],
-) -> Counted
+) -> Result<u64, Refusal>
     requires t_len { ((length t.now ≡ width_of table_m * m) × Searchable (width_of table_m) used (rows (width_of table_m) m t.now)) × ((m ≤ 4096) × ((p ≤ 15) × Empty index.old (length (distinct (ids_in keys (rows (width_of table_m) m t.now) of (p + 1)))))) }
     requires labels_len { ((length labels.now ≡ width_of table_r * r) × Searchable (width_of table_r) held (rows (width_of table_r) r labels.now)) × ((length parts.now ≡ 128 * n) × ((at < n) × (n ≤ 8))) }
     ensures result_value { counted result ≡ given_answer (kept_of (rows (width_of table_r) r labels.now) at (rows 128 n parts.now) (distinct (ids_in keys (rows (width_of table_m) m t.now) of (p + 1)))) output.old }
@@ -151,7 +151,7 @@ fn give_few(
     n: usize,
     at: usize,
     output: &mut [u8],
-) -> Counted
+) -> Result<u64, Refusal>
     requires t_len { ((length t.now ≡ width_of table_m * m) × Searchable (width_of table_m) used (rows (width_of table_m) m t.now)) × ((m ≤ 4096) × ((p ≤ 15) × (sum (map (λ u. get_or of u 0) (up_to p)) ≤ 4096))) }
     requires labels_len { ((length labels.now ≡ width_of table_r * r) × Searchable (width_of table_r) held (rows (width_of table_r) r labels.now)) × ((length parts.now ≡ 128 * n) × ((at < n) × (n ≤ 8))) }
     ensures result_value { counted result ≡ given_answer (kept_of (rows (width_of table_r) r labels.now) at (rows 128 n parts.now) (distinct (ids_in keys (rows (width_of table_m) m t.now) of (p + 1)))) output.old }
@@ -178,7 +178,7 @@ fn give_many(
     n: usize,
     at: usize,
     output: &mut [u8],
-) -> Counted
+) -> Result<u64, Refusal>
     requires t_len { ((length t.now ≡ width_of table_m * m) × Searchable (width_of table_m) used (rows (width_of table_m) m t.now)) × ((m ≤ 4096) × (p ≤ 15)) }
     requires labels_len { ((length labels.now ≡ width_of table_r * r) × Searchable (width_of table_r) held (rows (width_of table_r) r labels.now)) × ((length parts.now ≡ 128 * n) × ((at < n) × (n ≤ 8))) }
     ensures result_value { counted result ≡ given_answer (kept_of (rows (width_of table_r) r labels.now) at (rows 128 n parts.now) (distinct (ids_in keys (rows (width_of table_m) m t.now) of (p + 1)))) output.old }
@@ -211,8 +211,8 @@ fn give_chosen(
     n: usize,
     c: Choice,
     output: &mut [u8],
-) -> Counted
-    requires store_value { (checked_of store.now ≡ Checked.Fit z) × ((length parts.now ≡ 128 * n) × (n ≤ 8)) }
+) -> Result<u64, Refusal>
+    requires store_value { (checked_of store.now ≡ Ok z) × ((length parts.now ≡ 128 * n) × (n ≤ 8)) }
     requires at_lt_n { (c.at < n) × Sound (share_reading program store.now (find_cl (part_find (get_or (rows 128 n parts.now) c.at [])))) z.p c.counts }
     ensures result_value { counted result ≡ given_answer (kept_of ((cut store.now).table table_r) c.at (rows 128 n parts.now) (ids_found program store.now (part_find (get_or (rows 128 n parts.now) c.at [])))) output.old }
     ensures output_after { output.new ≡ given_output (kept_of ((cut store.now).table table_r) c.at (rows 128 n parts.now) (ids_found program store.now (part_find (get_or (rows 128 n parts.now) c.at [])))) output.old }
@@ -262,8 +262,8 @@ fn give_chosen(
 }
 
 // A joint find in a store that passed the checks, of 1 to 8 parts: refused by 13 and 18. [02:W4.22 W4.23]
-fn joint_in(store: &[u8], z: Shape, parts: &[u8], output: &mut [u8]) -> Counted
-    requires { (checked_of store.now ≡ Checked.Fit z) × (parts_bad parts.now ≡ false) }
+fn joint_in(store: &[u8], z: Shape, parts: &[u8], output: &mut [u8]) -> Result<u64, Refusal>
+    requires { (checked_of store.now ≡ Ok z) × (parts_bad parts.now ≡ false) }
     ensures result_value { counted result ≡ (joint_find_of program store.now parts.now output.old).answer }
     ensures output_after { output.new ≡ (joint_find_of program store.now parts.now output.old).output }
 {
@@ -271,7 +271,7 @@ fn joint_in(store: &[u8], z: Shape, parts: &[u8], output: &mut [u8]) -> Counted
     let best = choosing::choose(store, z, parts, n);
     let counts = best.counts;
     if counts.damaged {
-        return Counted::Refused(Refusal::Damage);
+        return Err(Refusal::Damage);
     }
     give_chosen(store, z, parts, n, best, output)
 }
@@ -293,16 +293,14 @@ fn bad_parts(parts: &[u8]) -> bool
 // The ids that the parts have in common, in the order of the one that counts least, at the start of the
 // output, and how many: refused by 6, 10, 11, 20, 13 and 18, with the output as lent.
 // [02:W4.18 W4.19 W4.21 W4.22 W4.23]
-pub fn joint_find(store: &[u8], parts: &[u8], output: &mut [u8]) -> Counted
+#[tactic(auto, using(crate::proofs::Laws::unfit_store))]
+pub fn joint_find(store: &[u8], parts: &[u8], output: &mut [u8]) -> Result<u64, Refusal>
     ensures result_value { counted result ≡ (joint_find_of program store.now parts.now output.old).answer }
     ensures output_after { output.new ≡ (joint_find_of program store.now parts.now output.old).output }
 {
     if bad_parts(parts) {
-        return Counted::Refused(Refusal::TokenLength);
+        return Err(Refusal::TokenLength);
     }
-    let checked = store::sizes(store);
-    match checked {
-        Checked::Refused(why) => Counted::Refused(why),
-        Checked::Fit(z) => joint_in(store, z, parts, output),
-    }
+    let z = store::sizes(store)?;
+    joint_in(store, z, parts, output)
 }

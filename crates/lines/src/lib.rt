@@ -34,7 +34,7 @@ pub fn answer(o: Outcome, to: &mut [u8]) -> usize
         Outcome::Compacted(t) => put_tally(to, 0, t),
         Outcome::Damaged(_) => put_refused(to, 13),
         Outcome::WrongKey(_) => put(to, 0, b"refused\n"),
-        Outcome::Refused(r, _) => put_refused(to, answer::number(r)),
+        Outcome::Refused(r, _) => put_refused(to, r.number()),
         Outcome::Done => 0,
         Outcome::BadWords => put(to, 0, b"misused\n"),
     }

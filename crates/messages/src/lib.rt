@@ -186,7 +186,7 @@ fn put_refusal(to: &mut [u8], r: Refusal, room: Room, given: u64) -> usize
     requires { 256 ≤ length to.old }
     ensures { Put to.old 0 (message_line (Outcome.Refused r room) given) to.new result }
 {
-    let e = put_counted(to, 0, answer::number(r), b": ");
+    let e = put_counted(to, 0, r.number(), b": ");
     let a = advice::advise(r, room);
     put_sentence(to, e, a, given)
 }

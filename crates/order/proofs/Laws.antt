@@ -19,7 +19,7 @@ use Rattle.scheme.specs.Layout.{Laid}
 use Rattle.scheme.specs.Order
 use Rattle.scheme.specs.Order.{used_in_all, order_verdict, ordered_store}
 use Rattle.store.specs.declared.Shape.{Shape}
-use Rattle.store.specs.declared.Checked.TheVariants.{Fit, Refused}
+use Rattle.std.specs.Prelude.{Ok, Err}
 use Rattle.store.specs.Check.{marked_of, span_in}
 use Rattle.store.proofs.Laws.{unmarked, marked_verdict}
 
@@ -86,11 +86,11 @@ pub few_used : (w n : ℕ) (t : List ℕ) → n ≤ 4096 → length (used (rows 
 few_used w n t h = omega (arith, free_used (rows w n t), rows-length w n t)
 
 module _ (b : List ℕ) where
-  pub order_refused : (r : Refusal) → marked_of b ≡ Refused r → (refusal r ≡ (Order.order b).answer) × (b ≡ (Order.order b).store)
+  pub order_refused : (r : Refusal) → marked_of b ≡ Err r → (refusal r ≡ (Order.order b).answer) × (b ≡ (Order.order b).store)
   unfolding Order.order order_verdict
   order_refused r e = let v = unmarked b r e in (rw v refl, rw v refl)
 
-  pub order-done : (z : Shape) → marked_of b ≡ Fit z → (n : ℕ) (after : List ℕ) → n ≡ used_in_all (cut b) → after ≡ joined (ordered_store b)
+  pub order-done : (z : Shape) → marked_of b ≡ Ok z → (n : ℕ) (after : List ℕ) → n ≡ used_in_all (cut b) → after ≡ joined (ordered_store b)
       → (done (n ∷ []) ≡ (Order.order b).answer) × (after ≡ (Order.order b).store)
   unfolding Order.order order_verdict
   order-done z e n after en ea = let v = marked_verdict b z e in (rw v (ap (λ (m : ℕ). done (m ∷ [])) en), rw v ea)

@@ -10,8 +10,8 @@ ghost use Rattle.scheme.specs.Order.{used_in_all, ordered_store, order as order_
 ghost use Rattle.store.specs.Check.{marked_of};
 ghost use Rattle.store.specs.Tables.{table_of, Within, Replaced};
 
-use answer::Counted;
-use store::{C_WIDTH, Checked, M_WIDTH, MOST_ROWS, Part, R_WIDTH, S_WIDTH, Shape, V_WIDTH};
+use answer::Refusal;
+use store::{C_WIDTH, M_WIDTH, MOST_ROWS, Part, R_WIDTH, S_WIDTH, Shape, V_WIDTH};
 
 // Room for the rows of a table.
 fn blank() -> [u8; M_WIDTH * MOST_ROWS]
@@ -47,7 +47,7 @@ fn order_part(store: &mut [u8], part: Part, w: usize) -> u64
 // Puts the tables of a store in form, one after the other, and tells how many rows are used in all of
 // them. [02:W2.6 W2.7 W2.8 W4.1]
 fn order_all(store: &mut [u8], z: Shape) -> u64
-    requires { marked_of store.old ≡ Checked.Fit z }
+    requires { marked_of store.old ≡ Ok z }
     ensures value { result ≡ used_in_all (cut store.old) }
     ensures store_after { store.new ≡ joined (ordered_store store.old) }
 {
@@ -66,13 +66,11 @@ fn order_all(store: &mut [u8], z: Shape) -> u64
 
 // Puts a store in form, whatever the order of its rows: every used row is kept. Refused by 10 and 11
 // alone. Answers how many used rows there are. [02:W2.6 W2.7 W2.8 W2.9]
-pub fn order(store: &mut [u8]) -> Counted
+#[tactic(auto, using(crate::proofs::Laws::order_refused))]
+pub fn order(store: &mut [u8]) -> Result<u64, Refusal>
     ensures result_value { counted result ≡ (order_of store.old).answer }
     ensures store_after { store.new ≡ (order_of store.old).store }
 {
-    let checked = store::marked(store);
-    match checked {
-        Checked::Refused(r) => Counted::Refused(r),
-        Checked::Fit(z) => Counted::Number(order_all(store, z)),
-    }
+    let z = store::marked(store)?;
+    Ok(order_all(store, z))
 }

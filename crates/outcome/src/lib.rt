@@ -29,33 +29,33 @@ pub enum Outcome {
     BadWords,
 }
 
-pub fn of_counted(r: Counted, room: Room) -> Outcome
+pub fn of_counted(r: Result<u64, Refusal>, room: Room) -> Outcome
     ensures result_value { told result ≡ counted r }
     ensures value { result ≡ with_room room result }
 {
     match r {
-        Counted::Number(n) => Outcome::Number(n),
-        Counted::Refused(why) => Outcome::Refused(why, room),
+        Ok(n) => Outcome::Number(n),
+        Err(why) => Outcome::Refused(why, room),
     }
 }
 
-pub fn of_tallied(r: Tallied, room: Room) -> Outcome
+pub fn of_tallied(r: Result<Tallied, Refusal>, room: Room) -> Outcome
     ensures result_value { told result ≡ tallied r }
     ensures value { result ≡ with_room room result }
 {
     match r {
-        Tallied::Number { n, rows } => Outcome::Counted { n, rows },
-        Tallied::Refused(why) => Outcome::Refused(why, room),
+        Ok(Tallied { n, rows }) => Outcome::Counted { n, rows },
+        Err(why) => Outcome::Refused(why, room),
     }
 }
 
-pub fn of_inspected(r: Inspected, room: Room) -> Outcome
+pub fn of_inspected(r: Result<Faults, Refusal>, room: Room) -> Outcome
     ensures result_value { told result ≡ inspected r }
     ensures value { result ≡ with_room room result }
 {
     match r {
-        Inspected::Numbers(f) => Outcome::Inspected(f),
-        Inspected::Refused(why) => Outcome::Refused(why, room),
+        Ok(f) => Outcome::Inspected(f),
+        Err(why) => Outcome::Refused(why, room),
     }
 }
 
@@ -80,23 +80,23 @@ fn of_tally(t: Tally, logged: usize) -> Outcome
     }
 }
 
-pub fn of_compaction(r: Compaction, room: Room) -> Outcome
+pub fn of_compaction(r: Result<Tally, CompactionError>, room: Room) -> Outcome
     ensures result_value { told result ≡ compaction_answer r }
     ensures value { result ≡ with_room room result }
 {
     match r {
-        Compaction::Done(t) => of_tally(t, room.logged),
-        Compaction::Damage(t) => Outcome::Damaged(t),
-        Compaction::Refused(why) => Outcome::Refused(why, room),
+        Ok(t) => of_tally(t, room.logged),
+        Err(CompactionError::Damage(t)) => Outcome::Damaged(t),
+        Err(CompactionError::Refused(why)) => Outcome::Refused(why, room),
     }
 }
 
-pub fn of_completion(r: Completion, room: Room) -> Outcome
+pub fn of_completion(r: Result<(), Refusal>, room: Room) -> Outcome
     ensures result_value { told result ≡ completion r }
     ensures value { result ≡ with_room room result }
 {
     match r {
-        Completion::Done => Outcome::Done,
-        Completion::Refused(why) => Outcome::Refused(why, room),
+        Ok(()) => Outcome::Done,
+        Err(why) => Outcome::Refused(why, room),
     }
 }

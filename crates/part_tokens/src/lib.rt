@@ -9,7 +9,7 @@ ghost use Rattle.suite.specs.Program.{program};
 ghost use Rattle.client.specs.Making.{making_answer, making_token};
 ghost use Rattle.part_tokens.specs.Parts.{edge as edge_of, piece as piece_of, part_at, parts_of, parts_tests, placed, kept_parts};
 
-use answer::Completion;
+use answer::Refusal;
 use format::PART_TOKEN;
 
 // Where piece j of a text begins, and piece j - 1 ends.
@@ -31,7 +31,12 @@ fn piece(text: &[u8], a: usize, e: usize) -> &[u8]
 }
 
 // The part of number i: its key, name and value are three pieces of the text. [02:W4.24]
-fn make_part(text: &[u8], ends: &[u64], i: usize, part: &mut [u8; PART_TOKEN]) -> Completion
+fn make_part(
+    text: &[u8],
+    ends: &[u64],
+    i: usize,
+    part: &mut [u8; PART_TOKEN],
+) -> Result<(), Refusal>
     requires { 3 * i + 3 ≤ length ends.now }
     ensures result_value { completion result ≡ making_answer (part_token_tests (part_at text.now ends.now i)) }
     ensures part_after { part.new ≡ making_token (part_token_tests (part_at text.now ends.now i)) (part_of program (part_at text.now ends.now i)) part.old }
@@ -60,22 +65,18 @@ fn put_part(to: &mut [u8], i: usize, part: &[u8; PART_TOKEN])
 
 // The parts of a text, made in order, of which the first 8 are kept; the first making that is refused ends
 // it, and clears them. [02:W4.24 W4.25]
-pub fn make_parts(text: &[u8], ends: &[u64], to: &mut [u8]) -> Completion
+pub fn make_parts(text: &[u8], ends: &[u64], to: &mut [u8]) -> Result<(), Refusal>
     requires { length to.old ≡ 1024 }
     ensures result_value { completion result ≡ making_answer (parts_tests (parts_of text.now ends.now)) }
     ensures to_after { to.new ≡ kept_parts (parts_of text.now ends.now) to.old }
 {
-    let n = ends.len() / 3;
-    let mut i = 0;
-    while i < n {
+    for i in 0..ends.len() / 3 {
         let mut part = [0u8; PART_TOKEN];
-        let made = make_part(text, ends, i, &mut part);
-        if let Completion::Refused(_) = made {
-            octets::clear(to);
-            return made;
+        if let Err(r) = make_part(text, ends, i, &mut part) {
+            to.fill(0);
+            return Err(r);
         }
         put_part(to, i, &part);
-        i += 1;
     }
-    Completion::Done
+    Ok(())
 }

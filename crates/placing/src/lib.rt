@@ -18,7 +18,7 @@ ghost use Rattle.placing.specs.Placed.{Lengths, Room, placed_store};
 
 use entries::label;
 use format::{ID, INSERT_RL, INSERT_TOKEN, NONCE, row};
-use store::{C_WIDTH, Checked, M_WIDTH, Part, R_WIDTH, S_WIDTH, Shape, V_WIDTH};
+use store::{C_WIDTH, M_WIDTH, Part, R_WIDTH, S_WIDTH, Shape, V_WIDTH};
 
 // Adds n ascending rows to the table of a part, which has room for them. [01:ST4 OP1] [02:W2.4]
 fn add_rows(store: &mut [u8], part: Part, w: usize, new: &[u8], n: usize)
@@ -43,7 +43,7 @@ fn place(
     counter: &[u8],
     log: &[u8],
 )
-    requires store_value { (checked_of store.old ≡ Checked.Fit z) × Room z n }
+    requires store_value { (checked_of store.old ≡ Ok z) × Room z n }
     requires entries_len { ((length entries.now ≡ width_of table_m * n) × (length reverses.now ≡ width_of table_v * n)) × ((length counter.now ≡ width_of table_c) × (length log.now ≡ width_of table_s)) }
     requires entries_value { (ascending (rows (width_of table_m) n entries.now) ≡ true) × (ascending (rows (width_of table_v) n reverses.now) ≡ true) }
     ensures { Laid (span_in z) store.new (placed_store store.old (rows (width_of table_m) n entries.now) (rows (width_of table_v) n reverses.now) counter.now log.now) }
@@ -129,7 +129,7 @@ pub fn write(
     token: &[u8],
     counter: &[u8],
 )
-    requires store_value { (checked_of store.old ≡ Checked.Fit z) × Room z (id_count ids.now) }
+    requires store_value { (checked_of store.old ≡ Ok z) × Room z (id_count ids.now) }
     requires lengths { Lengths ids.now nonces.now token.now × ((g ≤ limit) × (length counter.now ≡ width_of table_c)) }
     ensures { store.new ≡ joined (inserted_store store.old (entry_rows program (token_mt token.now) (token_me token.now) g (ids_in ids.now) nonces.now) (reverse_rows program (token_mt token.now) g (ids_in ids.now)) counter.now (log_row (token_log token.now)) (label_rows program (token_rl token.now) (ids_in ids.now) (label_nonces ids.now nonces.now))) }
 {

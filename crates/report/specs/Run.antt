@@ -13,8 +13,10 @@ use Rattle.scheme.specs.Compaction
 use Rattle.suite.specs.Program.{program}
 use Rattle.client.specs.Making.{field_of, making_answer}
 use Rattle.store.specs.Check.{checked_of}
-use Rattle.store.specs.declared.Checked.{Checked}
-use Rattle.store.specs.declared.Checked.TheVariants.{Fit, Refused as Refused₀}
+use Rattle.std.specs.Prelude.{Result}
+use Rattle.answer.specs.declared.Refusal.{Refusal}
+use Rattle.store.specs.declared.Shape.{Shape}
+use Rattle.std.specs.Prelude.{Ok, Err}
 use Rattle.text.specs.Ascii.{ascii}
 use Rattle.words.specs.Line.{word_at}
 use Rattle.operands.specs.Ids.{id_of, ids_of}
@@ -50,9 +52,9 @@ unfoldable pub lent : List ℕ
 lent = replicate 65536 0
 
 -- whether a file is a store
-abbrev pub show_by : Checked → Room → Outcome
-show_by (Fit x) room = Done
-show_by (Refused₀ r) room = Refused r room
+abbrev pub show_by : Result Shape Refusal → Room → Outcome
+show_by (Ok x) room = Done
+show_by (Err r) room = Refused r room
 
 abbrev pub show_of : List ℕ → Outcome
 show_of before = show_by (checked_of before) (room_of before)
@@ -159,9 +161,9 @@ made_text Done token = hex_line token
 made_text BadWords token = answer_line BadWords
 
 -- how full a store is; or the refusal of what is none
-abbrev pub shown_text : Checked → Outcome → List ℕ
-shown_text (Fit x) o = shape_lines x
-shown_text (Refused₀ r) o = answer_line o
+abbrev pub shown_text : Result Shape Refusal → Outcome → List ℕ
+shown_text (Ok x) o = shape_lines x
+shown_text (Err r) o = answer_line o
 
 -- the lines of what a check counted; or its refusal [check:12]
 abbrev pub check_text : Outcome → List ℕ

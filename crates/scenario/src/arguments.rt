@@ -56,7 +56,7 @@ pub fn erase(store: &mut [u8])
 }
 
 // The line of a find, by one field or several.
-fn found(r: Counted, store: &[u8], output: &[u8])
+fn found(r: Result<u64, Refusal>, store: &[u8], output: &[u8])
     ensures { result ≡ tt }
 {
     write::counted(r);

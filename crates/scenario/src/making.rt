@@ -7,7 +7,7 @@ use answer::Completion;
 // What an array's bytes are before the call.
 const LENT: u8 = 165;
 
-fn line(r: Completion, name: &[u8], bytes: &[u8])
+fn line(r: Result<(), Refusal>, name: &[u8], bytes: &[u8])
     ensures { result ≡ tt }
 {
     write::completion(r);
@@ -16,25 +16,25 @@ fn line(r: Completion, name: &[u8], bytes: &[u8])
 }
 
 // The token's length is known of an array alone.
-fn line_32(r: Completion, bytes: &[u8; 32])
+fn line_32(r: Result<(), Refusal>, bytes: &[u8; 32])
     ensures { result ≡ tt }
 {
     line(r, b"bytes", bytes);
 }
 
-fn line_96(r: Completion, bytes: &[u8; 96])
+fn line_96(r: Result<(), Refusal>, bytes: &[u8; 96])
     ensures { result ≡ tt }
 {
     line(r, b"bytes", bytes);
 }
 
-fn line_128(r: Completion, bytes: &[u8; 128])
+fn line_128(r: Result<(), Refusal>, bytes: &[u8; 128])
     ensures { result ≡ tt }
 {
     line(r, b"bytes", bytes);
 }
 
-fn line_173(r: Completion, bytes: &[u8; 173])
+fn line_173(r: Result<(), Refusal>, bytes: &[u8; 173])
     ensures { result ≡ tt }
 {
     line(r, b"bytes", bytes);

@@ -23,7 +23,7 @@ pub fn refusal(r: Refusal)
     ensures { result ≡ tt }
 {
     text(b": refused");
-    count(answer::number(r));
+    count(r.number());
     match r {
         Refusal::OutputLength(n) => {
             text(b" carrying");
@@ -33,38 +33,38 @@ pub fn refusal(r: Refusal)
     }
 }
 
-pub fn completion(r: Completion)
+pub fn completion(r: Result<(), Refusal>)
     ensures { result ≡ tt }
 {
     match r {
-        Completion::Done => text(b": done"),
-        Completion::Refused(why) => refusal(why),
+        Ok(()) => text(b": done"),
+        Err(why) => refusal(why),
     }
 }
 
-pub fn counted(r: Counted)
+pub fn counted(r: Result<u64, Refusal>)
     ensures { result ≡ tt }
 {
     match r {
-        Counted::Number(n) => {
+        Ok(n) => {
             text(b": done");
             count(n);
         }
-        Counted::Refused(why) => refusal(why),
+        Err(why) => refusal(why),
     }
 }
 
 // The number, and the rows looked at for it. [02:W3.8]
-pub fn tallied(r: Tallied)
+pub fn tallied(r: Result<Tallied, Refusal>)
     ensures { result ≡ tt }
 {
     match r {
-        Tallied::Number { n, rows } => {
+        Ok(Tallied { n, rows }) => {
             text(b": done");
             count(n);
             count(rows);
         }
-        Tallied::Refused(why) => refusal(why),
+        Err(why) => refusal(why),
     }
 }
 
@@ -81,15 +81,15 @@ fn faults(f: Faults)
 }
 
 // The seven numbers of a check. [check:2 check:3 check:4 check:5 check:6 check:7 check:8]
-pub fn inspected(r: Inspected)
+pub fn inspected(r: Result<Faults, Refusal>)
     ensures { result ≡ tt }
 {
     match r {
-        Inspected::Numbers(f) => {
+        Ok(f) => {
             text(b": done");
             faults(f);
         }
-        Inspected::Refused(why) => refusal(why),
+        Err(why) => refusal(why),
     }
 }
 
@@ -100,16 +100,16 @@ fn tally(t: Tally)
     count(t.counters);
 }
 
-pub fn compaction(r: Compaction)
+pub fn compaction(r: Result<Tally, CompactionError>)
     ensures { result ≡ tt }
 {
     match r {
-        Compaction::Done(t) => {
+        Ok(t) => {
             text(b": done");
             tally(t);
         }
-        Compaction::Refused(why) => refusal(why),
-        Compaction::Damage(t) => {
+        Err(CompactionError::Refused(why)) => refusal(why),
+        Err(CompactionError::Damage(t)) => {
             text(b": refused 13 carrying");
             tally(t);
         }
@@ -140,8 +140,8 @@ pub fn store(bytes: &[u8])
 {
     let mut digest = [0u8; 32];
     match sha256::hash(bytes, &mut digest) {
-        Completion::Done => start(&digest),
-        Completion::Refused(_) => text(b"; store long"),
+        Ok(()) => start(&digest),
+        Err(_) => text(b"; store long"),
     }
 }
 

@@ -9,7 +9,7 @@ ghost use Rattle.compression.specs.Compression.{words, compress};
 ghost use Rattle.sha256.specs.Padding.{zeros, padding};
 ghost use Rattle.sha256.specs.Hash.{blocks, tail, final, digest, hash_answer, hash_digest};
 
-use answer::{Completion, Refusal};
+use answer::Refusal;
 use compression::{State, compress};
 
 // The initial hash value (5.3.3).
@@ -135,14 +135,14 @@ pub fn finish_digest(s: State, d: State) -> State
 // The hash of a message of at most 65,536 bytes; refusal 9 above, with the digest left as lent. [01:KF7]
 // [02:W5.4 W5.5]
 #[tactic(auto, using(crate::proofs::Rules::hash_rules), unfolding(crate::specs::Hash::hash_answer, crate::specs::Hash::hash_digest, crate::specs::Hash::hash_tests, crate::specs::Hash::hash))]
-pub fn hash(message: &[u8], out: &mut [u8; 32]) -> Completion
+pub fn hash(message: &[u8], out: &mut [u8; 32]) -> Result<(), Refusal>
     ensures result_value { completion result ≡ hash_answer message.now }
     ensures out_after { out.new ≡ hash_digest message.now out.old }
 {
     if 65536 < message.len() {
-        return Completion::Refused(Refusal::TextLength);
+        return Err(Refusal::TextLength);
     }
     let s = finish(initial(), 0, message);
     digest(s, out);
-    Completion::Done
+    Ok(())
 }

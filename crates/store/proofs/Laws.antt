@@ -28,8 +28,8 @@ use Rattle.scheme.proofs.Plan.{laid_cut, laid_end, laid_inside, laid_long, laid_
 use Rattle.store.specs.declared.Shape.{Shape}
 use Rattle.store.specs.declared.Surveyed.{Surveyed}
 use Rattle.store.specs.declared.Surveys.{Surveys}
-use Rattle.store.specs.declared.Checked.{Checked}
-use Rattle.store.specs.declared.Checked.TheVariants.{Fit, Refused}
+use Rattle.std.specs.Prelude.{Result}
+use Rattle.std.specs.Prelude.{Ok, Err}
 use Rattle.store.specs.Check.{survey_of, surveys_of, table_by, shape_by, marked_of, checked_of, part_in, span_in, sizes_in}
 pub use Rattle.header.proofs.Laws.{InRange, in_range, length_shares, GoodHeader, good_header, sizes_read}
 pub use Rattle.store.specs.Check.{table_m, table_v, table_c, table_s, table_r}
@@ -97,7 +97,7 @@ all_surveyed b z x_m x_v x_c x_s x_r bad e e_m e_v e_c e_s e_r =
     ∙ (λ i. record { bad = (e_m i).bad || ((e_v i).bad || ((e_c i).bad || ((e_s i).bad || ((e_r i).bad || false)))); shape = record { p = z.p; m = (e_m i).part; v = (e_v i).part; c = (e_c i).part; s = (e_s i).part; r = (e_r i).part } })
 
 module _ (b : List ℕ) where
-  pub checked_header : header_bad b ≡ true → Refused Header ≡ marked_of b
+  pub checked_header : header_bad b ≡ true → Err Header ≡ marked_of b
   unfolding marked_of
   checked_header e = rw e
 
@@ -106,15 +106,15 @@ module _ (b : List ℕ) where
     unfolding marks_bad cut surveys_of
     marks = ap (λ (x : Surveys). x.bad) (w ∙ ap (surveys_of b) q)
 
-    pub checked_mark : v.bad ≡ true → Refused Mark ≡ marked_of b
+    pub checked_mark : v.bad ≡ true → Err Mark ≡ marked_of b
     unfolding marked_of
     checked_mark f = rw (e, sym marks ∙ f)
 
-    pub checked_fit : v.bad ≡ false → Fit v.shape ≡ marked_of b
+    pub checked_fit : v.bad ≡ false → Ok v.shape ≡ marked_of b
     unfolding marked_of surveys_of
     checked_fit f =
         let s : v.shape ≡ shape_by b (sizes_of b) = ap (λ (x : Surveys). x.shape) (w ∙ ap (surveys_of b) q) in
-        rw (e, sym marks ∙ f) (ap Fit s)
+        rw (e, sym marks ∙ f) (ap Ok s)
 
 -- ---- what a caller learns
 
@@ -124,85 +124,85 @@ pub record MarkedStore (b : List ℕ) (z : Shape) : Type 0 where
   pub shape : z ≡ shape_by b (sizes_of b)
 
 -- the slice passed: 10 and 11 do not refuse, and its tables are these
-marked : (b : List ℕ) (z : Shape) → marked_of b ≡ Fit z → MarkedStore b z
+marked : (b : List ℕ) (z : Shape) → marked_of b ≡ Ok z → MarkedStore b z
 unfolding marked_of
 marked b z e = go (header_bad b) (marks_bad (cut b)) refl refl e
   where
-    go : (h k : Bool) → header_bad b ≡ h → marks_bad (cut b) ≡ k → cond h (Refused Header) (cond k (Refused Mark) (Fit (shape_by b (sizes_of b)))) ≡ Fit z → MarkedStore b z
+    go : (h k : Bool) → header_bad b ≡ h → marks_bad (cut b) ≡ k → cond h (Err Header) (cond k (Err Mark) (Ok (shape_by b (sizes_of b)))) ≡ Ok z → MarkedStore b z
     go true k eh ek e = absurd (let z : ◌≡◌ {A = ℕ} 0 1 = cc in omega arith)
     go false true eh ek e = absurd (let z : ◌≡◌ {A = ℕ} 0 1 = cc in omega arith)
     go false false eh ek e = let q : z ≡ shape_by b (sizes_of b) = cc in record { header = eh; marks = ek; shape = q }
 
 -- 10 and 11, then 20
-pub checked_refused : (b : List ℕ) (r : Refusal) → marked_of b ≡ Refused r → Refused r ≡ checked_of b
+pub checked_refused : (b : List ℕ) (r : Refusal) → marked_of b ≡ Err r → Err r ≡ checked_of b
 unfolding marked_of checked_of
 checked_refused b r e = go (header_bad b) (marks_bad (cut b)) e
   where
-    go : (h k : Bool) → cond h (Refused Header) (cond k (Refused Mark) (Fit (shape_by b (sizes_of b)))) ≡ Refused r
-        → Refused r ≡ cond h (Refused Header) (cond k (Refused Mark) (cond (form_bad (cut b)) (Refused Form) (Fit (shape_by b (sizes_of b)))))
+    go : (h k : Bool) → cond h (Err Header) (cond k (Err Mark) (Ok (shape_by b (sizes_of b)))) ≡ Err r
+        → Err r ≡ cond h (Err Header) (cond k (Err Mark) (cond (form_bad (cut b)) (Err Form) (Ok (shape_by b (sizes_of b)))))
     go true k e = sym e
     go false true e = sym e
     go false false e = absurd (let z : ◌≡◌ {A = ℕ} 0 1 = cc in omega arith)
 
-pub checked_form : (b : List ℕ) (z : Shape) → marked_of b ≡ Fit z → form_bad (cut b) ≡ true → Refused Form ≡ checked_of b
+pub checked_form : (b : List ℕ) (z : Shape) → marked_of b ≡ Ok z → form_bad (cut b) ≡ true → Err Form ≡ checked_of b
 unfolding checked_of
 checked_form b z e f = let m = marked b z e in rw (m.header, m.marks, f) refl
 
-pub checked_formed : (b : List ℕ) (z : Shape) → marked_of b ≡ Fit z → form_bad (cut b) ≡ false → Fit z ≡ checked_of b
+pub checked_formed : (b : List ℕ) (z : Shape) → marked_of b ≡ Ok z → form_bad (cut b) ≡ false → Ok z ≡ checked_of b
 unfolding checked_of
-checked_formed b z e f = let m = marked b z e in rw (m.header, m.marks, f) (ap Fit m.shape)
+checked_formed b z e f = let m = marked b z e in rw (m.header, m.marks, f) (ap Ok m.shape)
 
-record FitBy (b : List ℕ) (z : Shape) (m : Checked) : Type 0 where
-  pub marks : m ≡ Fit z
+record FitBy (b : List ℕ) (z : Shape) (m : Result Shape Refusal) : Type 0 where
+  pub marks : m ≡ Ok z
   pub form : form_bad (cut b) ≡ false
 
 -- a slice that passed all three passed 10 and 11
-fit : (b : List ℕ) (z : Shape) → checked_of b ≡ Fit z → FitBy b z (marked_of b)
+fit : (b : List ℕ) (z : Shape) → checked_of b ≡ Ok z → FitBy b z (marked_of b)
 unfolding marked_of checked_of
 fit b z e = go (header_bad b) (marks_bad (cut b)) (form_bad (cut b)) refl e
   where
-    go : (h k f : Bool) → form_bad (cut b) ≡ f → cond h (Refused Header) (cond k (Refused Mark) (cond f (Refused Form) (Fit (shape_by b (sizes_of b))))) ≡ Fit z
-        → FitBy b z (cond h (Refused Header) (cond k (Refused Mark) (Fit (shape_by b (sizes_of b)))))
+    go : (h k f : Bool) → form_bad (cut b) ≡ f → cond h (Err Header) (cond k (Err Mark) (cond f (Err Form) (Ok (shape_by b (sizes_of b))))) ≡ Ok z
+        → FitBy b z (cond h (Err Header) (cond k (Err Mark) (Ok (shape_by b (sizes_of b)))))
     go true k f ef e = absurd (let z : ◌≡◌ {A = ℕ} 0 1 = cc in omega arith)
     go false true f ef e = absurd (let z : ◌≡◌ {A = ℕ} 0 1 = cc in omega arith)
     go false false true ef e = absurd (let z : ◌≡◌ {A = ℕ} 0 1 = cc in omega arith)
     go false false false ef e = record { marks = e; form = ef }
 
-pub fit_marked : (b : List ℕ) (z : Shape) → checked_of b ≡ Fit z → marked_of b ≡ Fit z
+pub fit_marked : (b : List ℕ) (z : Shape) → checked_of b ≡ Ok z → marked_of b ≡ Ok z
 fit_marked b z e = (fit b z e).marks
 
 -- and they are no others
-pub fit_unique : (b : List ℕ) (y z : Shape) → checked_of b ≡ Fit y → checked_of b ≡ Fit z → y ≡ z
+pub fit_unique : (b : List ℕ) (y z : Shape) → checked_of b ≡ Ok y → checked_of b ≡ Ok z → y ≡ z
 fit_unique b y z p q = (marked b y (fit_marked b y p)).shape ∙ sym (marked b z (fit_marked b z q)).shape
 
 -- the slice was refused: any list of tests that starts with those of the state refuses it so
-pub unfit : (b : List ℕ) (r : Refusal) (ts : List Test) → checked_of b ≡ Refused r → verdict (state_tests b ++ ts) ≡ some (refusal r)
+pub unfit : (b : List ℕ) (r : Refusal) (ts : List Test) → checked_of b ≡ Err r → verdict (state_tests b ++ ts) ≡ some (refusal r)
 unfolding checked_of state_tests
 unfit b r ts e = go (header_bad b) (marks_bad (cut b)) (form_bad (cut b)) e
   where
-    go : (h k f : Bool) → cond h (Refused Header) (cond k (Refused Mark) (cond f (Refused Form) (Fit (shape_by b (sizes_of b))))) ≡ Refused r
+    go : (h k f : Bool) → cond h (Err Header) (cond k (Err Mark) (cond f (Err Form) (Ok (shape_by b (sizes_of b))))) ≡ Err r
         → cond h (some (refused 10 [])) (cond k (some (refused 11 [])) (cond f (some (refused 20 [])) (verdict ts))) ≡ some (refusal r)
     go true k f e = let q : Header ≡ r = cc in ap (λ (x : Refusal). some (refusal x)) q
     go false true f e = let q : Mark ≡ r = cc in ap (λ (x : Refusal). some (refusal x)) q
     go false false true e = let q : Form ≡ r = cc in ap (λ (x : Refusal). some (refusal x)) q
     go false false false e = absurd (let z : ◌≡◌ {A = ℕ} 0 1 = cc in omega arith)
 
-pub unmarked : (b : List ℕ) (r : Refusal) → marked_of b ≡ Refused r → verdict (mark_tests b) ≡ some (refusal r)
+pub unmarked : (b : List ℕ) (r : Refusal) → marked_of b ≡ Err r → verdict (mark_tests b) ≡ some (refusal r)
 unfolding marked_of mark_tests
 unmarked b r e = go (header_bad b) (marks_bad (cut b)) e
   where
-    go : (h k : Bool) → cond h (Refused Header) (cond k (Refused Mark) (Fit (shape_by b (sizes_of b)))) ≡ Refused r
+    go : (h k : Bool) → cond h (Err Header) (cond k (Err Mark) (Ok (shape_by b (sizes_of b)))) ≡ Err r
         → cond h (some (refused 10 [])) (cond k (some (refused 11 [])) none) ≡ some (refusal r)
     go true k e = let q : Header ≡ r = cc in ap (λ (x : Refusal). some (refusal x)) q
     go false true e = let q : Mark ≡ r = cc in ap (λ (x : Refusal). some (refusal x)) q
     go false false e = absurd (let z : ◌≡◌ {A = ℕ} 0 1 = cc in omega arith)
 
 -- a slice that passed is not refused by the tests of the state
-pub fit_verdict : (b : List ℕ) (z : Shape) (ts : List Test) → checked_of b ≡ Fit z → verdict (state_tests b ++ ts) ≡ verdict ts
+pub fit_verdict : (b : List ℕ) (z : Shape) (ts : List Test) → checked_of b ≡ Ok z → verdict (state_tests b ++ ts) ≡ verdict ts
 unfolding state_tests
 fit_verdict b z ts e = let f = fit b z e in let m = marked b z f.marks in rw (m.header, m.marks, f.form) refl
 
-pub marked_verdict : (b : List ℕ) (z : Shape) → marked_of b ≡ Fit z → verdict (mark_tests b) ≡ none
+pub marked_verdict : (b : List ℕ) (z : Shape) → marked_of b ≡ Ok z → verdict (mark_tests b) ≡ none
 unfolding mark_tests
 marked_verdict b z e = let m = marked b z e in rw (m.header, m.marks) refl
 
@@ -256,7 +256,7 @@ pub record Fits (b : List ℕ) (z : Shape) (k : Which) : Type 0 where
   pub same : rows (width_of k) (part_in z k).rows (take ((part_in z k).end - (part_in z k).start) (drop (part_in z k).start b)) ≡ (cut b).table k
 
 -- of a slice that passed 10 and 11
-module _ (b : List ℕ) (z : Shape) (e : marked_of b ≡ Fit z) where
+module _ (b : List ℕ) (z : Shape) (e : marked_of b ≡ Ok z) where
   marked_spans : span_in z ≡ span_of (sizes_of b)
   marked_spans = ap span_in (marked b z e).shape ∙ fun_ext (spans b)
 
@@ -313,7 +313,7 @@ module _ (b : List ℕ) (z : Shape) (e : marked_of b ≡ Fit z) where
       formed k f e = e ∙ ap (in_form (width_of k)) (marked_from k)
 
 -- of a slice that passed all three
-module _ (b : List ℕ) (z : Shape) (e : checked_of b ≡ Fit z) where
+module _ (b : List ℕ) (z : Shape) (e : checked_of b ≡ Ok z) where
   -- its sizes, each in range
   pub fit_sizes : sizes_in z ≡ sizes_of b
   fit_sizes = ap sizes_in (marked b z (fit_marked b z e)).shape

@@ -13,7 +13,7 @@ use Rattle.scheme.specs.Layout.{Laid}
 use Rattle.scheme.proofs.Plan.{laid_end, laid_inside, laid_long, laid_rows, laid_back, laid_length}
 use Rattle.store.specs.declared.Part.{Part}
 use Rattle.store.specs.declared.Shape.{Shape}
-use Rattle.store.specs.declared.Checked.TheVariants.{Fit}
+use Rattle.std.specs.Prelude.{Ok}
 use Rattle.store.specs.Check.{checked_of, part_in, span_in}
 use Rattle.store.specs.Tables.{bytes_of, Within, InOrder, Replaced}
 use Rattle.store.proofs.Laws.{formed, used_rows_lem, free_le}
@@ -76,7 +76,7 @@ module _ (z : Shape) (g : LaidStore z) (k : Which) where
   }
 
   -- a table that is still as the checks found it
-  pub still_in_order : (b : List ℕ) → checked_of b ≡ Fit z → g.store.table k ≡ (cut b).table k → InOrder g.bytes (part_in z k) (width_of k)
+  pub still_in_order : (b : List ℕ) → checked_of b ≡ Ok z → g.store.table k ≡ (cut b).table k → InOrder g.bytes (part_in z k) (width_of k)
   still_in_order b e s =
       let r = part-rows z g k ∙ s in
       record {

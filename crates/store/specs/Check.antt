@@ -10,8 +10,9 @@ use Rattle.store.specs.declared.Part.{Part}
 use Rattle.store.specs.declared.Shape.{Shape}
 use Rattle.store.specs.declared.Surveyed.{Surveyed}
 use Rattle.store.specs.declared.Surveys.{Surveys}
-use Rattle.store.specs.declared.Checked.{Checked}
-use Rattle.store.specs.declared.Checked.TheVariants.{Fit, Refused}
+use Rattle.std.specs.Prelude.{Result}
+use Rattle.answer.specs.declared.Refusal.{Refusal}
+use Rattle.std.specs.Prelude.{Ok, Err}
 pub use Rattle.scheme.specs.Store.{table_m, table_v, table_c, table_s, table_r}
 
 -- what one pass over the marks of n rows of w bytes from a place on tells
@@ -36,13 +37,13 @@ unfoldable pub surveys_of : List ℕ → Sizes → Surveys
 surveys_of b z = record { bad = any_of (λ k. mark_bad (greatest_mark k) (table_by b z k)) plan; shape = shape_by b z }
 
 -- 10, then 11 [01:RS1 RS2 RS3] [02:W2.9]
-unfoldable pub marked_of : List ℕ → Checked
-marked_of b = cond (header_bad b) (Refused Header) (cond (marks_bad (cut b)) (Refused Mark) (Fit (shape_by b (sizes_of b))))
+unfoldable pub marked_of : List ℕ → Result Shape Refusal
+marked_of b = cond (header_bad b) (Err Header) (cond (marks_bad (cut b)) (Err Mark) (Ok (shape_by b (sizes_of b))))
 
 -- 10, 11, then 20 [01:RS1 RS2 RS3] [02:W2.11 W2.12]
-unfoldable pub checked_of : List ℕ → Checked
+unfoldable pub checked_of : List ℕ → Result Shape Refusal
 checked_of b =
-    cond (header_bad b) (Refused Header) (cond (marks_bad (cut b)) (Refused Mark) (cond (form_bad (cut b)) (Refused Form) (Fit (shape_by b (sizes_of b)))))
+    cond (header_bad b) (Err Header) (cond (marks_bad (cut b)) (Err Mark) (cond (form_bad (cut b)) (Err Form) (Ok (shape_by b (sizes_of b)))))
 
 -- the part of a table in what the checks found, and where it stands
 abbrev pub part_in : Shape → Which → Part

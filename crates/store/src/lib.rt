@@ -10,7 +10,7 @@ ghost use Rattle.table.specs.Table.{rows, free_rows};
 ghost use Rattle.table.specs.Order.{in_form};
 ghost use Rattle.store.specs.Check.{survey_of, surveys_of, marked_of, checked_of};
 
-use answer::{Completion, Refusal};
+use answer::Refusal;
 use header::{HEADER, any, bad_header, bad_sizes, length_for, number};
 
 // The width of a row of M. [01:ST6]
@@ -65,13 +65,6 @@ struct Surveys {
     shape: Shape,
 }
 
-// A store that passed the checks, or the refusal.
-#[derive(Clone, Copy)]
-pub enum Checked {
-    Fit(Shape),
-    Refused(Refusal),
-}
-
 // Writes the header of a store and zeroes the rest. [01:ST16]
 #[tactic(auto, using(crate::proofs::Laws::made), unfolding(scheme::specs::Store::length_for))]
 fn write(p: u64, m: u64, c: u64, s: u64, r: u64, slice: &mut [u8])
@@ -86,18 +79,18 @@ fn write(p: u64, m: u64, c: u64, s: u64, r: u64, slice: &mut [u8])
 
 // Makes a store: writes the header and zeroes the rest; refusals 7 and 8 leave the slice. [01:ST16 RI8 RI9]
 #[tactic(auto, using(crate::proofs::Rules::make_rules))]
-pub fn make(p: u64, m: u64, c: u64, s: u64, r: u64, slice: &mut [u8]) -> Completion
+pub fn make(p: u64, m: u64, c: u64, s: u64, r: u64, slice: &mut [u8]) -> Result<(), Refusal>
     ensures result_value { completion result ≡ (make_of (record { p = p; m = m; c = c; s = s; r = r }) slice.old).answer }
     ensures slice_after { slice.new ≡ (make_of (record { p = p; m = m; c = c; s = s; r = r }) slice.old).store }
 {
     if bad_sizes(p, m, c, s, r) {
-        return Completion::Refused(Refusal::SizeRange);
+        return Err(Refusal::SizeRange);
     }
     if slice.len() != length_for(m as usize, c as usize, s as usize, r as usize) {
-        return Completion::Refused(Refusal::SliceLength);
+        return Err(Refusal::SliceLength);
     }
     write(p, m, c, s, r, slice);
-    Completion::Done
+    Ok(())
 }
 
 // One pass over the marks of the table of n rows of w bytes that starts at a place.
@@ -152,11 +145,11 @@ fn survey_all(store: &[u8], p: u64, m: usize, c: usize, s: usize, r: usize) -> S
 
 // The checks 10 and 11, with what an operation needs to know of the store. [01:RS2 RS3] [02:W2.9]
 #[tactic(auto, using(crate::proofs::Rules::marked_rules))]
-pub fn marked(store: &[u8]) -> Checked
+pub fn marked(store: &[u8]) -> Result<Shape, Refusal>
     ensures { result ≡ marked_of store.now }
 {
     if bad_header(store) {
-        return Checked::Refused(Refusal::Header);
+        return Err(Refusal::Header);
     }
     let p = octets::wide(store[1]);
     let m = number(store, 2) as usize;
@@ -165,10 +158,10 @@ pub fn marked(store: &[u8]) -> Checked
     let r = number(store, 8) as usize;
     let all = survey_all(store, p, m, c, s, r);
     if all.bad {
-        return Checked::Refused(Refusal::Mark);
+        return Err(Refusal::Mark);
     }
     let shape = all.shape;
-    Checked::Fit(shape)
+    Ok(shape)
 }
 
 // Whether the table of a part is in form. [02:W2.1 W2.2 W2.3]
@@ -185,7 +178,7 @@ fn formed(store: &[u8], part: Part, w: usize) -> bool
 // Whether a table of a store is not in form: the condition of 20. [02:W2.11]
 #[tactic(auto, using(crate::proofs::Rules::bad_form_rules))]
 fn bad_form(store: &[u8], z: Shape) -> bool
-    requires { marked_of store.now ≡ Checked.Fit z }
+    requires { marked_of store.now ≡ Ok z }
     ensures { result ≡ form_bad (cut store.now) }
 {
     any(
@@ -200,17 +193,12 @@ fn bad_form(store: &[u8], z: Shape) -> bool
 // The checks 10, 11 and 20 of every operation, with what it needs to know of the store.
 // [01:RS2 RS3] [02:W2.11 W2.12]
 #[tactic(auto, using(crate::proofs::Laws::checked_refused, crate::proofs::Laws::checked_form, crate::proofs::Laws::checked_formed))]
-pub fn sizes(store: &[u8]) -> Checked
+pub fn sizes(store: &[u8]) -> Result<Shape, Refusal>
     ensures { result ≡ checked_of store.now }
 {
-    let checked = marked(store);
-    match checked {
-        Checked::Refused(r) => Checked::Refused(r),
-        Checked::Fit(z) => {
-            if bad_form(store, z) {
-                return Checked::Refused(Refusal::Form);
-            }
-            Checked::Fit(z)
-        }
+    let z = marked(store)?;
+    if bad_form(store, z) {
+        return Err(Refusal::Form);
     }
+    Ok(z)
 }

@@ -22,7 +22,7 @@ use Rattle.scheme.specs.Refusals.{id_tests, token_tests}
 use Rattle.scheme.specs.Test.{carries, tests, yes_or_no, test_verdict, test}
 use Rattle.suite.specs.Program.{program}
 use Rattle.store.specs.declared.Shape.{Shape}
-use Rattle.store.specs.declared.Checked.TheVariants.{Fit, Refused}
+use Rattle.std.specs.Prelude.{Ok, Err}
 use Rattle.store.specs.Check.{checked_of}
 use Rattle.store.proofs.Laws.{unfit, fit_verdict}
 use Rattle.format.specs.Tags.{r_mark_by, Prepared}
@@ -116,9 +116,9 @@ module _ (before id token : List ℕ) where
       unfolding test_verdict id_tests token_tests
       from_state = rw (eq-eqb (length id) 16 h, eq-eqb (length token) mark_token_length l) (ap verdict (sym (append-nil (state_tests before))))
 
-      pub unfit_store : (r : Refusal) → checked_of before ≡ Refused r → refusal r ≡ (test program before id token).answer
+      pub unfit_store : (r : Refusal) → checked_of before ≡ Err r → refusal r ≡ (test program before id token).answer
       unfit_store r e = told (some (refusal r)) (from_state ∙ unfit before r [] e)
 
-      pub fit_store : (z : Shape) (k : Keyed) (t : Table) (b : Bool) → checked_of before ≡ Fit z → Prepared k token → t ≡ (cut before).table table_r → b ≡ tests_by k t id → yes_or_no b ≡ (test program before id token).answer
+      pub fit_store : (z : Shape) (k : Keyed) (t : Table) (b : Bool) → checked_of before ≡ Ok z → Prepared k token → t ≡ (cut before).table table_r → b ≡ tests_by k t id → yes_or_no b ≡ (test program before id token).answer
       fit_store z k t b e p q r =
           ap yes_or_no (r ∙ tests_are k token id t p ∙ ap (λ (x : Table). tests program x token id) q) ∙ told none (from_state ∙ fit_verdict before z [] e)

@@ -13,10 +13,10 @@ ghost use Rattle.suite.specs.Program.{program};
 ghost use Rattle.store.specs.Check.{checked_of};
 ghost use Rattle.test.specs.Marked.{tests_by};
 
-use answer::{Counted, Refusal};
+use answer::Refusal;
 use format::{ID, MARK_TOKEN, row};
 use hmac::Keyed;
-use store::{Checked, R_WIDTH, Shape};
+use store::{R_WIDTH, Shape};
 
 // Whether a row of R, of which so many are used, is the id's and carries the R mark of the prepared RL.
 // [02:W4.17]
@@ -47,8 +47,8 @@ fn answered(yes: bool) -> u64
 }
 
 // A test in a store that passed the checks, with id and token of their lengths. [02:W4.17]
-fn test_in(store: &[u8], z: Shape, id: &[u8], token: &[u8]) -> Counted
-    requires { (checked_of store.now ≡ Checked.Fit z) × ((length id.now ≡ 16) × (length token.now ≡ mark_token_length)) }
+fn test_in(store: &[u8], z: Shape, id: &[u8], token: &[u8]) -> Result<u64, Refusal>
+    requires { (checked_of store.now ≡ Ok z) × ((length id.now ≡ 16) × (length token.now ≡ mark_token_length)) }
     ensures { counted result ≡ (test_of program store.now id.now token.now).answer }
 {
     let r = z.r;
@@ -58,23 +58,21 @@ fn test_in(store: &[u8], z: Shape, id: &[u8], token: &[u8]) -> Counted
     octets::copy(&mut name, id);
     let rl = hmac::prepare(token);
     let yes = tests(&store[a..e], r.rows, r.rows - r.free, rl, &name);
-    Counted::Number(answered(yes))
+    Ok(answered(yes))
 }
 
 // Whether the document of the id has the label of RL: 1 or 0; refused by 5, 6, 10, 11 and 20.
 // [02:W4.15 W4.16 W4.17]
-pub fn test(store: &[u8], id: &[u8], token: &[u8]) -> Counted
+#[tactic(auto, using(crate::proofs::Laws::unfit_store))]
+pub fn test(store: &[u8], id: &[u8], token: &[u8]) -> Result<u64, Refusal>
     ensures { counted result ≡ (test_of program store.now id.now token.now).answer }
 {
     if id.len() != ID {
-        return Counted::Refused(Refusal::IdLength);
+        return Err(Refusal::IdLength);
     }
     if token.len() != MARK_TOKEN {
-        return Counted::Refused(Refusal::TokenLength);
+        return Err(Refusal::TokenLength);
     }
-    let checked = store::sizes(store);
-    match checked {
-        Checked::Refused(r) => Counted::Refused(r),
-        Checked::Fit(z) => test_in(store, z, id, token),
-    }
+    let z = store::sizes(store)?;
+    test_in(store, z, id, token)
 }

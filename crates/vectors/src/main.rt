@@ -15,7 +15,7 @@
 ghost use Rattle.std.specs.Prelude.{◌≡◌};
 ghost use Rattle.chacha20.specs.Call.{cipher_text};
 
-use answer::Completion;
+use answer::Refusal;
 
 const STDOUT_FILENO: i32 = 1;
 
@@ -47,14 +47,14 @@ fn write_output(bytes: &[u8])
 }
 
 // One line: the output, or the refusal and whether the output was left as lent.
-fn write_line(done: Completion, output: &[u8], lent: &[u8])
+fn write_line(done: Result<(), Refusal>, output: &[u8], lent: &[u8])
     ensures { result ≡ tt }
 {
     match done {
-        Completion::Done => write_output(output),
-        Completion::Refused(r) => {
+        Ok(()) => write_output(output),
+        Err(r) => {
             io::write_all(STDOUT_FILENO, b"refused ");
-            io::print_decimal(STDOUT_FILENO, answer::number(r));
+            io::print_decimal(STDOUT_FILENO, r.number());
             if check::same(output, lent) {
                 io::write_all(STDOUT_FILENO, b", output as lent");
             } else {
@@ -66,7 +66,7 @@ fn write_line(done: Completion, output: &[u8], lent: &[u8])
 }
 
 // The line of a digest or tag, whose bytes were all LENT before the call.
-fn write_digest_line(done: Completion, digest: &[u8; 32])
+fn write_digest_line(done: Result<(), Refusal>, digest: &[u8; 32])
     ensures { result ≡ tt }
 {
     let lent = [LENT; 32];
@@ -127,7 +127,7 @@ fn block_record()
     let s = compression::compress(sha256::initial(), &m[..n], at);
     let mut digest = [LENT; 32];
     sha256::digest(s, &mut digest);
-    write_digest_line(Completion::Done, &digest);
+    write_digest_line(Ok(()), &digest);
 }
 
 fn record()

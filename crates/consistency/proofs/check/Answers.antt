@@ -4,12 +4,8 @@ use Rattle.consistency.proofs.Laws.{check_refused, check_done}
 use Rattle.consistency.proofs.check.Goals as goal
 
 pub count_faults-requires : goal.count_faults-requires
-count_faults-requires c = sym c.sizes-checked.ensures ∙ c.in-Fit.is
+count_faults-requires c = sym c.in_ok-z.ensures
 
-pub returns-in-Refused : goal.returns-in-Refused
-returns-in-Refused c =
-    check_refused c.args.store.now c.in-Refused.r (sym c.sizes-checked.ensures ∙ c.in-Refused.is)
-
-pub returns-in-Fit : goal.returns-in-Fit
-returns-in-Fit c =
-    check_done c.args.store.now c.in-Fit.z (sym c.sizes-checked.ensures ∙ c.in-Fit.is) c.count_faults.result c.count_faults.ensures
+pub returns : goal.returns
+returns c =
+    check_done c.args.store.now c.in_ok-z.z (sym c.in_ok-z.ensures) c.count_faults.result c.count_faults.ensures

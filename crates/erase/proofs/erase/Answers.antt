@@ -1,32 +1,30 @@
 -- Refused by the definition's tests, in its order.
 use mathlib.Core.Path.{◌≡◌, sym, ◌∙◌}
-use Rattle.store.specs.declared.Checked.TheVariants.{Fit}
+use Rattle.std.specs.Prelude.{Ok}
 use Rattle.store.specs.Check.{checked_of}
 use Rattle.erase.proofs.Laws.{erase-length, erase_unfit, erase_fit}
 use Rattle.erase.proofs.erase.Goals as goal
-use Rattle.erase.proofs.erase.Goals.{In-Fit}
+use Rattle.erase.proofs.erase.Goals.{In_ok-z}
 
-checked : (c : In-Fit) → checked_of c.args.store.now ≡ Fit c.in-Fit.z
-checked c = sym c.sizes.ensures ∙ c.in-Fit.is
+checked : (c : In_ok-z) → checked_of c.args.store.now ≡ Ok c.in_ok-z.z
+checked c = sym c.in_ok-z.ensures
 
 pub returns-then-id-ne-ID : goal.returns-then-id-ne-ID
 returns-then-id-ne-ID c =
     let both = erase-length c.args.store.now c.args.id.now c.if-id-ne-ID.true in
     record { result_value = both.0; store_after = both.1 }
 
+pub returns-in_err-z-clause-store_after : goal.returns-in_err-z-clause-store_after
+returns-in_err-z-clause-store_after c =
+    (erase_unfit c.args.store.now c.args.id.now c.if-id-ne-ID.false c.in_err-z.field-0.0 (sym c.in_err-z.ensures)).1
+
 pub erase_rows-requires : goal.erase_rows-requires
-erase_rows-requires c = checked (goal.at.erase_rows-requires c).In-Fit
+erase_rows-requires c = checked (goal.at.erase_rows-requires c).In_ok-z
 
-pub returns-in-Refused : goal.returns-in-Refused
-returns-in-Refused c =
-    let a = c.args in
-    let both = erase_unfit a.store.now a.id.now c.if-id-ne-ID.false c.in-Refused.r (sym c.sizes.ensures ∙ c.in-Refused.is) in
-    record { result_value = both.0; store_after = both.1 }
-
-pub returns-in-Fit : goal.returns-in-Fit
-returns-in-Fit c =
+pub returns : goal.returns
+returns c =
     let n = c.erase_rows in
-    let z = (goal.at.returns-in-Fit c).In-Fit in
+    let z = (goal.at.returns c).In_ok-z in
     let a = z.args in
-    let both = erase_fit a.store.now a.id.now c.if-id-ne-ID.false z.in-Fit.z (checked z) z.copy.new.to z.copy.ensures n.result n.new.store n.ensures.value n.ensures.store_after in
+    let both = erase_fit a.store.now a.id.now c.if-id-ne-ID.false z.in_ok-z.z (checked z) z.copy.new.to z.copy.ensures n.result n.new.store n.ensures.value n.ensures.store_after in
     record { result_value = both.0; store_after = both.1 }

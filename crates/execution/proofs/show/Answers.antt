@@ -1,7 +1,9 @@
 -- Each arm knows what the checks gave, the sizes' range among it.
 use mathlib.Core.Path.{refl, sym, ap, ◌∙◌}
 use mathlib.Core.List.{[]}
-use Rattle.store.specs.declared.Checked.{Checked}
+use Rattle.std.specs.Prelude.{Result}
+use Rattle.answer.specs.declared.Refusal.{Refusal}
+use Rattle.store.specs.declared.Shape.{Shape}
 use Rattle.store.proofs.Laws.{table_m, table_v, table_c, table_s, table_r, fits}
 use Rattle.request.specs.declared.Request.TheVariants.{Show}
 use Rattle.outcome.specs.declared.Outcome.TheVariants.{Done}
@@ -16,14 +18,14 @@ use Rattle.execution.proofs.show.Goals as goal
 
 pub shape-n-requires : goal.shape-n-requires
 shape-n-requires c =
-    let in-part = fits _ _ (sym c.sizes.ensures ∙ c.in-Fit.is) in
+    let in-part = fits _ _ (sym c.sizes.ensures ∙ c.in-Ok.is) in
     ((((in-part table_m).most, (in-part table_v).most), ((in-part table_c).most, ((in-part table_s).most, (in-part table_r).most))), search rules)
 
-pub returns-in-Refused : goal.returns-in-Refused
-returns-in-Refused c =
+pub returns-in-Err : goal.returns-in-Err
+returns-in-Err c =
     let s = c.args in
     let a = c.answered in
-    let x = sym c.sizes.ensures ∙ c.in-Refused.is in
+    let x = sym c.sizes.ensures ∙ c.in-Err.is in
     let e = shown_refused _ _ c.room_in-room.result _ x c.room_in-room.ensures.0 in
     ended Show [] s.store.now [] [] s.store.now _ a.result a.ensures.outcome_value (e, refl)
     (said (shown_text_lem _ _ _ x) a.ensures.put) a.ensures.put_2
@@ -32,6 +34,6 @@ pub returns-in-Fit : goal.returns-in-Fit
 unfolding message_line
 returns-in-Fit c =
     let s = c.args in
-    let x = sym c.sizes.ensures ∙ c.in-Fit.is in
-    ended Show [] s.store.now [] [] s.store.now Done _ refl (sym (ap (λ (z : Checked). show_by z (room_of s.store.now)) x), refl)
-    (said (sym (ap (λ (z : Checked). shown_text z Done) x)) c.shape-n.ensures) (nothing _)
+    let x = sym c.sizes.ensures ∙ c.in-Ok.is in
+    ended Show [] s.store.now [] [] s.store.now Done _ refl (sym (ap (λ (z : Result Shape Refusal). show_by z (room_of s.store.now)) x), refl)
+    (said (sym (ap (λ (z : Result Shape Refusal). shown_text z Done) x)) c.shape-n.ensures) (nothing _)

@@ -1,47 +1,32 @@
 -- The token is made or its making refused; then the operation's contract.
--- the making passed its tests, and the token was made
-use mathlib.Core.Path.{◌≡◌, sym, ap, ◌∙◌}
-use mathlib.Core.Option.{none}
+use mathlib.Core.Path.{sym, ap, ◌∙◌}
 use mathlib.Core.List.{[]}
-use Rattle.answer.specs.Answer.{refusal, completion}
-use Rattle.answer.specs.Verdict.{verdict}
+use Rattle.std.proofs.lemmas.Result.{err_from_is_err_and}
+use Rattle.scheme.specs.Keys.{mark_token}
 use Rattle.scheme.specs.Refusals.{field_token_tests}
 use Rattle.scheme.specs.Run.{test_call}
-use Rattle.scheme.specs.Keys.{mark_token}
 use Rattle.scheme.specs.Test
 use Rattle.suite.specs.Program.{program}
 use Rattle.client.specs.Making.{field_of}
-use Rattle.client.proofs.Making.{made, unmade, token_made, call_unmade, call_made}
+use Rattle.client.proofs.Making.{made, token_made, unmade_call, made_call}
 use Rattle.queries.proofs.test.Goals as goal
-use Rattle.queries.proofs.test.Lts.View as view
-use Rattle.queries.proofs.test.Goals.{In-Done}
 
-passed : (c : In-Done) →
+pub returns-in_err-mark_token : goal.returns-in_err-mark_token
+unfolding test_call
+returns-in_err-mark_token c =
     let a = c.args in
-    verdict (field_token_tests a.key.now (field_of a.name.now a.value.now)) ≡ none
-passed c = let a = c.args in
-    made (field_token_tests a.key.now (field_of a.name.now a.value.now)) (sym (ap completion c.in-Done.is) ∙ c.mark_token.ensures.result_value)
-
-token : (c : In-Done) →
-    let t = c in
-    let a = t.args in
-    t.mark_token.new.token ≡ mark_token program a.key.now (field_of a.name.now a.value.now)
-token c = let t = c in
-    let a = t.args in
     let f = field_of a.name.now a.value.now in
-    token_made (field_token_tests a.key.now f) (mark_token program a.key.now f) _ t.mark_token.new.token (passed c) t.mark_token.ensures.token_after
+    let ts = field_token_tests a.key.now f in
+    let g = unmade_call ts (Test.test program a.store.now a.id.now (mark_token program a.key.now f)) a.store.now [] c.in_err-mark_token.field-0.0 c.in_err-mark_token.ensures.result_value in
+    let p = err_from_is_err_and c.from_residual.result c.from_residual.ensures.1 in
+    rw (p.1, p.2) (sym (ap (λ r. r.answer) g))
 
-pub returns-in-Refused : goal.returns-in-Refused
+pub returns : goal.returns
 unfolding test_call
-returns-in-Refused c =
-    let t = c in
-    let a = t.args in
+returns c =
+    let a = c.args in
     let f = field_of a.name.now a.value.now in
-    sym (ap (λ r. r.answer) (call_unmade _ (Test.test program a.store.now a.id.now (mark_token program a.key.now f)) a.store.now [] (refusal c.in-Refused.r) (unmade (field_token_tests a.key.now f) c.in-Refused.r (sym (ap completion c.in-Refused.is) ∙ t.mark_token.ensures.result_value))))
-
-pub returns-in-Done : goal.returns-in-Done
-unfolding test_call
-returns-in-Done c =
-    let e = (goal.at.returns-in-Done c).In-Done in
-    let a = e.args in
-    c.test.ensures ∙ ap (λ r. r.answer) (ap (Test.test program a.store.now a.id.now) (token e) ∙ sym (call_made _ (Test.test program a.store.now a.id.now (mark_token program a.key.now (field_of a.name.now a.value.now))) a.store.now [] (passed e)))
+    let ts = field_token_tests a.key.now f in
+    let g = ap (Test.test program a.store.now a.id.now) (token_made ts (mark_token program a.key.now f) _ c.mark_token.new.token (made ts c.in_ok-mark_token.ensures.result_value) c.mark_token.ensures.token_after)
+    ∙ sym (made_call ts (Test.test program a.store.now a.id.now (mark_token program a.key.now f)) a.store.now [] c.in_ok-mark_token.ensures.result_value) in
+    c.test.ensures ∙ ap (λ r. r.answer) g
