@@ -1,12 +1,7 @@
 -- The quarter round (RFC 8439, 2.1) on four words, and on the words of a state at four places (2.2).
 -- Each line is one of the four lines of 2.1.
 use Rattle.std.specs.Prelude.{ℕ, List, [], ◌∷◌, slice_index, slice_set}
-use Rattle.chacha20_block.specs.declared.Quad.{Quad}
 use Rattle.chacha20_block.specs.Words.{◌⊞◌, ◌⊕◌, rotl}
-
--- the four words of the code's struct
-abbrev pub four : Quad → List ℕ
-four q = q.a ∷ q.b ∷ q.c ∷ q.d ∷ []
 
 unfoldable pub quarter_round : ℕ → ℕ → ℕ → ℕ → List ℕ
 quarter_round a b c d =

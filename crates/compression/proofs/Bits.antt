@@ -1,7 +1,29 @@
--- Shorter forms of Ch and Maj: numbers of one half and one last bit are equal, so by induction on k the forms agree below 2 ^ k.
+-- The rotations of the functions on words, and shorter forms of Ch and Maj: numbers of one half and one last bit are equal, so by induction on k the forms agree below 2 ^ k.
 use Rattle.std.proofs.Common.{◌≡◌, ℕ, zero, suc, ◌+◌, ◌-◌, ◌/◌, ◌%◌, ◌^◌, ◌<◌, refl, arith}
 use lib.Bits.{bit_and, bit_xor, and_shr, xor_shr, and_mod, xor_mod}
-use Rattle.compression.specs.Words.{inverse, Ch, Maj}
+use Rattle.std.specs.Int.{rotate_right}
+use mir.Syntax.{w32}
+use Rattle.compression.specs.Words.{inverse, Ch, Maj, Σ0, Σ1, σ0, σ1}
+
+-- ---- the rotations of std are the standard's
+
+pub big_sigma0 : (x a b c : ℕ) → a ≡ rotate_right w32 x 2 → b ≡ rotate_right w32 x 13 → c ≡ rotate_right w32 x 22 → bit_xor (bit_xor a b) c ≡ Σ0 x
+unfolding Σ0
+big_sigma0 x a b c e f g = rw (e, f, g)
+
+pub big_sigma1 : (x a b c : ℕ) → a ≡ rotate_right w32 x 6 → b ≡ rotate_right w32 x 11 → c ≡ rotate_right w32 x 25 → bit_xor (bit_xor a b) c ≡ Σ1 x
+unfolding Σ1
+big_sigma1 x a b c e f g = rw (e, f, g)
+
+pub small_sigma0 : (x a b : ℕ) → a ≡ rotate_right w32 x 7 → b ≡ rotate_right w32 x 18 → bit_xor (bit_xor a b) (x / 2 ^ 3) ≡ σ0 x
+unfolding σ0
+small_sigma0 x a b e f = rw (e, f)
+
+pub small_sigma1 : (x a b : ℕ) → a ≡ rotate_right w32 x 17 → b ≡ rotate_right w32 x 19 → bit_xor (bit_xor a b) (x / 2 ^ 10) ≡ σ1 x
+unfolding σ1
+small_sigma1 x a b e f = rw (e, f)
+
+-- ---- halves and last bits
 
 data Bit : ℕ → Type 0 where
   off : Bit 0

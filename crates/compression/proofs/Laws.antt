@@ -1,8 +1,8 @@
 -- Laws of the definitions: sums and lists part by part, a block's words by quads, and the turns in groups of sixteen are the standard's.
-use Rattle.std.proofs.Common.{◌≡◌, ℕ, zero, suc, ◌+◌, ◌-◌, ◌*◌, ◌/◌, ◌%◌, ◌<◌, ◌≤◌, List, [], ◌∷◌, ◌++◌, length, get_or, take, drop, sym, refl, ap, ◌∙◌, ap₂, append_assoc, append-nil, add-zero, add-suc, suc-add, zero-add, add-one, arith, length-append, length-drop, take-append-drop, get_or-drop, take_all, get_or-take, drop-drop, le-leb}
+use Rattle.std.proofs.Common.{◌≡◌, ℕ, zero, suc, ◌+◌, ◌-◌, ◌*◌, ◌<◌, ◌≤◌, List, [], ◌∷◌, ◌++◌, length, get_or, take, drop, sym, refl, ap, ◌∙◌, ap₂, append_assoc, append-nil, add-zero, add-suc, suc-add, zero-add, add-one, add_assoc, arith, length-append, length-drop, take-append-drop, get_or-drop, take_all, get_or-take, drop-drop, le-leb}
 use borrow.Author.Tests.{lt-leb}
 use lib.Seq.{take-append-le, drop-append-le}
-use Rattle.compression.specs.Words.{◌⊞◌}
+use Rattle.compression.specs.Words.{◌⊞◌, σ0, σ1}
 use Rattle.compression.specs.Schedule.{word, first_words, next, schedule}
 use Rattle.compression.specs.Compression.{step, steps, added, compress, compress_at}
 use Rattle.compression.specs.Groups.{slide, slides, due, turns, groups}
@@ -12,10 +12,6 @@ use Rattle.compression.specs.Constants.{K}
 
 pub sum : {r x y a b : ℕ} → r ≡ x ⊞ y → x ≡ a → y ≡ b → r ≡ a ⊞ b
 sum e f g = e ∙ ap₂ (λ (m n : ℕ). m ⊞ n) f g
-
-infixr 60 ◌then◌
-pub ◌then◌ : {x y : ℕ} {xs ys : List ℕ} → x ≡ y → xs ≡ ys → x ∷ xs ≡ y ∷ ys
-e then f = ap₂ (λ (x : ℕ) (xs : List ℕ). x ∷ xs) e f
 
 -- ---- a block's words
 
@@ -63,20 +59,9 @@ unfolding word
 word_here at m = rw (get_or-drop at m 0 0, get_or-drop at m 1 0, get_or-drop at m 2 0, get_or-drop at m 3 0, add-zero at)
 
 -- the word at a place is a word of the bytes from an earlier place on
-pub word_at : (at t : ℕ) (m : List ℕ) → word (drop (at + 4 * t) m) 0 ≡ word (drop at m) t
+word_at : (at t : ℕ) (m : List ℕ) → word (drop (at + 4 * t) m) 0 ≡ word (drop at m) t
 word_at at t m =
     ap (λ (l : List ℕ). word l 0) (sym (drop-drop (4 * t) at m)) ∙ word-drop t 0 (drop at m) ∙ ap (word (drop at m)) (add-zero t)
-
--- sixteen words by fours
-pub block_words : (at : ℕ) (m : List ℕ) →
-    first_words 4 (drop at m) ++ (first_words 4 (drop (at + 16) m) ++ (first_words 4 (drop (at + 32) m) ++ first_words 4 (drop (at + 48) m))) ≡ first_words 16 (take 64 (drop at m))
-block_words at m = sym (words_front 16 64 (drop at m) (omega arith) ∙ words_add 4 12 (drop at m) ∙ ap (λ (l : List ℕ). first_words 4 (drop at m) ++ l)
-    (ap (first_words 12) (drop-drop 16 at m) ∙ words_add 4 8 (drop (at + 16) m) ∙ ap (λ (l : List ℕ). first_words 4 (drop (at + 16) m) ++ l)
-    (ap (first_words 8) (place (at + 16) (at + 32) (omega arith)) ∙ words_add 4 4 (drop (at + 32) m)
-    ∙ ap (λ (l : List ℕ). first_words 4 (drop (at + 32) m) ++ l) (ap (first_words 4) (place (at + 32) (at + 48) (omega arith))))))
-  where
-    place : (a e : ℕ) → a + 16 ≡ e → drop 16 (drop a m) ≡ drop e m
-    place a e h = drop-drop 16 a m ∙ ap (λ (k : ℕ). drop k m) h
 
 -- ---- the schedule, sixteen words of it at a time
 
@@ -123,6 +108,60 @@ words_from : (t j : ℕ) (b : List ℕ) → drop t (schedule (t + j) b) ≡ drop
 words_from t j b =
     ap (drop t) (sym (take-append-drop (t + 16) (schedule (t + j) b)) ∙ ap (λ (l : List ℕ). l ++ drop (t + 16) (schedule (t + j) b)) (schedule_front j t b))
     ∙ drop-append-le t (schedule t b) (drop (t + 16) (schedule (t + j) b)) (omega (arith, length-schedule t b))
+
+-- ---- sixteen words, one by one
+
+listed : ℕ → (ℕ → ℕ) → List ℕ
+listed zero f = []
+listed (suc n) f = f 0 ∷ listed n (λ i. f (suc i))
+
+listed_is : (w : List ℕ) → w ≡ listed (length w) (λ i. get_or w i 0)
+unfolding listed
+listed_is [] = refl
+listed_is (x ∷ xs) = ap (λ (l : List ℕ). x ∷ l) (listed_is xs)
+
+sixteen : (w : List ℕ) → length w ≡ 16 → w ≡ listed 16 (λ i. get_or w i 0)
+sixteen w e = listed_is w ∙ ap (λ (n : ℕ). listed n (λ i. get_or w i 0)) e
+
+-- the words of a block, one by one
+pub words_read : (at : ℕ) (m ws : List ℕ) → length ws ≡ 16
+    → get_or ws 0 0 ≡ word (drop at m) 0
+    → get_or ws 1 0 ≡ word (drop (at + 4) m) 0
+    → get_or ws 2 0 ≡ word (drop (at + 8) m) 0
+    → get_or ws 3 0 ≡ word (drop (at + 12) m) 0
+    → get_or ws 4 0 ≡ word (drop (at + 16) m) 0
+    → get_or ws 5 0 ≡ word (drop (at + 20) m) 0
+    → get_or ws 6 0 ≡ word (drop (at + 24) m) 0
+    → get_or ws 7 0 ≡ word (drop (at + 28) m) 0
+    → get_or ws 8 0 ≡ word (drop (at + 32) m) 0
+    → get_or ws 9 0 ≡ word (drop (at + 36) m) 0
+    → get_or ws 10 0 ≡ word (drop (at + 40) m) 0
+    → get_or ws 11 0 ≡ word (drop (at + 44) m) 0
+    → get_or ws 12 0 ≡ word (drop (at + 48) m) 0
+    → get_or ws 13 0 ≡ word (drop (at + 52) m) 0
+    → get_or ws 14 0 ≡ word (drop (at + 56) m) 0
+    → get_or ws 15 0 ≡ word (drop (at + 60) m) 0
+    → ws ≡ first_words 16 (take 64 (drop at m))
+unfolding listed first_words
+words_read at m ws e h0 h1 h2 h3 h4 h5 h6 h7 h8 h9 h10 h11 h12 h13 h14 h15 =
+    sixteen ws e ∙ rw (h0, h1, h2, h3, h4, h5, h6, h7, h8, h9, h10, h11, h12, h13, h14, h15)
+    (rw (word_at at 1 m, word_at at 2 m, word_at at 3 m, word_at at 4 m, word_at at 5 m, word_at at 6 m, word_at at 7 m, word_at at 8 m, word_at at 9 m, word_at at 10 m, word_at at 11 m, word_at at 12 m, word_at at 13 m, word_at at 14 m, word_at at 15 m) (sym (words_front 16 64 (drop at m) (omega arith))))
+
+-- the four words that follow
+pub four_more : (w : List ℕ) (a b c d : ℕ) → length w ≡ 16
+    → a ≡ σ1 (get_or w 14 0) ⊞ get_or w 9 0 ⊞ σ0 (get_or w 1 0) ⊞ get_or w 0 0
+    → b ≡ σ1 (get_or w 15 0) ⊞ get_or w 10 0 ⊞ σ0 (get_or w 2 0) ⊞ get_or w 1 0
+    → c ≡ σ1 (a) ⊞ get_or w 11 0 ⊞ σ0 (get_or w 3 0) ⊞ get_or w 2 0
+    → d ≡ σ1 (b) ⊞ get_or w 12 0 ⊞ σ0 (get_or w 4 0) ⊞ get_or w 3 0
+    → get_or w 4 0 ∷ get_or w 5 0 ∷ get_or w 6 0 ∷ get_or w 7 0 ∷ get_or w 8 0 ∷ get_or w 9 0 ∷ get_or w 10 0 ∷ get_or w 11 0 ∷ get_or w 12 0 ∷ get_or w 13 0 ∷ get_or w 14 0 ∷ get_or w 15 0 ∷ a ∷ b ∷ c ∷ d ∷ [] ≡ slides 4 w
+unfolding listed slides slide next
+four_more w a b c d e ha hb hc hd = rw (hd, hc, hb, ha) (sym (ap (slides 4) (sixteen w e)))
+
+-- sixteen turns, one by one
+pub turns_written : (t : ℕ) (k w s : List ℕ) → length w ≡ 16
+    → turns t k w s ≡ step (get_or k (t + 15) 0) (get_or w 15 0) (step (get_or k (t + 14) 0) (get_or w 14 0) (step (get_or k (t + 13) 0) (get_or w 13 0) (step (get_or k (t + 12) 0) (get_or w 12 0) (step (get_or k (t + 11) 0) (get_or w 11 0) (step (get_or k (t + 10) 0) (get_or w 10 0) (step (get_or k (t + 9) 0) (get_or w 9 0) (step (get_or k (t + 8) 0) (get_or w 8 0) (step (get_or k (t + 7) 0) (get_or w 7 0) (step (get_or k (t + 6) 0) (get_or w 6 0) (step (get_or k (t + 5) 0) (get_or w 5 0) (step (get_or k (t + 4) 0) (get_or w 4 0) (step (get_or k (t + 3) 0) (get_or w 3 0) (step (get_or k (t + 2) 0) (get_or w 2 0) (step (get_or k (t + 1) 0) (get_or w 1 0) (step (get_or k t 0) (get_or w 0 0) s)))))))))))))))
+unfolding listed turns
+turns_written t k w s e = ap (λ (l : List ℕ). turns t k l s) (sixteen w e) ∙ simp add_assoc
 
 pub by_fours : (w : List ℕ) → slides 4 (slides 4 (slides 4 (slides 4 w))) ≡ slides 16 w
 unfolding slides
@@ -191,22 +230,25 @@ unfolding schedule
 all_groups b k s = groups_are 4 0 b k s refl
 
 -- one group more of those that are left
-pub group_more : (t : ℕ) (k w s : List ℕ) → t % 16 ≡ 0 → t < 64
-    → groups ((64 - t) / 16) t k w s ≡ groups ((64 - (t + 16)) / 16) (t + 16) k (due (t + 16) w) (turns t k w s)
+pub group_more : (i : ℕ) (k w s : List ℕ) → i < 4
+    → groups (4 - i) (16 * i) k w s ≡ groups (4 - (i + 1)) (16 * (i + 1)) k (due (16 * (i + 1)) w) (turns (16 * i) k w s)
 unfolding groups
-group_more t k w s e h =
-    ap (λ (n : ℕ). groups n t k w s) (split t e h)
-    ∙ ap (λ (l : List ℕ). groups ((64 - (t + 16)) / 16) (t + 16) k l (turns t k w s)) (due_later (t + 16) w (λ z. omega arith))
+group_more i k w s h =
+    ap (λ (n : ℕ). groups n (16 * i) k w s) (split i h)
+    ∙ ap₂ (λ (t : ℕ) (l : List ℕ). groups (4 - (i + 1)) t k l (turns (16 * i) k w s)) (later i) (due_later (16 * (i + 1)) w (λ z. omega arith))
   where
-    split : (t : ℕ) → t % 16 ≡ 0 → t < 64 → (64 - t) / 16 ≡ suc ((64 - (t + 16)) / 16)
-    split t e h = omega arith
+    split : (i : ℕ) → i < 4 → 4 - i ≡ suc (4 - (i + 1))
+    split i h = omega arith
 
-pub group_none : (t : ℕ) (k w s : List ℕ) → 64 ≤ t → groups ((64 - t) / 16) t k w s ≡ s
+    later : (i : ℕ) → 16 * i + 16 ≡ 16 * (i + 1)
+    later i = omega arith
+
+pub group_none : (i t : ℕ) (k w s : List ℕ) → 4 ≤ i → groups (4 - i) t k w s ≡ s
 unfolding groups
-group_none t k w s h = ap (λ (n : ℕ). groups n t k w s) (none t h)
+group_none i t k w s h = ap (λ (n : ℕ). groups n t k w s) (none i h)
   where
-    none : (t : ℕ) → 64 ≤ t → (64 - t) / 16 ≡ zero
-    none t h = omega arith
+    none : (i : ℕ) → 4 ≤ i → 4 - i ≡ zero
+    none i h = omega arith
 
 -- ---- the block at a place
 

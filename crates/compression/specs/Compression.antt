@@ -1,5 +1,5 @@
 -- The compression of one block (FIPS 180-4, 6.2.2). A hash value is the list of its eight words, a to h or H0 to H7.
-use Rattle.std.specs.Prelude.{ℕ, zero, suc, ◌+◌, ◌*◌, cond, List, [], ◌∷◌, length, take, drop, nat_le, slice_index, slice_index_or}
+use Rattle.std.specs.Prelude.{ℕ, zero, suc, ◌+◌, cond, List, [], ◌∷◌, length, take, drop, nat_le, slice_index, slice_index_or}
 use Rattle.compression.specs.declared.State.{State}
 use Rattle.compression.specs.Words.{◌⊞◌, Ch, Maj, Σ0, Σ1}
 use Rattle.compression.specs.Constants.{K}
@@ -7,7 +7,7 @@ use Rattle.compression.specs.Schedule.{schedule}
 
 -- the eight words of the code's struct
 abbrev pub words : State → List ℕ
-words s = s.a ∷ s.b ∷ s.c ∷ s.d ∷ s.e ∷ s.f ∷ s.g ∷ s.h ∷ []
+words s = s.words
 
 unfoldable pub T1 : ℕ → ℕ → List ℕ → ℕ
 T1 k w s = slice_index_or s 7 0 ⊞ Σ1 (slice_index s 4) ⊞ Ch (slice_index s 4) (slice_index s 5) (slice_index s 6) ⊞ k ⊞ w

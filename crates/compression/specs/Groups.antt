@@ -1,19 +1,7 @@
 -- The 64 turns of a compression in four groups of sixteen: the words that a group takes are made of those of the group before.
 use Rattle.std.specs.Prelude.{ℕ, zero, suc, ◌+◌, List, [], ◌∷◌, ◌++◌, drop, slice_index}
-use Rattle.compression.specs.declared.schedule.Quad.{Quad}
-use Rattle.compression.specs.declared.schedule.Group.{Group}
 use Rattle.compression.specs.Schedule.{next}
 use Rattle.compression.specs.Compression.{step}
-
--- the words of the code's structs
-abbrev pub quad : Quad → List ℕ
-quad q = q.a ∷ q.b ∷ q.c ∷ q.d ∷ []
-
-abbrev pub sixteen : Quad → Quad → Quad → Quad → List ℕ
-sixteen p q r s = quad p ++ (quad q ++ (quad r ++ quad s))
-
-abbrev pub group : Group → List ℕ
-group g = sixteen g.p g.q g.r g.s
 
 -- sixteen words of a schedule without the first of them, and the word that follows
 unfoldable pub slide : List ℕ → List ℕ

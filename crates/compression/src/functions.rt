@@ -18,28 +18,30 @@ pub fn maj(x: u32, y: u32, z: u32) -> u32
     y ^ ((x ^ y) & (y ^ z))
 }
 
-// Σ0 and Σ1.
-pub fn large0(x: u32) -> u32
+#[tactic(auto, using(crate::proofs::Bits::big_sigma0))]
+pub fn big_sigma0(x: u32) -> u32
     ensures { result ≡ Σ0 x }
 {
-    ((x >> 2) | (x << 30)) ^ ((x >> 13) | (x << 19)) ^ ((x >> 22) | (x << 10))
+    x.rotate_right(2) ^ x.rotate_right(13) ^ x.rotate_right(22)
 }
 
-pub fn large1(x: u32) -> u32
+#[tactic(auto, using(crate::proofs::Bits::big_sigma1))]
+pub fn big_sigma1(x: u32) -> u32
     ensures { result ≡ Σ1 x }
 {
-    ((x >> 6) | (x << 26)) ^ ((x >> 11) | (x << 21)) ^ ((x >> 25) | (x << 7))
+    x.rotate_right(6) ^ x.rotate_right(11) ^ x.rotate_right(25)
 }
 
-// σ0 and σ1.
-pub fn small0(x: u32) -> u32
+#[tactic(auto, using(crate::proofs::Bits::small_sigma0))]
+pub fn small_sigma0(x: u32) -> u32
     ensures { result ≡ σ0 x }
 {
-    ((x >> 7) | (x << 25)) ^ ((x >> 18) | (x << 14)) ^ (x >> 3)
+    x.rotate_right(7) ^ x.rotate_right(18) ^ (x >> 3)
 }
 
-pub fn small1(x: u32) -> u32
+#[tactic(auto, using(crate::proofs::Bits::small_sigma1))]
+pub fn small_sigma1(x: u32) -> u32
     ensures { result ≡ σ1 x }
 {
-    ((x >> 17) | (x << 15)) ^ ((x >> 19) | (x << 13)) ^ (x >> 10)
+    x.rotate_right(17) ^ x.rotate_right(19) ^ (x >> 10)
 }

@@ -4,14 +4,13 @@
 ghost use Rattle.std.specs.Prelude.{◌≡◌, ◌+◌, ◌<◌, ◌≤◌, slice_index};
 ghost use Rattle.compression.specs.Constants.{K as constants};
 ghost use Rattle.compression.specs.Compression.{words, step, added, compress_at};
-ghost use Rattle.compression.specs.Groups.{group, turns, groups};
+ghost use Rattle.compression.specs.Groups.{turns, groups};
 
 mod functions;
 mod schedule;
 
-use functions::{ch, large0, large1, maj};
-use schedule::{Group, due, load};
-use std::num::wrapping_add_u32;
+use functions::{big_sigma0, big_sigma1, ch, maj};
+use schedule::{due, load};
 
 // The round constants (4.2.2): one table, of which a compression reads a copy of its own. [01:KF5 FM4]
 const K: [u32; 64] = [
@@ -84,14 +83,7 @@ const K: [u32; 64] = [
 // A hash value: its eight words, a to h in a compression, H0 to H7 between blocks.
 #[derive(Clone, Copy)]
 pub struct State {
-    pub a: u32,
-    pub b: u32,
-    pub c: u32,
-    pub d: u32,
-    pub e: u32,
-    pub f: u32,
-    pub g: u32,
-    pub h: u32,
+    pub words: [u32; 8],
 }
 
 // One turn of step 3. [01:KF4 FM5]
@@ -99,81 +91,56 @@ pub struct State {
 fn step(s: State, k: u32, w: u32) -> State
     ensures { words result ≡ step k w (words s) }
 {
-    let t1 = wrapping_add_u32(
-        wrapping_add_u32(
-            wrapping_add_u32(wrapping_add_u32(s.h, large1(s.e)), ch(s.e, s.f, s.g)),
-            k,
-        ),
-        w,
-    );
-    let t2 = wrapping_add_u32(large0(s.a), maj(s.a, s.b, s.c));
+    let [a, b, c, d, e, f, g, h] = s.words;
+    let t1 = h
+        .wrapping_add(big_sigma1(e))
+        .wrapping_add(ch(e, f, g))
+        .wrapping_add(k)
+        .wrapping_add(w);
+    let t2 = big_sigma0(a).wrapping_add(maj(a, b, c));
     State {
-        a: wrapping_add_u32(t1, t2),
-        b: s.a,
-        c: s.b,
-        d: s.c,
-        e: wrapping_add_u32(s.d, t1),
-        f: s.e,
-        g: s.f,
-        h: s.g,
+        words: [t1.wrapping_add(t2), a, b, c, d.wrapping_add(t1), e, f, g],
     }
 }
 
-// Turn t with a word of the schedule, and the constant that belongs to it.
-fn turn<'a>(s: State, k: &'a [u32; 64], t: usize, w: u32) -> State
-    requires { t < 64 }
-    ensures { words result ≡ step (slice_index k.now t) w (words s) }
-{
-    step(s, k[t], w)
-}
-
-// Sixteen turns from turn t on, written out and called at one place, so that the compiler inlines them.
-#[tactic(auto, unfolding(crate::specs::Groups::turns))]
-fn turns<'a>(s: State, k: &'a [u32; 64], t: usize, w: Group) -> State
+// Sixteen turns from turn t on, written out and called at one place, so that the compiler inlines them and
+// the places of the words are constants: loops over them were a third slower.
+#[tactic(auto, using(crate::proofs::Laws::turns_written))]
+fn turns(s: State, k: &[u32; 64], t: usize, w: [u32; 16]) -> State
     requires { t + 16 ≤ 64 }
-    ensures { words result ≡ turns t k.now (group w) (words s) }
+    ensures { words result ≡ turns t k.now w (words s) }
 {
-    let p = w.p;
-    let q = w.q;
-    let r = w.r;
-    let z = w.s;
-    let t1 = t + 1;
-    let t2 = t1 + 1;
-    let t3 = t2 + 1;
-    let t4 = t3 + 1;
-    let t5 = t4 + 1;
-    let t6 = t5 + 1;
-    let t7 = t6 + 1;
-    let t8 = t7 + 1;
-    let t9 = t8 + 1;
-    let t10 = t9 + 1;
-    let t11 = t10 + 1;
-    let t12 = t11 + 1;
-    let t13 = t12 + 1;
-    let t14 = t13 + 1;
-    let s2 = turn(turn(s, k, t, p.a), k, t1, p.b);
-    let s4 = turn(turn(s2, k, t2, p.c), k, t3, p.d);
-    let s6 = turn(turn(s4, k, t4, q.a), k, t5, q.b);
-    let s8 = turn(turn(s6, k, t6, q.c), k, t7, q.d);
-    let s10 = turn(turn(s8, k, t8, r.a), k, t9, r.b);
-    let s12 = turn(turn(s10, k, t10, r.c), k, t11, r.d);
-    let s14 = turn(turn(s12, k, t12, z.a), k, t13, z.b);
-    turn(turn(s14, k, t14, z.c), k, t14 + 1, z.d)
+    let s = step(s, k[t], w[0]);
+    let s = step(s, k[t + 1], w[1]);
+    let s = step(s, k[t + 2], w[2]);
+    let s = step(s, k[t + 3], w[3]);
+    let s = step(s, k[t + 4], w[4]);
+    let s = step(s, k[t + 5], w[5]);
+    let s = step(s, k[t + 6], w[6]);
+    let s = step(s, k[t + 7], w[7]);
+    let s = step(s, k[t + 8], w[8]);
+    let s = step(s, k[t + 9], w[9]);
+    let s = step(s, k[t + 10], w[10]);
+    let s = step(s, k[t + 11], w[11]);
+    let s = step(s, k[t + 12], w[12]);
+    let s = step(s, k[t + 13], w[13]);
+    let s = step(s, k[t + 14], w[14]);
+    step(s, k[t + 15], w[15])
 }
 
 // The 64 turns of step 3, sixteen at a time, of a block's words.
-#[tactic(auto, using(crate::proofs::Laws::group_more, crate::proofs::Laws::group_none), unfolding(crate::specs::Groups::due, crate::specs::Constants::K))]
-fn rounds(s: State, first: Group) -> State
-    ensures { words result ≡ groups 4 0 constants (group first) (words s) }
+#[tactic(auto, unfolding(crate::specs::Groups::due, crate::specs::Constants::K))]
+fn rounds(s: State, first: [u32; 16]) -> State
+    ensures { words result ≡ groups 4 0 constants first (words s) }
 {
     let k = K;
     let mut w = first;
     let mut v = s;
-    let mut t = 0;
-    while t < 64 {
-        w = due(w, t);
-        v = turns(v, &k, t, w);
-        t += 16;
+    for i in 0..4 {
+        let t = 16 * i;
+        let here = due(w, t);
+        v = turns(v, &k, t, here);
+        w = here;
     }
     v
 }
@@ -184,14 +151,7 @@ fn added(s: State, v: State) -> State
     ensures { words result ≡ added (words s) (words v) }
 {
     State {
-        a: wrapping_add_u32(s.a, v.a),
-        b: wrapping_add_u32(s.b, v.b),
-        c: wrapping_add_u32(s.c, v.c),
-        d: wrapping_add_u32(s.d, v.d),
-        e: wrapping_add_u32(s.e, v.e),
-        f: wrapping_add_u32(s.f, v.f),
-        g: wrapping_add_u32(s.g, v.g),
-        h: wrapping_add_u32(s.h, v.h),
+        words: std::array::from_fn(|i| s.words[i].wrapping_add(v.words[i])),
     }
 }
 
@@ -201,10 +161,7 @@ fn added(s: State, v: State) -> State
 pub fn compress(s: State, m: &[u8], at: usize) -> State
     ensures { words result ≡ compress_at (words s) m.now at }
 {
-    if m.len() < 64 {
-        return s;
-    }
-    if m.len() - 64 < at {
+    if m.len() < 64 || m.len() - 64 < at {
         return s;
     }
     added(s, rounds(s, load(m, at)))

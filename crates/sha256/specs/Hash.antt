@@ -1,5 +1,5 @@
 -- The hash of a message (FIPS 180-4, 6.2), and what the public call answers and leaves.
-use Rattle.std.specs.Prelude.{ℕ, zero, suc, ◌+◌, ◌*◌, ◌/◌, List, [], ◌∷◌, ◌++◌, length, take, drop, ltb}
+use Rattle.std.specs.Prelude.{ℕ, zero, suc, ◌+◌, ◌/◌, List, [], ◌∷◌, ◌++◌, length, take, drop, ltb}
 use Rattle.answer.specs.Answer.{Answer, done}
 use Rattle.answer.specs.Verdict.{Test, ◌⇒◌, verdict, answer_or, unless_refused}
 use Rattle.sha256.specs.Constants.{H0}

@@ -18,14 +18,16 @@ pub fn initial() -> State
     ensures { words result ≡ H0 }
 {
     State {
-        a: 0x6a09_e667,
-        b: 0xbb67_ae85,
-        c: 0x3c6e_f372,
-        d: 0xa54f_f53a,
-        e: 0x510e_527f,
-        f: 0x9b05_688c,
-        g: 0x1f83_d9ab,
-        h: 0x5be0_cd19,
+        words: [
+            0x6a09_e667,
+            0xbb67_ae85,
+            0x3c6e_f372,
+            0xa54f_f53a,
+            0x510e_527f,
+            0x9b05_688c,
+            0x1f83_d9ab,
+            0x5be0_cd19,
+        ],
     }
 }
 
@@ -107,7 +109,7 @@ pub fn digest(s: State, to: &mut [u8])
     requires { length to.old ≡ 32 }
     ensures { to.new ≡ digest (words s) }
 {
-    let w = [s.a, s.b, s.c, s.d, s.e, s.f, s.g, s.h];
+    let w = s.words;
     let mut i = 0;
     while i < 8 {
         let at = 4 * i;
