@@ -1,15 +1,15 @@
 -- What a command line asks for, by its words: word 0 is the command's own.
-use Rattle.std.specs.Prelude.{ℕ, zero, suc, ◌+◌, ◌-◌, ◌/◌, ◌%◌, ◌≤◌, min, Bool, true, false, cond, List, ltb, eqb}
+use Rattle.std.specs.Prelude.{ℕ, zero, suc, ◌+◌, ◌-◌, ◌/◌, ◌%◌, ◌≤◌, min, Bool, true, false, cond, List, Option, Some, None, Result, Ok, Err, ltb, eqb}
 use Rattle.octets.specs.Compare.{same}
 use Rattle.text.specs.Ascii.{ascii}
 use Rattle.text.specs.Hex.{is_id_of}
 use Rattle.words.specs.Decimal.{decimal_of}
 use Rattle.words.specs.Words.{command_of, words_fit}
 use Rattle.words.specs.Line.{word_at, word_count}
-use Rattle.words.specs.declared.Parsed.{Parsed}
-use Rattle.words.specs.declared.Parsed.TheVariants.{Number, Bad}
 use Rattle.words.specs.declared.Command.{Command}
 use Rattle.words.specs.declared.Command.TheVariants.{New as New₀, Key as Key₀, Insert as Insert₀, Find as Find₀, Count as Count₀, Erase as Erase₀, Compact as Compact₀, Order as Order₀, Token as Token₀, Show as Show₀, Check as Check₀, Help as Help₀, Unknown}
+use Rattle.request.specs.declared.Wrong.{Wrong}
+use Rattle.request.specs.declared.Wrong.TheVariants.{Misused as Misused₁, NotNumber as NotNumber₁, NotId as NotId₁}
 use Rattle.request.specs.declared.Request.{Request}
 use Rattle.request.specs.declared.Request.TheVariants.{Help, Misused, NotNumber, NotId, New, Key, Insert, Find, Count, Erase, Compact, Order, Show, Check, InsertToken, FindToken, CountToken, CompactionToken, InsertBy, FindBy, CountBy, CompactBy}
 
@@ -17,10 +17,21 @@ abbrev pub pick_request : Bool → Request → Request → Request
 pick_request true a b = a
 pick_request false a b = b
 
+-- what a line asks for that is wrong
+abbrev pub wrong_of : Wrong → Request
+wrong_of (Misused₁ c) = Misused c
+wrong_of (NotNumber₁ i) = NotNumber i
+wrong_of (NotId₁ i) = NotId i
+
+-- what is told of a line, right or wrong
+abbrev pub told : Result Request Wrong → Request
+told (Ok r) = r
+told (Err w) = wrong_of w
+
 -- what is made of word i as a number
-abbrev pub with_number : Parsed → ℕ → (ℕ → Request) → Request
-with_number (Number n) i f = f n
-with_number Bad i f = NotNumber i
+abbrev pub with_number : Option ℕ → ℕ → (ℕ → Request) → Request
+with_number (Some n) i f = f n
+with_number None i f = NotNumber i
 
 abbrev pub number_at : ℕ → List ℕ → (ℕ → Request) → Request
 number_at i line f = with_number (decimal_of (word_at i line)) i f
@@ -66,6 +77,12 @@ unfoldable pub count_of : ℕ → Request → Request → List ℕ → Request
 count_of n plain rows line =
     pick_request (eqb (word_count line) n) plain
     (pick_request (eqb (word_count line) (n + 1)) (pick_request (same (word_at n line) (ascii "--rows")) rows (Misused Count₀)) (Misused Count₀))
+
+-- whether a count of so many words asks for the rows looked at
+abbrev pub rows_of : ℕ → List ℕ → Result Bool Wrong
+rows_of n line =
+    cond (eqb (word_count line) n) (Ok false)
+    (cond (eqb (word_count line) (n + 1)) (cond (same (word_at n line) (ascii "--rows")) (Ok true) (Err (Misused₁ Count₀))) (Err (Misused₁ Count₀)))
 
 -- erase STORE ID
 unfoldable pub erase_of : List ℕ → Request
