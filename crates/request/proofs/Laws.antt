@@ -15,7 +15,7 @@ use Rattle.words.specs.Decimal.{decimal_of}
 use Rattle.std.specs.Prelude.{Option, Some, None}
 use Rattle.words.specs.declared.Command.{Command}
 use Rattle.words.specs.declared.Command.TheVariants.{New as New₀, Key as Key₀, Insert as Insert₀, Find as Find₀, Count as Count₀, Erase as Erase₀, Compact as Compact₀, Order as Order₀, Token as Token₀, Show as Show₀, Check as Check₀, Help as Help₀, Unknown}
-use Rattle.request.specs.Request.{with_number, ids_from, first_bad, ids_given, new_of, insert_of, insert_by_of, find_of, count_of, erase_of, insert_token_of, making_by, making_of, pick_request, has_token, request_by, request_with, request_of, Bounded}
+use Rattle.request.specs.Request.{with_number, ids_from, first_bad, ids_given, new_of, insert_of, insert_by_of, find_of, count_of, erase_of, insert_token_of, making_by, making_of, has_token, request_by, request_with, request_of, Bounded}
 use Rattle.request.specs.declared.Request.{Request}
 use Rattle.request.specs.declared.Request.TheVariants.{Misused, NotId, Insert, Find, Count, Erase, Compact, FindToken, CountToken, CompactionToken, InsertBy, FindBy, CountBy, CompactBy}
 
@@ -39,24 +39,24 @@ module _ (line : List ℕ) (at end : ℕ) where
 
 -- a line of as many words as its command takes, and another
 module _ (line : List ℕ) (c : Command) (t b : Bool) (k : ℕ) (e : c ≡ command_of (word_at 0 line)) (g : t ≡ has_token line) (n : k ≡ word_count line) (f : b ≡ words_fit c t k) where
-  asked_as : pick_request b (request_by c t line) (Misused c) ≡ request_of line
+  asked_as : cond b (request_by c t line) (Misused c) ≡ request_of line
   unfolding request_of
   asked_as =
-      ap (λ (x : Bool). pick_request x (request_by c t line) (Misused c)) (f ∙ ap (words_fit c t) n)
+      ap (λ (x : Bool). cond x (request_by c t line) (Misused c)) (f ∙ ap (words_fit c t) n)
       ∙ ap₂ (λ (x : Command) (y : Bool). request_with x y line) e g
 
   pub asked : b ≡ true → request_by c t line ≡ request_of line
-  asked h = sym (ap (λ (x : Bool). pick_request x (request_by c t line) (Misused c)) h) ∙ asked_as
+  asked h = sym (ap (λ (x : Bool). cond x (request_by c t line) (Misused c)) h) ∙ asked_as
 
   pub misused : b ≡ false → Misused c ≡ request_of line
-  misused h = sym (ap (λ (x : Bool). pick_request x (request_by c t line) (Misused c)) h) ∙ asked_as
+  misused h = sym (ap (λ (x : Bool). cond x (request_by c t line) (Misused c)) h) ∙ asked_as
 
 -- every request is bounded
 bounded_number : (d : Option ℕ) (i : ℕ) (f : ℕ → Request) → ((n : ℕ) → Bounded (f n)) → Bounded (with_number d i f)
 bounded_number (Some n) i f h = h n
 bounded_number None i f h = tt
 
-bounded_pick : (b : Bool) (p q : Request) → Bounded p → Bounded q → Bounded (pick_request b p q)
+bounded_pick : (b : Bool) (p q : Request) → Bounded p → Bounded q → Bounded (cond b p q)
 bounded_pick true p q h k = h
 bounded_pick false p q h k = k
 
@@ -82,7 +82,7 @@ bounded_ids line first f h =
     bounded_pick (ltb (first_bad (ids_given first line) first line) (first + ids_given first line)) (NotId (first_bad (ids_given first line) first line)) (f (ids_given first line)) tt (h (ids_given first line) (omega arith))
 
 -- a number of pairs is told where it is at most 8
-bounded_pairs : (n : ℕ) (b : Bool) → ltb 8 n ≡ b → Bounded (pick_request b (Misused Find₀) (Find n))
+bounded_pairs : (n : ℕ) (b : Bool) → ltb 8 n ≡ b → Bounded (cond b (Misused Find₀) (Find n))
 bounded_pairs n true e = tt
 bounded_pairs n false e = omega (arith, ltb-false 8 n e)
 

@@ -9,7 +9,7 @@ ghost use Rattle.request.specs.Request.{first_bad, ids_given, new_of, insert_of,
 use words::{Command, line};
 
 // What is asked for. Words are counted from 0, the command's own.
-#[derive(Clone, Copy)]
+#[derive(Clone, Copy, Debug, PartialEq, Eq)]
 pub enum Request {
     // What a command takes, or every command.
     Help(Command),

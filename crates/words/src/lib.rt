@@ -58,7 +58,7 @@ pub fn is(word: &[u8], name: &[u8]) -> bool
     word == name
 }
 
-// The command that a word names.
+// The command that a word names. A chain of tests: the check leaves arms of a `match` on byte strings open, those of six bytes and more.
 pub fn command_of(word: &[u8]) -> Command
     ensures { result ≡ command_of word.now }
 {
