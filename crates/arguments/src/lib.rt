@@ -46,14 +46,12 @@ pub fn gather(rt: &HostRuntime, to: &mut [u8]) -> Loaded
 {
     let count = count(rt);
     let mut at = 0;
-    let mut i = 1;
-    while i < count {
+    for i in 1..count {
         let n = put_word(rt, i, &mut to[at..]);
         if n == 0 {
             return Loaded { n: 0, whole: false };
         }
         at += n;
-        i += 1;
     }
     Loaded { n: at, whole: true }
 }

@@ -9,29 +9,29 @@ ghost use Rattle.diagnosis.specs.Diagnosis.{fault_line, tag_lines, entry_lines, 
 use answer::Faults;
 use buffer::{put, put_counted};
 
-const TWO_ENTRIES: [u8; 124] =
-    *b"  a find gives only the first entry of a tag, so a document may be missing from it, and an erase of one takes the others too";
+const TWO_ENTRIES: &[u8] =
+    b"  a find gives only the first entry of a tag, so a document may be missing from it, and an erase of one takes the others too";
 
-const TWO_COUNTERS: [u8; 155] =
-    *b"  make no insert: only the first counter of a tag is read, so a count may be wrong, and an insert may take an address in use and hide a document from finds";
+const TWO_COUNTERS: &[u8] =
+    b"  make no insert: only the first counter of a tag is read, so a count may be wrong, and an insert may take an address in use and hide a document from finds";
 
-const NO_ENTRY: [u8; 84] =
-    *b"  a find does not give these entries, though an erase of their ids still counts them";
+const NO_ENTRY: &[u8] =
+    b"  a find does not give these entries, though an erase of their ids still counts them";
 
-const NO_REVERSE: [u8; 77] =
-    *b"  no erase takes these entries, so a find may give a document that was erased";
+const NO_REVERSE: &[u8] =
+    b"  no erase takes these entries, so a find may give a document that was erased";
 
-const NO_LABEL: [u8; 81] =
-    *b"  a find by several fields leaves these documents out, and a test of them says no";
+const NO_LABEL: &[u8] =
+    b"  a find by several fields leaves these documents out, and a test of them says no";
 
-const NO_DOCUMENT: [u8; 109] =
-    *b"  a test may say yes of a document that has no entry, and an erase of its id frees these labels and answers 0";
+const NO_DOCUMENT: &[u8] =
+    b"  a test may say yes of a document that has no entry, and an erase of its id frees these labels and answers 0";
 
-const EXCESS: [u8; 147] =
-    *b"  an id has more labels than reverse rows: a find by several fields may give it under a field that it is not under, and 21 may refuse inserts early";
+const EXCESS: &[u8] =
+    b"  an id has more labels than reverse rows: a find by several fields may give it under a field that it is not under, and 21 may refuse inserts early";
 
-const RESTORE: [u8; 90] =
-    *b": restore a copy in which check counts none, then make the later inserts and erases again\n";
+const RESTORE: &[u8] =
+    b": restore a copy in which check counts none, then make the later inserts and erases again\n";
 
 // A kind of fault with its number; where that is not 0, what it means and what to do.
 fn put_fault(to: &mut [u8], at: usize, what: &[u8], n: u64, means: &[u8]) -> usize
@@ -44,7 +44,7 @@ fn put_fault(to: &mut [u8], at: usize, what: &[u8], n: u64, means: &[u8]) -> usi
         return b;
     }
     let e = put(to, b, means);
-    put(to, e, &RESTORE)
+    put(to, e, RESTORE)
 }
 
 // Rows of M and of C that have the tag of another.
@@ -57,14 +57,14 @@ fn put_tags(f: Faults, to: &mut [u8]) -> usize
         0,
         b"entries (M) whose tag an earlier entry has: ",
         f.mm,
-        &TWO_ENTRIES,
+        TWO_ENTRIES,
     );
     put_fault(
         to,
         e,
         b"counters (C) whose tag an earlier counter has: ",
         f.cc,
-        &TWO_COUNTERS,
+        TWO_COUNTERS,
     )
 }
 
@@ -78,14 +78,14 @@ fn put_entries(f: Faults, to: &mut [u8], at: usize) -> usize
         at,
         b"reverse rows (V) whose tag no entry has: ",
         f.vm,
-        &NO_ENTRY,
+        NO_ENTRY,
     );
     put_fault(
         to,
         e,
         b"entries (M) whose tag no reverse row has: ",
         f.mv,
-        &NO_REVERSE,
+        NO_REVERSE,
     )
 }
 
@@ -99,21 +99,21 @@ fn put_labels(f: Faults, to: &mut [u8], at: usize) -> usize
         at,
         b"reverse rows (V) whose id no label has: ",
         f.vr,
-        &NO_LABEL,
+        NO_LABEL,
     );
     let e = put_fault(
         to,
         a,
         b"labels (R) whose id no reverse row has: ",
         f.rv,
-        &NO_DOCUMENT,
+        NO_DOCUMENT,
     );
     put_fault(
         to,
         e,
         b"labels (R) more than reverse rows (V): ",
         f.excess,
-        &EXCESS,
+        EXCESS,
     )
 }
 

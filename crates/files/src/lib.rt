@@ -106,10 +106,7 @@ fn read(file: File, path: &[u8], to: &mut [u8]) -> Loaded
     ensures filled { Filled (length to.new) result.n result.whole }
 {
     let n = io::read_full(file.as_raw_fd(), to);
-    let mut whole = true;
-    if n < to.len() {
-        whole = is_at_end(file, path);
-    }
+    let whole = n == to.len() || is_at_end(file, path);
     Loaded { n, whole }
 }
 

@@ -13,7 +13,11 @@ fn of_open(file: &File) -> std::io::Result<Rights>
     ensures { OfSystem result }
 {
     let found = file.metadata()?;
-    Ok(Rights::Of(found.mode(), found.uid(), found.gid()))
+    Ok(Rights::Of {
+        mode: found.mode(),
+        owner: found.uid(),
+        group: found.gid(),
+    })
 }
 
 // The rights of the file of that name, and those of a fresh one where there is none.
@@ -47,7 +51,7 @@ pub fn set(file: &File, wanted: Rights) -> std::io::Result<()>
     match wanted {
         Rights::Fresh => Ok(()),
         Rights::Unknown => Err(Error::from(ErrorKind::Other)),
-        Rights::Of(mode, owner, group) => {
+        Rights::Of { mode, owner, group } => {
             let bits = modes::narrowed(mode, give(file, owner, group));
             file.set_permissions(Permissions::from_mode(bits))
         }

@@ -16,26 +16,10 @@ const TRIES: u8 = 100;
 fn letter(chosen: u8) -> u8
     ensures { (48 ≤ result) × (result ≤ 122) }
 {
-    let n = chosen % 62;
-    if n < 10 {
-        return 48 + n;
-    }
-    if n < 36 {
-        return 55 + n;
-    }
-    61 + n
-}
-
-// Puts a byte at one of a name's last six places, counted from its end.
-#[tactic(auto, using(crate::proofs::Rules::name_rules))]
-fn put(name: &mut [u8], back: usize, byte: u8)
-    requires { back ≤ 6 }
-    ensures name_len_unchanged { length name.new ≡ length name.old }
-    ensures front_unchanged { take (length name.new - 6) name.new ≡ take (length name.old - 6) name.old }
-{
-    if 0 < back && back <= name.len() {
-        let at = name.len() - back;
-        name[at] = byte;
+    match chosen % 62 {
+        n @ 0..=9 => b'0' + n,
+        n @ 10..=35 => b'A' + (n - 10),
+        n => b'a' + (n - 36),
     }
 }
 
@@ -57,12 +41,10 @@ fn name_by(name: &mut [u8], six: [u8; 6])
     ensures name_len_unchanged { length name.new ≡ length name.old }
     ensures front_unchanged { take (length name.new - 6) name.new ≡ take (length name.old - 6) name.old }
 {
-    put(name, 6, letter(six[0]));
-    put(name, 5, letter(six[1]));
-    put(name, 4, letter(six[2]));
-    put(name, 3, letter(six[3]));
-    put(name, 2, letter(six[4]));
-    put(name, 1, letter(six[5]));
+    let start = name.len().saturating_sub(6);
+    for (place, byte) in name[start..].iter_mut().zip(&six) {
+        *place = letter(*byte);
+    }
 }
 
 // Makes a file that only its owner may open, which must not be there.

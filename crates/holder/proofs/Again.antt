@@ -10,9 +10,8 @@ use lib.Dec.{eqb, ltb}
 use lib.ListN.{length, get_or, drop, length-append}
 use lib.Seq.{take_at, get_or_at, drop-append-add}
 use Rattle.buffer.specs.Decimal.{spelled, decimal_text}
-use Rattle.words.specs.Decimal.{pick_parsed, step_of, further, decimal_of}
-use Rattle.words.specs.declared.Parsed.{Parsed}
-use Rattle.words.specs.declared.Parsed.TheVariants.{Number, Bad}
+use Rattle.words.specs.Decimal.{step_of, further, decimal_of}
+use Rattle.std.specs.Prelude.{Option, Some, None}
 use Rattle.words.proofs.Laws.{first_digit}
 use Rattle.octets.specs.Compare.{same}
 use Rattle.holder.specs.Holder.{holder_at, holder_of}
@@ -21,45 +20,44 @@ use Rattle.holder.specs.Line.{line_of, before, up_to, beyond, is_ended, body_of,
 -- ---- a number's digits are read as the number
 
 -- what a digit makes of what was read before it
-abbrev step_from : Parsed → ℕ → Parsed
-step_from (Number n) b = step_of n b
-step_from Bad b = Bad
+abbrev step_from : Option ℕ → ℕ → Option ℕ
+step_from (Some n) b = step_of n b
+step_from None b = None
 
-further_none : (p : Parsed) → further p [] ≡ p
+further_none : (p : Option ℕ) → further p [] ≡ p
 unfolding further
-further_none (Number n) = refl
-further_none Bad = refl
+further_none (Some n) = refl
+further_none None = refl
 
-further_last : (p : Parsed) (xs : List ℕ) (b : ℕ) → further p (xs ++ (b ∷ [])) ≡ step_from (further p xs) b
+further_last : (p : Option ℕ) (xs : List ℕ) (b : ℕ) → further p (xs ++ (b ∷ [])) ≡ step_from (further p xs) b
 unfolding further
-further_last (Number n) [] b = further_none (step_of n b)
-further_last (Number n) (x ∷ xs) b = further_last (step_of n x) xs b
-further_last Bad [] b = refl
-further_last Bad (x ∷ xs) b = refl
+further_last (Some n) [] b = further_none (step_of n b)
+further_last (Some n) (x ∷ xs) b = further_last (step_of n x) xs b
+further_last None xs b = refl
 
-digit_read : (m d n : ℕ) → m ≤ 99999999 → d < 10 → m * 10 + d ≡ n → step_of m (48 + d) ≡ Number n
+digit_read : (m d n : ℕ) → m ≤ 99999999 → d < 10 → m * 10 + d ≡ n → step_of m (48 + d) ≡ Some n
 digit_read m d n h k e =
     simp (le-ltb 99999999 m h, le-ltb (48 + d) 48 (omega arith), le-ltb 57 (48 + d) (omega arith))
-    (ap Number (let z : m * 10 + (48 + d - 48) ≡ n = omega arith in z))
+    (ap Some (let z : m * 10 + (48 + d - 48) ≡ n = omega arith in z))
 
 -- the last digit alone
-one_read : (n : ℕ) → n < 10 → further (Number 0) ((48 + n % 10) ∷ []) ≡ Number n
+one_read : (n : ℕ) → n < 10 → further (Some 0) ((48 + n % 10) ∷ []) ≡ Some n
 unfolding further
 one_read n h = further_none (step_of 0 (48 + n % 10)) ∙ digit_read 0 (n % 10) n (omega arith) (omega arith) (omega arith)
 
-spelled_read : (k n : ℕ) → n ≤ k → n < 1000000000 → further (Number 0) (spelled k (ltb n 10) n) ≡ Number n
+spelled_read : (k n : ℕ) → n ≤ k → n < 1000000000 → further (Some 0) (spelled k (ltb n 10) n) ≡ Some n
 unfolding spelled
 spelled_read zero n h l = one_read n (omega arith)
 spelled_read (suc k) n h l = go (ltb n 10) refl (spelled_read k (n / 10))
   where
     go : (t : Bool) → ltb n 10 ≡ t
-        → (n / 10 ≤ k → n / 10 < 1000000000 → further (Number 0) (spelled k (ltb (n / 10) 10) (n / 10)) ≡ Number (n / 10))
-        → further (Number 0) (spelled (suc k) t n) ≡ Number n
+        → (n / 10 ≤ k → n / 10 < 1000000000 → further (Some 0) (spelled k (ltb (n / 10) 10) (n / 10)) ≡ Some (n / 10))
+        → further (Some 0) (spelled (suc k) t n) ≡ Some n
     go true e again = one_read n (ltb-true n 10 e)
     go false e again =
         let more = ltb-false n 10 e in
-        further_last (Number 0) (spelled k (ltb (n / 10) 10) (n / 10)) (48 + n % 10)
-        ∙ ap (λ (p : Parsed). step_from p (48 + n % 10)) (again (omega arith) (omega arith))
+        further_last (Some 0) (spelled k (ltb (n / 10) 10) (n / 10)) (48 + n % 10)
+        ∙ ap (λ (p : Option ℕ). step_from p (48 + n % 10)) (again (omega arith) (omega arith))
         ∙ digit_read (n / 10) (n % 10) n (omega arith) (omega arith) (omega arith)
 
 some_digit : (k : ℕ) (t : Bool) (n : ℕ) → 1 ≤ length (spelled k t n)
@@ -69,7 +67,7 @@ some_digit (suc k) true n = omega arith
 some_digit (suc k) false n =
     omega (arith, length-append (spelled k (ltb (n / 10) 10) (n / 10)) ((48 + n % 10) ∷ []))
 
-decimal_read : (n : ℕ) → n < 1000000000 → decimal_of (decimal_text n) ≡ Number n
+decimal_read : (n : ℕ) → n < 1000000000 → decimal_of (decimal_text n) ≡ Some n
 unfolding decimal_text
 decimal_read n h =
     sym (first_digit (spelled n (ltb n 10) n) (some_digit n (ltb n 10) n)) ∙ spelled_read n n (omega arith) h
@@ -142,15 +140,15 @@ module _ (n : ℕ) (host : List ℕ) where
   host_again = ap (beyond 32) body_is ∙ beyond_is
 
   -- and the process, where the host has a name
-  pub process_again : 0 < n → n < 1000000000 → is_name host ≡ true → process_of (line_of n host) ≡ Number n
+  pub process_again : 0 < n → n < 1000000000 → is_name host ≡ true → process_of (line_of n host) ≡ Some n
   process_again h l named =
-      ap (λ (t : Bool). pick_parsed t (pick_parsed (is_name (host_of (line_of n host))) (positive_of (decimal_of (up_to 32 (body_of (line_of n host))))) Bad) Bad)
+      ap (λ (t : Bool). cond t (cond (is_name (host_of (line_of n host))) (positive_of (decimal_of (up_to 32 (body_of (line_of n host))))) None) None)
       (ap is_ended line_is ∙ ended body)
-      ∙ ap (λ (t : Bool). pick_parsed t (positive_of (decimal_of (up_to 32 (body_of (line_of n host))))) Bad) (ap is_name host_again ∙ named)
+      ∙ ap (λ (t : Bool). cond t (positive_of (decimal_of (up_to 32 (body_of (line_of n host))))) None) (ap is_name host_again ∙ named)
       ∙ ap (λ (l : List ℕ). positive_of (decimal_of l)) (ap (up_to 32) body_is ∙ number_is)
       ∙ ap positive_of (decimal_read n l)
-      ∙ ap (λ (t : Bool). pick_parsed t Bad (Number n)) (le-ltb n 1 (omega arith))
+      ∙ ap (λ (t : Bool). cond t None (Some n)) (le-ltb n 1 (omega arith))
 
   -- who finds the line is told of the process, and whether the host is the one at hand
-  pub holder_again : (here : List ℕ) → 0 < n → n < 1000000000 → is_name host ≡ true → holder_of (line_of n host) here ≡ holder_at (Number n) (same host here)
+  pub holder_again : (here : List ℕ) → 0 < n → n < 1000000000 → is_name host ≡ true → holder_of (line_of n host) here ≡ holder_at (Some n) (same host here)
   holder_again here h l named = ap₂ holder_at (process_again h l named) (ap (λ (t : List ℕ). same t here) host_again)

@@ -1,10 +1,9 @@
 -- The line of a lock file: the number of the process that made it, a space, the name of its host and a line feed.
-use Rattle.std.specs.Prelude.{ℕ, suc, ◌-◌, Bool, true, false, cond, List, [], ◌∷◌, ◌++◌, eqb, ltb, length, get_or, take, drop}
+use Rattle.std.specs.Prelude.{ℕ, suc, ◌-◌, Bool, false, cond, ◌&&◌, leb, Option, Some, None, List, [], ◌∷◌, ◌++◌, eqb, ltb, length, get_or, take, drop}
+use Rattle.std.specs.List.{list_all}
 use Rattle.text.specs.Ascii.{ascii}
 use Rattle.buffer.specs.Decimal.{counted}
-use Rattle.words.specs.Decimal.{decimal_of, pick_parsed}
-use Rattle.words.specs.declared.Parsed.{Parsed}
-use Rattle.words.specs.declared.Parsed.TheVariants.{Number, Bad}
+use Rattle.words.specs.Decimal.{decimal_of}
 
 abbrev pub line_of : ℕ → List ℕ → List ℕ
 line_of process host = counted process (ascii " ") ++ (host ++ ascii "\n")
@@ -36,22 +35,21 @@ host_of line = beyond 32 (body_of line)
 
 -- whether a byte is a mark of ASCII that can be seen: 33 to 126
 abbrev pub is_shown : ℕ → Bool
-is_shown b = cond (ltb b 33) false (ltb b 127)
+is_shown b = leb 33 b && leb b 126
 
-unfoldable pub all_shown : List ℕ → Bool
-all_shown [] = true
-all_shown (b ∷ bs) = cond (is_shown b) (all_shown bs) false
+abbrev pub all_shown : List ℕ → Bool
+all_shown text = list_all is_shown text
 
 -- whether a text can be a host's name: a byte or more, all of which can be seen
 abbrev pub is_name : List ℕ → Bool
 is_name text = cond (ltb (length text) 1) false (all_shown text)
 
 -- a number above 0
-abbrev pub positive_of : Parsed → Parsed
-positive_of (Number n) = pick_parsed (ltb n 1) Bad (Number n)
-positive_of Bad = Bad
+abbrev pub positive_of : Option ℕ → Option ℕ
+positive_of (Some n) = cond (ltb n 1) None (Some n)
+positive_of None = None
 
 -- the process: the decimal before the first space, where a name stands after it and then a line feed, the last byte
-abbrev pub process_of : List ℕ → Parsed
+abbrev pub process_of : List ℕ → Option ℕ
 process_of line =
-    pick_parsed (is_ended line) (pick_parsed (is_name (host_of line)) (positive_of (decimal_of (up_to 32 (body_of line)))) Bad) Bad
+    cond (is_ended line) (cond (is_name (host_of line)) (positive_of (decimal_of (up_to 32 (body_of line)))) None) None

@@ -5,14 +5,13 @@
 ghost use Rattle.std.specs.Prelude.{◌≡◌, ◌+◌, ◌≤◌, length};
 ghost use Rattle.io.specs.Counts.{IsPrefixLen};
 ghost use Rattle.buffer.specs.Put.{Put};
-ghost use Rattle.holder.specs.Line.{line_of, before, up_to, body_of, host_of, is_ended, is_shown, all_shown, is_name, positive_of, process_of};
+ghost use Rattle.holder.specs.Line.{line_of, before, up_to, body_of, host_of, is_ended, all_shown, is_name, process_of};
 ghost use Rattle.holder.specs.Holder.{holder_of};
 
 use buffer::{put, put_counted};
-use words::Parsed;
 
 // Whose a lock is: a process's on this host, one's on another, or nobody's that it names.
-#[derive(Clone, Copy)]
+#[derive(Clone, Copy, Debug, PartialEq, Eq)]
 pub enum Holder {
     Here(u64),
     Elsewhere(u64),
@@ -31,19 +30,11 @@ pub fn put_line(to: &mut [u8], process: u64, host: &[u8]) -> usize
 }
 
 // Where a byte first stands in a text, or the text's length.
-#[tactic(auto, using(crate::proofs::Laws::before_on, crate::proofs::Laws::before_stops, crate::proofs::Laws::before_ends, crate::proofs::Rules::find_rules))]
 fn find(text: &[u8], b: u8) -> usize
     ensures value { result ≡ before b text.now }
     ensures prefix_len { IsPrefixLen result text.now }
 {
-    let mut i = 0;
-    while i < text.len() {
-        if text[i] == b {
-            break;
-        }
-        i += 1;
-    }
-    i
+    text.iter().position(|x| *x == b).unwrap_or(text.len())
 }
 
 // A text up to the first of a byte, or all of it.
@@ -51,27 +42,21 @@ pub fn up_to(text: &[u8], b: u8) -> &[u8]
     ensures result_value { result.now ≡ up_to b text.now }
     ensures result_in_bounds { length result.now ≤ length text.now }
 {
-    let e = find(text, b);
-    &text[..e]
+    &text[..find(text, b)]
 }
 
 // Whether a line's last byte is a line feed.
 fn is_ended(line: &[u8]) -> bool
     ensures { result ≡ is_ended line.now }
 {
-    if line.len() < 1 {
-        return false;
-    }
-    let last = line.len() - 1;
-    line[last] == 10
+    matches!(line.last(), Some(b'\n'))
 }
 
 // A line without its last byte.
 fn body(line: &[u8]) -> &[u8]
     ensures { result.now ≡ body_of line.now }
 {
-    let e = octets::above(line.len(), 1);
-    &line[..e]
+    &line[..line.len().saturating_sub(1)]
 }
 
 // The host that a line names: what stands after its first space.
@@ -82,84 +67,43 @@ pub fn host(line: &[u8]) -> &[u8]
     let text = body(line);
     let e = find(text, b' ');
     if e < text.len() {
-        let start = e + 1;
-        return &text[start..];
+        &text[e + 1..]
+    } else {
+        &text[e..]
     }
-    &text[e..]
 }
 
-// Whether a byte is a mark of ASCII that can be seen.
-fn is_shown(b: u8) -> bool
-    ensures { result ≡ is_shown b }
-{
-    if b < 33 {
-        return false;
-    }
-    b < 127
-}
-
-// Whether every byte of a text can be seen.
-#[tactic(auto, using(crate::proofs::Laws::shown_next, crate::proofs::Laws::shown_bad, crate::proofs::Laws::shown_end))]
+// Whether every byte of a text is a mark of ASCII that can be seen.
 fn all_shown(text: &[u8]) -> bool
     ensures { result ≡ all_shown text.now }
 {
-    let mut i = 0;
-    while i < text.len() {
-        if !is_shown(text[i]) {
-            return false;
-        }
-        i += 1;
-    }
-    true
+    text.iter().all(|b| b.is_ascii_graphic())
 }
 
 // Whether a text can be a host's name: a byte or more, all of which can be seen.
-#[tactic(auto, using(crate::proofs::Rules::is_name_rules))]
 fn is_name(text: &[u8]) -> bool
     ensures { result ≡ is_name text.now }
 {
-    if text.len() < 1 {
-        return false;
-    }
-    all_shown(text)
-}
-
-// A number that is above 0.
-fn positive(p: Parsed) -> Parsed
-    ensures { result ≡ positive_of p }
-{
-    let Parsed::Number(n) = p else {
-        return Parsed::Bad;
-    };
-    if n < 1 {
-        return Parsed::Bad;
-    }
-    Parsed::Number(n)
+    !text.is_empty() && all_shown(text)
 }
 
 // The process that a line names, where it is such a line.
-#[tactic(auto, using(crate::proofs::Laws::picked, crate::proofs::Laws::unpicked))]
-pub fn process(line: &[u8]) -> Parsed
+pub fn process(line: &[u8]) -> Option<u64>
     ensures { result ≡ process_of line.now }
 {
-    if !is_ended(line) {
-        return Parsed::Bad;
+    if !is_ended(line) || !is_name(host(line)) {
+        return None;
     }
-    if !is_name(host(line)) {
-        return Parsed::Bad;
-    }
-    positive(words::decimal(up_to(body(line), b' ')))
+    words::decimal(up_to(body(line), b' ')).filter(|n| 0 < *n)
 }
 
 // Whose a lock with this line is, on the host of this name.
 pub fn whose(line: &[u8], here: &[u8]) -> Holder
     ensures { result ≡ holder_of line.now here.now }
 {
-    let Parsed::Number(n) = process(line) else {
-        return Holder::Unknown;
-    };
-    if words::is(host(line), here) {
-        return Holder::Here(n);
+    match process(line) {
+        Some(n) if words::is(host(line), here) => Holder::Here(n),
+        Some(n) => Holder::Elsewhere(n),
+        None => Holder::Unknown,
     }
-    Holder::Elsewhere(n)
 }

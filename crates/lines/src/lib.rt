@@ -79,12 +79,9 @@ pub fn ids(found: &[u8], n: usize, to: &mut [u8]) -> usize
     ensures { Put to.old 0 (id_lines n found.now) to.new result }
 {
     let mut at = 0;
-    let mut i = 0;
-    while i < n {
+    for i in 0..n {
         let a = 16 * i;
-        let e = a + 16;
-        at = put_hex(to, at, &found[a..e]);
-        i += 1;
+        at = put_hex(to, at, &found[a..a + 16]);
     }
     at
 }

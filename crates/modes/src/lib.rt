@@ -8,15 +8,15 @@ ghost use Rattle.modes.specs.Modes.{mode_of, private_rights};
 pub const SAME: u32 = 0xffff_ffff;
 
 // What a file is to have: what a new file gets by itself, or this mode, owner and group.
-#[derive(Clone, Copy)]
+#[derive(Clone, Copy, Debug, PartialEq, Eq)]
 pub enum Rights {
     Fresh,
-    Of(u32, u32, u32),
+    Of { mode: u32, owner: u32, group: u32 },
     Unknown,
 }
 
 // How far a file could be given to an owner and a group.
-#[derive(Clone, Copy)]
+#[derive(Clone, Copy, Debug, PartialEq, Eq)]
 pub enum Given {
     Both,
     Group,
@@ -27,7 +27,11 @@ pub enum Given {
 pub fn private() -> Rights
     ensures { result ≡ private_rights }
 {
-    Rights::Of(0o600, SAME, SAME)
+    Rights::Of {
+        mode: 0o600,
+        owner: SAME,
+        group: SAME,
+    }
 }
 
 // The mode of a file that was given so far. With another owner the set-id bits go; with another group

@@ -1,23 +1,19 @@
--- Laws of the bytes that words stand for: an id that a word is or is not, ids one after the other, a token that was printed.
+-- Laws of the bytes that words stand for: ids one after the other, a token that was printed.
 use Prim.Native.Nat.{ℕ, ◌+◌, ◌*◌, ◌-◌, ◌<◌, ◌≤◌}
 use mathlib.Core.Path.{◌≡◌, sym, ap, ap₂, ◌∙◌}
 use mathlib.Core.Bool.{Bool, cond}
 use mathlib.Core.List.{List, [], ◌++◌}
 use native.Mathlib.Numerals.{add-one}
 use native.Mathlib.Omega.{arith}
-use lib.ListN.{length, get_or, take, replicate}
+use lib.ListN.{length, get_or, take}
 use lib.Seq.{take-add}
 use Rattle.octets.specs.Part.{back}
 use Rattle.octets.proofs.Parts.{take_back, part_back}
-use Rattle.text.specs.Hex.{is_id_of, unhex_of, hex_of}
+use Rattle.text.specs.Hex.{unhex_of, hex_of}
 use Rattle.text.proofs.Digits.{is_digits, unhex_back}
 use Rattle.words.specs.Line.{word_at}
 use Rattle.operands.specs.Ids.{id_of, ids_of}
 use Rattle.operands.specs.Token.{token_of}
-
--- a word that is an id, and one that is none
-pub id_is : (word : List ℕ) (b : Bool) → b ≡ is_id_of word → id_of word ≡ cond b (unhex_of word 16) (replicate 16 0)
-id_is word b e = ap (λ (x : Bool). cond x (unhex_of word 16) (replicate 16 0)) (sym e)
 
 -- one id more
 pub ids_more : (to line ys : List ℕ) (first i a e : ℕ) → a ≡ 16 * i → e ≡ a + 16 → e ≤ length to → length ys ≡ 16 → take (16 * i) to ≡ ids_of first i line

@@ -16,7 +16,7 @@ pub fn id(word: &[u8], to: &mut [u8])
     if text::is_id(word) {
         text::unhex(word, to);
     } else {
-        octets::clear(to);
+        to.fill(0);
     }
 }
 
@@ -26,11 +26,9 @@ pub fn ids(line: &[u8], first: usize, n: usize, to: &mut [u8])
     requires { (length to.old ≡ 16 * n) × (first + n ≤ 4096) }
     ensures { to.new ≡ ids_of first n line.now }
 {
-    let mut i = 0;
-    while i < n {
+    // By a place, not by `chunks_exact_mut`: no clause says what a slice holds after its chunks were written.
+    for i in 0..n {
         let a = 16 * i;
-        let e = a + 16;
-        id(line::word(line, first + i), &mut to[a..e]);
-        i += 1;
+        id(line::word(line, first + i), &mut to[a..a + 16]);
     }
 }

@@ -8,24 +8,17 @@ use words::line;
 pub fn names_file(word: &[u8]) -> bool
     ensures { result ≡ names_file word.now }
 {
-    if word.len() < 1 {
-        return false;
-    }
-    word[0] == b'@'
+    matches!(word, [b'@', ..])
 }
 
 // A text without the end of its line.
 fn trimmed(text: &[u8]) -> &[u8]
     ensures { result.now ≡ Token·trimmed text.now }
 {
-    let n = text.len();
-    if n < 1 {
-        return text;
+    match text {
+        [line @ .., b'\n'] => line,
+        _ => text,
     }
-    if text[n - 1] == b'\n' {
-        return &text[..n - 1];
-    }
-    text
 }
 
 // The bytes of a token's text: as many as there is room for, or none where it is no such text. Answers how many.
@@ -43,15 +36,24 @@ fn bytes(text: &[u8], to: &mut [u8]) -> usize
     n
 }
 
+// The text of the line's token, where its file holds these bytes.
+#[tactic(auto, unfolding(crate::specs::Token::token_text))]
+fn text_of<'a>(line: &'a [u8], held: &'a [u8]) -> &'a [u8]
+    ensures { result.now ≡ token_text line.now held.now }
+{
+    let word = line::word(line, 3);
+    if names_file(word) {
+        trimmed(held)
+    } else {
+        word
+    }
+}
+
 // The line's token, where its file holds these bytes. Answers how many.
 pub fn read(line: &[u8], held: &[u8], to: &mut [u8]) -> usize
     requires { length to.old ≤ 4096 }
     ensures to_after { take result to.new ≡ token_of (length to.old) (token_text line.now held.now) }
     ensures to_after_2 { (to.new ≡ token_lent (token_text line.now held.now) to.old) × (result ≤ length to.new) }
 {
-    let word = line::word(line, 3);
-    if names_file(word) {
-        return bytes(trimmed(held), to);
-    }
-    bytes(word, to)
+    bytes(text_of(line, held), to)
 }

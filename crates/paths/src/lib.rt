@@ -19,18 +19,16 @@ fn beside(path: &[u8], ending: &[u8], to: &mut [u8]) -> usize
 }
 
 // How long the folder's part of a path is: up to its last slash.
-#[tactic(auto, using(crate::proofs::Laws::folder_next, crate::proofs::Laws::folder_end, crate::proofs::Rules::folder_rules))]
+#[tactic(auto, using(crate::proofs::Laws::folder_slash, crate::proofs::Laws::folder_other, crate::proofs::Laws::folder_end, crate::proofs::Rules::folder_rules))]
 pub fn folder(path: &[u8]) -> usize
     ensures value { result ≡ folder_of path.now }
     ensures upper_bound { (result ≤ length path.now) × (result ≡ length (take result path.now)) }
 {
     let mut n = 0;
-    let mut i = 0;
-    while i < path.len() {
-        if path[i] == b'/' {
+    for (i, b) in path.iter().enumerate() {
+        if *b == b'/' {
             n = i + 1;
         }
-        i += 1;
     }
     n
 }

@@ -1,5 +1,5 @@
 -- Laws of what a line asks for: the first word that is no id, numbers, a token's making, and that every request is bounded.
-use Prim.Native.Nat.{ℕ, zero, suc, ◌+◌, ◌-◌, ◌/◌, ◌%◌, ◌<◌, ◌≤◌}
+use Prim.Native.Nat.{ℕ, suc, ◌+◌, ◌-◌, ◌/◌, ◌%◌, ◌<◌, ◌≤◌}
 use mathlib.Core.Path.{◌≡◌, refl, sym, ap, ap₂, subst, ◌∙◌}
 use mathlib.Core.Bool.{Bool, true, false, cond}
 use mathlib.Core.List.{List}
@@ -12,85 +12,51 @@ use Rattle.text.specs.Hex.{is_id_of}
 use Rattle.words.specs.Line.{word_at, word_count}
 use Rattle.words.specs.Words.{command_of, words_fit}
 use Rattle.words.specs.Decimal.{decimal_of}
-use Rattle.words.specs.declared.Parsed.{Parsed}
-use Rattle.words.specs.declared.Parsed.TheVariants.{Number, Bad}
+use Rattle.std.specs.Prelude.{Option, Some, None}
 use Rattle.words.specs.declared.Command.{Command}
 use Rattle.words.specs.declared.Command.TheVariants.{New as New₀, Key as Key₀, Insert as Insert₀, Find as Find₀, Count as Count₀, Erase as Erase₀, Compact as Compact₀, Order as Order₀, Token as Token₀, Show as Show₀, Check as Check₀, Help as Help₀, Unknown}
-use Rattle.request.specs.Request.{with_number, with_ids, ids_from, first_bad, ids_given, new_of, insert_of, insert_by_of, find_of, count_of, erase_of, insert_token_of, making_by, making_of, pick_request, has_token, request_by, request_with, request_of, Bounded}
+use Rattle.request.specs.Request.{with_number, ids_from, first_bad, ids_given, new_of, insert_of, insert_by_of, find_of, count_of, erase_of, insert_token_of, making_by, making_of, has_token, request_by, request_with, request_of, Bounded}
 use Rattle.request.specs.declared.Request.{Request}
 use Rattle.request.specs.declared.Request.TheVariants.{Misused, NotId, Insert, Find, Count, Erase, Compact, FindToken, CountToken, CompactionToken, InsertBy, FindBy, CountBy, CompactBy}
 
--- the first word that is no id: one that is, one that is none, no word left
-module _ (line : List ℕ) (at : ℕ) where
-  pub bad_later : (left : ℕ) → 0 < left → is_id_of (word_at at line) ≡ true → first_bad left at line ≡ first_bad (left - 1) (at + 1) line
+-- the first word that is no id, before a word `end`: one that is, one that is none, no word left
+module _ (line : List ℕ) (at end : ℕ) where
+  pub bad_later : at < end → is_id_of (word_at at line) ≡ true → first_bad (end - (at + 1)) (at + 1) line ≡ first_bad (end - at) at line
   unfolding first_bad
-  bad_later zero h e = absurd (omega arith)
-  bad_later (suc k) h e =
-      ap (λ (b : Bool). cond b (first_bad k (at + 1) line) at) e ∙ ap (λ (n : ℕ). first_bad n (at + 1) line) (let n : k ≡ suc k - 1 = omega arith in n)
+  bad_later h e =
+      sym (ap (λ (b : Bool). cond b (first_bad (end - (at + 1)) (at + 1) line) at) e)
+      ∙ ap (λ (n : ℕ). first_bad n at line) (let n : suc (end - (at + 1)) ≡ end - at = omega arith in n)
 
-  pub bad_here : (left : ℕ) → 0 < left → is_id_of (word_at at line) ≡ false → first_bad left at line ≡ at
+  pub bad_here : at < end → is_id_of (word_at at line) ≡ false → first_bad (end - at) at line ≡ at
   unfolding first_bad
-  bad_here zero h e = absurd (omega arith)
-  bad_here (suc k) h e = ap (λ (b : Bool). cond b (first_bad k (at + 1) line) at) e
+  bad_here h e =
+      sym (ap (λ (n : ℕ). first_bad n at line) (let n : suc (end - (at + 1)) ≡ end - at = omega arith in n))
+      ∙ ap (λ (b : Bool). cond b (first_bad (end - (at + 1)) (at + 1) line) at) e
 
-  pub bad_none : (left : ℕ) → left ≤ 0 → first_bad left at line ≡ at
+  pub bad_none : end ≤ at → first_bad (end - at) at line ≡ at
   unfolding first_bad
-  bad_none zero h = refl
-  bad_none (suc k) h = absurd (omega arith)
-
--- ids from a word on, as they were counted and looked at: one that is none, or all of them
-module _ (line : List ℕ) (first n bad : ℕ) (f : ℕ → Request) (e : n ≡ ids_given first line) (h : bad ≡ first_bad n first line) where
-  counted : with_ids first n bad (f n) ≡ ids_from first line f
-  counted = ap (λ (b : ℕ). with_ids first n b (f n)) h ∙ ap (λ (k : ℕ). with_ids first k (first_bad k first line) (f k)) e
-
-  pub ids_bad : ltb bad (first + n) ≡ true → NotId bad ≡ ids_from first line f
-  ids_bad t = sym (ap (λ (b : Bool). pick_request b (NotId bad) (f n)) t) ∙ counted
-
-  pub ids_good : ltb bad (first + n) ≡ false → f n ≡ ids_from first line f
-  ids_good t = sym (ap (λ (b : Bool). pick_request b (NotId bad) (f n)) t) ∙ counted
+  bad_none h = ap (λ (n : ℕ). first_bad n at line) (let n : end - at ≡ 0 = omega arith in n)
 
 -- a line of as many words as its command takes, and another
 module _ (line : List ℕ) (c : Command) (t b : Bool) (k : ℕ) (e : c ≡ command_of (word_at 0 line)) (g : t ≡ has_token line) (n : k ≡ word_count line) (f : b ≡ words_fit c t k) where
-  asked_as : pick_request b (request_by c t line) (Misused c) ≡ request_of line
+  asked_as : cond b (request_by c t line) (Misused c) ≡ request_of line
   unfolding request_of
   asked_as =
-      ap (λ (x : Bool). pick_request x (request_by c t line) (Misused c)) (f ∙ ap (words_fit c t) n)
+      ap (λ (x : Bool). cond x (request_by c t line) (Misused c)) (f ∙ ap (words_fit c t) n)
       ∙ ap₂ (λ (x : Command) (y : Bool). request_with x y line) e g
 
   pub asked : b ≡ true → request_by c t line ≡ request_of line
-  asked h = sym (ap (λ (x : Bool). pick_request x (request_by c t line) (Misused c)) h) ∙ asked_as
+  asked h = sym (ap (λ (x : Bool). cond x (request_by c t line) (Misused c)) h) ∙ asked_as
 
   pub misused : b ≡ false → Misused c ≡ request_of line
-  misused h = sym (ap (λ (x : Bool). pick_request x (request_by c t line) (Misused c)) h) ∙ asked_as
-
--- a token's making, where its command is this one
-pub making_of_lem : (line : List ℕ) (c d : Command) (n : ℕ) (r : Request) → c ≡ command_of (word_at 1 line) → n ≡ word_count line → c ≡ d → r ≡ making_by d n line
-    → r ≡ making_of line
-unfolding making_of
-making_of_lem line c d n r e k h p = p ∙ ap₂ (λ (x : Command) (m : ℕ). making_by x m line) (sym h ∙ e) k
-
--- no other command's token is made
-pub none_made : (c : Command) (n : ℕ) (line : List ℕ) → (c ≡ Insert₀ → ⊥) → (c ≡ Find₀ → ⊥) → (c ≡ Count₀ → ⊥) → (c ≡ Compact₀ → ⊥) → Misused Token₀ ≡ making_by c n line
-none_made New₀ n line i f k z = refl
-none_made Key₀ n line i f k z = refl
-none_made Insert₀ n line i f k z = absurd (i refl)
-none_made Find₀ n line i f k z = absurd (f refl)
-none_made Count₀ n line i f k z = absurd (k refl)
-none_made Erase₀ n line i f k z = refl
-none_made Compact₀ n line i f k z = absurd (z refl)
-none_made Order₀ n line i f k z = refl
-none_made Token₀ n line i f k z = refl
-none_made Show₀ n line i f k z = refl
-none_made Check₀ n line i f k z = refl
-none_made Help₀ n line i f k z = refl
-none_made Unknown n line i f k z = refl
+  misused h = sym (ap (λ (x : Bool). cond x (request_by c t line) (Misused c)) h) ∙ asked_as
 
 -- every request is bounded
-bounded_number : (d : Parsed) (i : ℕ) (f : ℕ → Request) → ((n : ℕ) → Bounded (f n)) → Bounded (with_number d i f)
-bounded_number (Number n) i f h = h n
-bounded_number Bad i f h = tt
+bounded_number : (d : Option ℕ) (i : ℕ) (f : ℕ → Request) → ((n : ℕ) → Bounded (f n)) → Bounded (with_number d i f)
+bounded_number (Some n) i f h = h n
+bounded_number None i f h = tt
 
-bounded_pick : (b : Bool) (p q : Request) → Bounded p → Bounded q → Bounded (pick_request b p q)
+bounded_pick : (b : Bool) (p q : Request) → Bounded p → Bounded q → Bounded (cond b p q)
 bounded_pick true p q h k = h
 bounded_pick false p q h k = k
 
@@ -116,7 +82,7 @@ bounded_ids line first f h =
     bounded_pick (ltb (first_bad (ids_given first line) first line) (first + ids_given first line)) (NotId (first_bad (ids_given first line) first line)) (f (ids_given first line)) tt (h (ids_given first line) (omega arith))
 
 -- a number of pairs is told where it is at most 8
-bounded_pairs : (n : ℕ) (b : Bool) → ltb 8 n ≡ b → Bounded (pick_request b (Misused Find₀) (Find n))
+bounded_pairs : (n : ℕ) (b : Bool) → ltb 8 n ≡ b → Bounded (cond b (Misused Find₀) (Find n))
 bounded_pairs n true e = tt
 bounded_pairs n false e = omega (arith, ltb-false 8 n e)
 

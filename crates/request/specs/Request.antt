@@ -1,26 +1,33 @@
 -- What a command line asks for, by its words: word 0 is the command's own.
-use Rattle.std.specs.Prelude.{ℕ, zero, suc, ◌+◌, ◌-◌, ◌/◌, ◌%◌, ◌≤◌, min, Bool, true, false, cond, List, ltb, eqb}
+use Rattle.std.specs.Prelude.{ℕ, zero, suc, ◌+◌, ◌-◌, ◌/◌, ◌%◌, ◌≤◌, min, Bool, true, false, cond, List, Option, Some, None, Result, Ok, Err, ltb, eqb}
 use Rattle.octets.specs.Compare.{same}
 use Rattle.text.specs.Ascii.{ascii}
 use Rattle.text.specs.Hex.{is_id_of}
 use Rattle.words.specs.Decimal.{decimal_of}
 use Rattle.words.specs.Words.{command_of, words_fit}
 use Rattle.words.specs.Line.{word_at, word_count}
-use Rattle.words.specs.declared.Parsed.{Parsed}
-use Rattle.words.specs.declared.Parsed.TheVariants.{Number, Bad}
 use Rattle.words.specs.declared.Command.{Command}
 use Rattle.words.specs.declared.Command.TheVariants.{New as New₀, Key as Key₀, Insert as Insert₀, Find as Find₀, Count as Count₀, Erase as Erase₀, Compact as Compact₀, Order as Order₀, Token as Token₀, Show as Show₀, Check as Check₀, Help as Help₀, Unknown}
+use Rattle.request.specs.declared.Wrong.{Wrong}
+use Rattle.request.specs.declared.Wrong.TheVariants.{Misused as Misused₁, NotNumber as NotNumber₁, NotId as NotId₁}
 use Rattle.request.specs.declared.Request.{Request}
 use Rattle.request.specs.declared.Request.TheVariants.{Help, Misused, NotNumber, NotId, New, Key, Insert, Find, Count, Erase, Compact, Order, Show, Check, InsertToken, FindToken, CountToken, CompactionToken, InsertBy, FindBy, CountBy, CompactBy}
 
-abbrev pub pick_request : Bool → Request → Request → Request
-pick_request true a b = a
-pick_request false a b = b
+-- what a line asks for that is wrong
+abbrev pub wrong_of : Wrong → Request
+wrong_of (Misused₁ c) = Misused c
+wrong_of (NotNumber₁ i) = NotNumber i
+wrong_of (NotId₁ i) = NotId i
+
+-- what is told of a line, right or wrong
+abbrev pub told : Result Request Wrong → Request
+told (Ok r) = r
+told (Err w) = wrong_of w
 
 -- what is made of word i as a number
-abbrev pub with_number : Parsed → ℕ → (ℕ → Request) → Request
-with_number (Number n) i f = f n
-with_number Bad i f = NotNumber i
+abbrev pub with_number : Option ℕ → ℕ → (ℕ → Request) → Request
+with_number (Some n) i f = f n
+with_number None i f = NotNumber i
 
 abbrev pub number_at : ℕ → List ℕ → (ℕ → Request) → Request
 number_at i line f = with_number (decimal_of (word_at i line)) i f
@@ -41,7 +48,7 @@ ids_given first line = min (word_count line - first) 65
 
 -- n words from a word on, of which this is the first that is no id
 abbrev pub with_ids : ℕ → ℕ → ℕ → Request → Request
-with_ids first n bad q = pick_request (ltb bad (first + n)) (NotId bad) q
+with_ids first n bad q = cond (ltb bad (first + n)) (NotId bad) q
 
 abbrev pub ids_from : ℕ → List ℕ → (ℕ → Request) → Request
 ids_from first line f = with_ids first (ids_given first line) (first_bad (ids_given first line) first line) (f (ids_given first line))
@@ -56,7 +63,7 @@ insert_by_of line = ids_from 4 line InsertBy
 
 -- find STORE KEYFILE, then 1 to 8 times FIELD VALUE: by so many words after KEYFILE [02:W4.18]
 abbrev pub pairs_of : ℕ → Request
-pairs_of n = pick_request (eqb (n % 2) 0) (pick_request (ltb 8 (n / 2)) (Misused Find₀) (Find (n / 2))) (Misused Find₀)
+pairs_of n = cond (eqb (n % 2) 0) (cond (ltb 8 (n / 2)) (Misused Find₀) (Find (n / 2))) (Misused Find₀)
 
 unfoldable pub find_of : List ℕ → Request
 find_of line = pairs_of (word_count line - 3)
@@ -64,12 +71,18 @@ find_of line = pairs_of (word_count line - 3)
 -- a count takes so many words; --rows after them, and nothing else, asks for the rows looked at too [02:W3.8]
 unfoldable pub count_of : ℕ → Request → Request → List ℕ → Request
 count_of n plain rows line =
-    pick_request (eqb (word_count line) n) plain
-    (pick_request (eqb (word_count line) (n + 1)) (pick_request (same (word_at n line) (ascii "--rows")) rows (Misused Count₀)) (Misused Count₀))
+    cond (eqb (word_count line) n) plain
+    (cond (eqb (word_count line) (n + 1)) (cond (same (word_at n line) (ascii "--rows")) rows (Misused Count₀)) (Misused Count₀))
+
+-- whether a count of so many words asks for the rows looked at
+abbrev pub rows_of : ℕ → List ℕ → Result Bool Wrong
+rows_of n line =
+    cond (eqb (word_count line) n) (Ok false)
+    (cond (eqb (word_count line) (n + 1)) (cond (same (word_at n line) (ascii "--rows")) (Ok true) (Err (Misused₁ Count₀))) (Err (Misused₁ Count₀)))
 
 -- erase STORE ID
 unfoldable pub erase_of : List ℕ → Request
-erase_of line = pick_request (is_id_of (word_at 2 line)) Erase (NotId 2)
+erase_of line = cond (is_id_of (word_at 2 line)) Erase (NotId 2)
 
 -- token insert KEYFILE FIELD VALUE P SHARE
 unfoldable pub insert_token_of : List ℕ → Request
@@ -79,11 +92,11 @@ insert_token_of line = number_at 5 line (λ p. number_at 6 line (λ u. InsertTok
 abbrev pub making_by : Command → ℕ → List ℕ → Request
 making_by New₀ n line = Misused Token₀
 making_by Key₀ n line = Misused Token₀
-making_by Insert₀ n line = pick_request (eqb n 7) (insert_token_of line) (Misused Token₀)
-making_by Find₀ n line = pick_request (eqb n 5) FindToken (Misused Token₀)
-making_by Count₀ n line = pick_request (eqb n 5) CountToken (Misused Token₀)
+making_by Insert₀ n line = cond (eqb n 7) (insert_token_of line) (Misused Token₀)
+making_by Find₀ n line = cond (eqb n 5) FindToken (Misused Token₀)
+making_by Count₀ n line = cond (eqb n 5) CountToken (Misused Token₀)
 making_by Erase₀ n line = Misused Token₀
-making_by Compact₀ n line = pick_request (eqb n 3) CompactionToken (Misused Token₀)
+making_by Compact₀ n line = cond (eqb n 3) CompactionToken (Misused Token₀)
 making_by Order₀ n line = Misused Token₀
 making_by Token₀ n line = Misused Token₀
 making_by Show₀ n line = Misused Token₀
@@ -98,11 +111,11 @@ making_of line = making_by (command_of (word_at 1 line)) (word_count line) line
 abbrev pub request_by : Command → Bool → List ℕ → Request
 request_by New₀ b line = new_of line
 request_by Key₀ b line = Key
-request_by Insert₀ b line = pick_request b (insert_by_of line) (insert_of line)
-request_by Find₀ b line = pick_request b FindBy (find_of line)
-request_by Count₀ b line = pick_request b (count_of 4 (CountBy false) (CountBy true) line) (count_of 5 (Count false) (Count true) line)
+request_by Insert₀ b line = cond b (insert_by_of line) (insert_of line)
+request_by Find₀ b line = cond b FindBy (find_of line)
+request_by Count₀ b line = cond b (count_of 4 (CountBy false) (CountBy true) line) (count_of 5 (Count false) (Count true) line)
 request_by Erase₀ b line = erase_of line
-request_by Compact₀ b line = pick_request b CompactBy Compact
+request_by Compact₀ b line = cond b CompactBy Compact
 request_by Order₀ b line = Order
 request_by Token₀ b line = making_of line
 request_by Show₀ b line = Show
@@ -115,7 +128,7 @@ abbrev pub has_token : List ℕ → Bool
 has_token line = same (word_at 2 line) (ascii "--token")
 
 abbrev pub request_with : Command → Bool → List ℕ → Request
-request_with c b line = pick_request (words_fit c b (word_count line)) (request_by c b line) (Misused c)
+request_with c b line = cond (words_fit c b (word_count line)) (request_by c b line) (Misused c)
 
 unfoldable pub request_of : List ℕ → Request
 request_of line = request_with (command_of (word_at 0 line)) (has_token line) line

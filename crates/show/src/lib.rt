@@ -24,7 +24,7 @@ fn put_table(to: &mut [u8], at: usize, name: &[u8], total: usize, free: usize) -
     requires { (length name.now ≡ 12) × ((total ≤ 4096) × (at + 118 ≤ length to.old)) }
     ensures { (Put to.old at (table_line name.now total free) to.new result) × (result ≤ at + 118) }
 {
-    let used = octets::above(total, free);
+    let used = total.saturating_sub(free);
     let a = put(to, at, name);
     let b = put_bar(to, a, used, total);
     let d = put_counted(to, b, used as u64, b" of ");

@@ -1,15 +1,17 @@
 -- What is written as digits is read back: the text of bytes stands for these bytes.
 use Prim.Native.Nat.{ℕ, zero, suc, ◌+◌, ◌*◌, ◌-◌, ◌/◌, ◌%◌, ◌≤◌, ◌<◌}
 use mathlib.Core.Path.{◌≡◌, refl, sym, ap, ap₂, ◌∙◌}
-use mathlib.Core.Bool.{Bool, true, false, cond, true≢false}
+use mathlib.Core.Bool.{Bool, true, false, cond}
 use mathlib.Core.List.{List, [], ◌∷◌, ◌++◌}
 use native.Mathlib.Omega.{arith}
 use lib.Dec.{ltb, eqb}
 use lib.ListN.{length, get_or, take, length-append, get_or-append}
 use lib.Seq.{get_or_at, take-suc, take_all}
 use borrow.Author.Tests.{ltb-true, ltb-false, lt-ltb, le-ltb, eq-eqb, ne_eqb}
+use Rattle.std.specs.Prelude.{Option, Some, is_some, unwrap_or}
+use Rattle.std.proofs.lemmas.List.Folds.{list_all-append}
 use Rattle.text.specs.Tabulate.{tabulate}
-use Rattle.text.specs.Hex.{nibble_of, all_hex, is_hex_of, pair_of, pair_at, unhex_of, glyph, digit_at, hex_of}
+use Rattle.text.specs.Hex.{nibble_of, is_digit, all_hex, is_hex_of, pair_of, pair_at, unhex_of, glyph, digit_at, hex_of}
 
 -- a text given place by place: its length, its places, and where it is another list's start
 length-tabulate : (f : ℕ → ℕ) (n : ℕ) → length (tabulate f n) ≡ n
@@ -38,26 +40,20 @@ tabulate-take f bs (suc n) h k =
     ∙ sym (take-suc bs n 0 (omega arith))
 
 -- a digit's value is what it was made of
-nibble_glyph : (d : ℕ) → d < 16 → nibble_of (glyph d) ≡ d
+nibble_glyph : (d : ℕ) → d < 16 → nibble_of (glyph d) ≡ Some d
 nibble_glyph d h = go (ltb d 10) refl
   where
-    go : (b : Bool) → ltb d 10 ≡ b → nibble_of (cond b (48 + d) (87 + d)) ≡ d
+    go : (b : Bool) → ltb d 10 ≡ b → nibble_of (cond b (48 + d) (87 + d)) ≡ Some d
     go true e =
         let l = ltb-true d 10 e in
-        simp (le-ltb (48 + d) 48 (omega arith), lt-ltb (48 + d) 58 (omega (arith, l))) (let z : (48 + d) - 48 ≡ d = omega arith in z)
+        simp (le-ltb (48 + d) 48 (omega arith), lt-ltb (48 + d) 58 (omega (arith, l))) (ap Some (let z : (48 + d) - 48 ≡ d = omega arith in z))
     go false e =
         let l = ltb-false d 10 e in
-        simp (le-ltb (87 + d) 48 (omega arith), le-ltb (87 + d) 58 (omega arith), le-ltb (87 + d) 65 (omega arith), le-ltb (87 + d) 71 (omega arith), le-ltb (87 + d) 97 (omega (arith, l)), lt-ltb (87 + d) 103 (omega (arith, h))) (let z : (87 + d) - 87 ≡ d = omega arith in z)
+        simp (le-ltb (87 + d) 48 (omega arith), le-ltb (87 + d) 58 (omega arith), le-ltb (87 + d) 65 (omega arith), le-ltb (87 + d) 71 (omega arith), le-ltb (87 + d) 97 (omega (arith, l)), lt-ltb (87 + d) 103 (omega (arith, h))) (ap Some (let z : (87 + d) - 87 ≡ d = omega arith in z))
 
 -- one digit more
-hex_more : (xs : List ℕ) (b : ℕ) → all_hex xs ≡ true → nibble_of b < 16 → all_hex (xs ++ (b ∷ [])) ≡ true
-unfolding all_hex
-hex_more [] b e h = simp (le-ltb 15 (nibble_of b) (omega arith))
-hex_more (x ∷ xs) b e h = go (ltb 15 (nibble_of x)) e (λ k. hex_more xs b k h)
-  where
-    go : (t : Bool) → cond t false (all_hex xs) ≡ true → (all_hex xs ≡ true → all_hex (xs ++ (b ∷ [])) ≡ true) → cond t false (all_hex (xs ++ (b ∷ []))) ≡ true
-    go true e k = absurd (true≢false (sym e))
-    go false e k = k e
+hex_more : (xs : List ℕ) (b : ℕ) → all_hex xs ≡ true → is_digit b ≡ true → all_hex (xs ++ (b ∷ [])) ≡ true
+hex_more xs b e h = rw (list_all-append is_digit xs (b ∷ []), e, h)
 
 module _ (bs : List ℕ) (bytes : (i : ℕ) → get_or bs i 0 < 256) where
   -- the two digits of a byte
@@ -76,27 +72,27 @@ module _ (bs : List ℕ) (bytes : (i : ℕ) → get_or bs i 0 < 256) where
   pair_back : (n i : ℕ) → i < n → pair_at (hex_of bs (2 * n)) i ≡ get_or bs i 0
   pair_back n i h =
       ap₂ pair_of (get_d_tabulate (digit_at bs) (2 * n) (2 * i) (omega arith) ∙ high i) (get_d_tabulate (digit_at bs) (2 * n) (2 * i + 1) (omega arith) ∙ low i)
-      ∙ ap₂ (λ (a b : ℕ). a % 16 * 16 + b % 16) (nibble_glyph (get_or bs i 0 / 16) (omega (arith, bytes i))) (nibble_glyph (get_or bs i 0 % 16) (omega arith))
-      ∙ (let z : get_or bs i 0 / 16 % 16 * 16 + get_or bs i 0 % 16 % 16 ≡ get_or bs i 0 = omega (arith, bytes i) in z)
+      ∙ ap₂ (λ (a b : Option ℕ). unwrap_or a 0 * 16 + unwrap_or b 0) (nibble_glyph (get_or bs i 0 / 16) (omega (arith, bytes i))) (nibble_glyph (get_or bs i 0 % 16) (omega arith))
+      ∙ (let z : get_or bs i 0 / 16 * 16 + get_or bs i 0 % 16 ≡ get_or bs i 0 = omega (arith, bytes i) in z)
 
   pub unhex_back : unhex_of (hex_of bs (2 * length bs)) (length bs) ≡ bs
   unhex_back =
       tabulate-take (pair_at (hex_of bs (2 * length bs))) bs (length bs) (omega arith) (pair_back (length bs)) ∙ take_all (length bs) bs (omega arith)
 
-  digit_small : (j : ℕ) → nibble_of (digit_at bs j) < 16
-  digit_small j = go (eqb (j % 2) 0)
+  digit_is : (j : ℕ) → is_digit (digit_at bs j) ≡ true
+  digit_is j = go (eqb (j % 2) 0)
     where
-      small : (d : ℕ) → d < 16 → nibble_of (glyph d) < 16
-      small d h = omega (arith, nibble_glyph d h)
+      is : (d : ℕ) → d < 16 → is_digit (glyph d) ≡ true
+      is d h = ap is_some (nibble_glyph d h)
 
-      go : (t : Bool) → nibble_of (cond t (glyph (get_or bs (j / 2) 0 / 16)) (glyph (get_or bs (j / 2) 0 % 16))) < 16
-      go true = small (get_or bs (j / 2) 0 / 16) (omega (arith, bytes (j / 2)))
-      go false = small (get_or bs (j / 2) 0 % 16) (omega arith)
+      go : (t : Bool) → is_digit (cond t (glyph (get_or bs (j / 2) 0 / 16)) (glyph (get_or bs (j / 2) 0 % 16))) ≡ true
+      go true = is (get_or bs (j / 2) 0 / 16) (omega (arith, bytes (j / 2)))
+      go false = is (get_or bs (j / 2) 0 % 16) (omega arith)
 
   all_digits : (n : ℕ) → all_hex (hex_of bs n) ≡ true
-  unfolding tabulate all_hex
+  unfolding tabulate
   all_digits zero = refl
-  all_digits (suc n) = hex_more (hex_of bs n) (digit_at bs n) (all_digits n) (digit_small n)
+  all_digits (suc n) = hex_more (hex_of bs n) (digit_at bs n) (all_digits n) (digit_is n)
 
   pub is_digits : is_hex_of (2 * length bs) (hex_of bs (2 * length bs)) ≡ true
   is_digits =

@@ -1,17 +1,20 @@
 -- Bytes as hexadecimal text, two digits to a byte, the high one first; digits are read in either case.
-use Rattle.std.specs.Prelude.{ℕ, ◌+◌, ◌*◌, ◌-◌, ◌/◌, ◌%◌, Bool, true, false, cond, List, [], ◌∷◌, ltb, eqb, length, get_or}
+use Rattle.std.specs.Prelude.{ℕ, ◌+◌, ◌*◌, ◌-◌, ◌/◌, ◌%◌, Bool, false, cond, List, Option, Some, None, is_some, unwrap_or, ltb, eqb, length, get_or}
+use Rattle.std.specs.List.{list_all}
 use Rattle.text.specs.Tabulate.{tabulate}
 
--- the value of a digit, or 16
-abbrev pub nibble_of : ℕ → ℕ
+-- the value of a digit, if it is one
+abbrev pub nibble_of : ℕ → Option ℕ
 nibble_of b =
-    cond (ltb b 48) 16
-    (cond (ltb b 58) (b - 48) (cond (ltb b 65) 16 (cond (ltb b 71) (b - 55) (cond (ltb b 97) 16 (cond (ltb b 103) (b - 87) 16)))))
+    cond (ltb b 48) None
+    (cond (ltb b 58) (Some (b - 48)) (cond (ltb b 65) None (cond (ltb b 71) (Some (b - 55)) (cond (ltb b 97) None (cond (ltb b 103) (Some (b - 87)) None)))))
+
+abbrev pub is_digit : ℕ → Bool
+is_digit b = is_some (nibble_of b)
 
 -- whether every byte is a digit
-unfoldable pub all_hex : List ℕ → Bool
-all_hex [] = true
-all_hex (b ∷ bs) = cond (ltb 15 (nibble_of b)) false (all_hex bs)
+abbrev pub all_hex : List ℕ → Bool
+all_hex word = list_all is_digit word
 
 -- whether a word is so many digits
 abbrev pub is_hex_of : ℕ → List ℕ → Bool
@@ -21,9 +24,9 @@ is_hex_of n word = cond (eqb (length word) n) (all_hex word) false
 abbrev pub is_id_of : List ℕ → Bool
 is_id_of word = is_hex_of 32 word
 
--- the byte of two digits
+-- the byte of two digits; what is no digit counts as 0
 abbrev pub pair_of : ℕ → ℕ → ℕ
-pair_of a b = nibble_of a % 16 * 16 + nibble_of b % 16
+pair_of a b = unwrap_or (nibble_of a) 0 * 16 + unwrap_or (nibble_of b) 0
 
 abbrev pub pair_at : List ℕ → ℕ → ℕ
 pair_at word i = pair_of (get_or word (2 * i) 0) (get_or word (2 * i + 1) 0)

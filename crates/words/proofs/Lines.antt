@@ -1,80 +1,64 @@
--- Laws of a line's words: a word that goes on or ends, the line after it, and how many there are.
+-- Laws of a line's words: how long the first is, the line after it, and how many there are.
 use Prim.Native.Nat.{ℕ, zero, suc, ◌+◌, ◌-◌, ◌<◌, ◌≤◌}
 use mathlib.Core.Path.{◌≡◌, refl, sym, ap, ◌∙◌}
-use mathlib.Core.Bool.{Bool, cond}
+use mathlib.Core.Bool.{Bool, true, false, cond, not}
 use mathlib.Core.List.{List}
 use native.Mathlib.Numerals.{add-one}
 use native.Mathlib.Omega.{arith}
-use borrow.Author.Tests.{eq-eqb, ne_eqb}
-use lib.ListN.{length, get_or, take, drop, length-take, length-drop, drop_of_length-le}
-use lib.Seq.{drop-cons, drop-drop}
-use Rattle.words.specs.Line.{word_length, after_word, from_word, first_word, word_at, word_count}
+use borrow.Author.Tests.{ltb-false}
+use lib.Dec.{eqb, ltb}
+use lib.ListN.{length, take, drop, length-take, length-drop, drop_of_length-le}
+use lib.Seq.{take_all}
+use Rattle.std.specs.Prelude.{Option, Some, None, unwrap_or}
+use Rattle.std.specs.List.{count_by, position, position_or_len}
+use Rattle.std.proofs.lemmas.List.Recursion.{is_count_by, is_position_or_len}
+use Rattle.std.proofs.lemmas.List.Sums.{prefix_len-le-length}
+use Rattle.words.specs.Line.{word_length, after_word, from_word, word_at, word_count}
 
-module _ (line : List ℕ) (i : ℕ) where
-  -- a byte of the word, its 0, and the end of the line
-  pub word_on : i < length line → (get_or line i 0 ≡ 0 → ⊥) → word_length (drop i line) ≡ suc (word_length (drop (i + 1) line))
-  unfolding word_length
-  word_on h n =
-      ap word_length (drop-cons line i 0 h)
-      ∙ ap (λ (b : Bool). cond b 0 (suc (word_length (drop (suc i) line)))) (ne_eqb (get_or line i 0) 0 n)
-      ∙ ap (λ (k : ℕ). suc (word_length (drop k line))) (sym (add-one i))
+-- a word's length and the number of words, by std's words
+pub word_length_is : (line : List ℕ) → word_length line ≡ position_or_len (λ b. eqb b 0) line
+unfolding word_length
+word_length_is line =
+    is_position_or_len word_length (λ b. eqb b 0) refl (λ x xs. ap (λ (n : ℕ). cond (eqb x 0) 0 n) (let e : suc (word_length xs) ≡ 1 + word_length xs = omega arith in e)) line
 
-  pub word_stops : i < length line → get_or line i 0 ≡ 0 → word_length (drop i line) ≡ 0
-  unfolding word_length
-  word_stops h e =
-      ap word_length (drop-cons line i 0 h) ∙ ap (λ (b : Bool). cond b 0 (suc (word_length (drop (suc i) line)))) (eq-eqb (get_or line i 0) 0 e)
+pub word_count_is : (line : List ℕ) → word_count line ≡ count_by (λ b. eqb b 0) line
+unfolding word_count
+word_count_is line =
+    is_count_by word_count (λ b. eqb b 0) refl (λ x xs. ap (λ (n : ℕ). cond (eqb x 0) n (word_count xs)) (let e : suc (word_count xs) ≡ 1 + word_count xs = omega arith in e)) line
 
-  pub word_ends : length line ≤ i → word_length (drop i line) ≡ 0
-  unfolding word_length
-  word_ends h = ap word_length (drop_of_length-le line h)
+-- where the first 0 stands, or how long the line is where there is none
+pub first_zero : (line : List ℕ) (found : Option ℕ) (n : ℕ) → found ≡ position (λ b. eqb b 0) line → n ≡ unwrap_or found (length line) → n ≡ word_length line
+first_zero line found n f e = e ∙ ap (λ (o : Option ℕ). unwrap_or o (length line)) f ∙ go (ltb at (length line)) refl
+  where
+    at : ℕ
+    at = position_or_len (λ b. eqb b 0) line
 
-  -- one byte more of the words that are counted
-  pub count_on : i < length line → (get_or line i 0 ≡ 0 → ⊥) → word_count (drop i line) ≡ word_count (drop (i + 1) line)
-  unfolding word_count
-  count_on h n =
-      ap word_count (drop-cons line i 0 h)
-      ∙ ap (λ (b : Bool). cond b (suc (word_count (drop (suc i) line))) (word_count (drop (suc i) line))) (ne_eqb (get_or line i 0) 0 n)
-      ∙ ap (λ (k : ℕ). word_count (drop k line)) (sym (add-one i))
-
-  pub count_one : i < length line → get_or line i 0 ≡ 0 → word_count (drop i line) ≡ suc (word_count (drop (i + 1) line))
-  unfolding word_count
-  count_one h e =
-      ap word_count (drop-cons line i 0 h)
-      ∙ ap (λ (b : Bool). cond b (suc (word_count (drop (suc i) line))) (word_count (drop (suc i) line))) (eq-eqb (get_or line i 0) 0 e)
-      ∙ ap (λ (k : ℕ). suc (word_count (drop k line))) (sym (add-one i))
-
-  pub count_ends : length line ≤ i → word_count (drop i line) ≡ 0
-  unfolding word_count
-  count_ends h = ap word_count (drop_of_length-le line h)
+    go : (t : Bool) → ltb at (length line) ≡ t → unwrap_or (cond t (Some at) None) (length line) ≡ word_length line
+    go true e = sym (word_length_is line)
+    go false e = omega (arith, ltb-false at (length line) e, word_length_is line, prefix_len-le-length (λ b. not (eqb b 0)) line)
 
 -- the line after a word that ends before the line does, and after the last
-pub after_word_lem : (line : List ℕ) (start end : ℕ) → end ≡ start + word_length (drop start line) → drop (end + 1) line ≡ after_word (drop start line)
-after_word_lem line start end e =
-    ap (λ (k : ℕ). drop k line) (let k : end + 1 ≡ start + suc (word_length (drop start line)) = omega arith in k)
-    ∙ sym (drop-drop (suc (word_length (drop start line))) start line)
+to_end : (line : List ℕ) (s : ℕ) → take (length line - s) (drop s line) ≡ drop s line
+to_end line s = take_all (length line - s) (drop s line) (omega (arith, length-drop s line))
 
-pub after_last : (line : List ℕ) (start end : ℕ) → end ≡ start + word_length (drop start line) → length line ≤ end → drop end line ≡ after_word (drop start line)
-after_last line start end e h =
-    drop_of_length-le line h ∙ sym (drop_of_length-le (drop start line) {i = suc (word_length (drop start line))} (omega (arith, length-drop start line)))
+pub after_first : (line : List ℕ) (end : ℕ) → end ≡ word_length line → take (length line - (end + 1)) (drop (end + 1) line) ≡ after_word line
+after_first line end e = to_end line (end + 1) ∙ ap (λ (k : ℕ). drop k line) (add-one end ∙ ap suc e)
+
+pub after_last : (line : List ℕ) (end : ℕ) → end ≡ word_length line → length line ≤ end → take (length line - end) (drop end line) ≡ after_word line
+after_last line end e h =
+    to_end line end ∙ drop_of_length-le line h ∙ sym (drop_of_length-le line {i = suc (word_length line)} (omega arith))
 
 -- the next word to come to
-pub from_next : (line rest : List ℕ) (left : ℕ) → 0 < left → rest ≡ after_word line → from_word (left - 1) rest ≡ from_word left line
+pub from_next : (line rest : List ℕ) (i passed : ℕ) → passed < i → rest ≡ after_word line → from_word (i - (passed + 1)) rest ≡ from_word (i - passed) line
 unfolding from_word
-from_next line rest zero h e = absurd (omega arith)
-from_next line rest (suc k) h e =
-    ap (λ (n : ℕ). from_word n rest) (let n : suc k - 1 ≡ k = omega arith in n) ∙ ap (from_word k) e
+from_next line rest i passed h e =
+    ap (from_word (i - (passed + 1))) e
+    ∙ ap (λ (n : ℕ). from_word n line) (let n : suc (i - (passed + 1)) ≡ i - passed = omega arith in n)
 
 pub from_none : (line : List ℕ) (left : ℕ) → left ≤ 0 → line ≡ from_word left line
 unfolding from_word
 from_none line zero h = refl
 from_none line (suc k) h = absurd (omega arith)
-
--- a word, where it was found
-pub word_found : (line : List ℕ) (i start end : ℕ) → drop start line ≡ from_word i line → end ≡ start + word_length (drop start line)
-    → take (end - start) (drop start line) ≡ word_at i line
-unfolding word_at
-word_found line i start end e k =
-    ap (λ (n : ℕ). take n (drop start line)) (let n : end - start ≡ word_length (drop start line) = omega arith in n) ∙ ap first_word e
 
 -- no word is longer than its line
 pub from_short : (i : ℕ) (line : List ℕ) → length (from_word i line) ≤ length line

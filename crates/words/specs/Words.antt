@@ -5,27 +5,23 @@ use Rattle.text.specs.Ascii.{ascii}
 use Rattle.words.specs.declared.Command.{Command}
 use Rattle.words.specs.declared.Command.TheVariants.{New, Key, Insert, Find, Count, Erase, Compact, Order, Token, Show, Check, Help, Unknown}
 
-abbrev pub pick_command : Bool → Command → Command → Command
-pick_command true a b = a
-pick_command false a b = b
-
 -- by the name, of those that change nothing
 abbrev pub reader_of : List ℕ → Command
 reader_of w =
-    pick_command (same w (ascii "find")) Find
-    (pick_command (same w (ascii "count")) Count
-    (pick_command (same w (ascii "token")) Token
-    (pick_command (same w (ascii "show")) Show
-    (pick_command (same w (ascii "check")) Check (pick_command (same w (ascii "help")) Help Unknown)))))
+    cond (same w (ascii "find")) Find
+    (cond (same w (ascii "count")) Count
+    (cond (same w (ascii "token")) Token
+    (cond (same w (ascii "show")) Show
+    (cond (same w (ascii "check")) Check (cond (same w (ascii "help")) Help Unknown)))))
 
 -- by the name
 abbrev pub command_of : List ℕ → Command
 command_of w =
-    pick_command (same w (ascii "new")) New
-    (pick_command (same w (ascii "key")) Key
-    (pick_command (same w (ascii "insert")) Insert
-    (pick_command (same w (ascii "erase")) Erase
-    (pick_command (same w (ascii "compact")) Compact (pick_command (same w (ascii "order")) Order (reader_of w))))))
+    cond (same w (ascii "new")) New
+    (cond (same w (ascii "key")) Key
+    (cond (same w (ascii "insert")) Insert
+    (cond (same w (ascii "erase")) Erase
+    (cond (same w (ascii "compact")) Compact (cond (same w (ascii "order")) Order (reader_of w))))))
 
 -- new takes STORE P M C S R, key KEYFILE, insert STORE KEYFILE FIELD VALUE SHARE and the ids, find and count STORE KEYFILE FIELD
 -- VALUE, erase STORE ID, compact STORE KEYFILE, order, show and check STORE; insert, find, count and compact with a token take STORE --token TOKEN

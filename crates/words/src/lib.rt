@@ -6,17 +6,10 @@ pub mod line;
 ghost use Rattle.std.specs.Prelude.{◌≡◌};
 ghost use Rattle.octets.specs.Compare.{same as same_bytes};
 ghost use Rattle.words.specs.Decimal.{decimal_of, step_of};
-ghost use Rattle.words.specs.Words.{command_of, reader_of, words_fit};
-
-// What a word is as a decimal.
-#[derive(Clone, Copy)]
-pub enum Parsed {
-    Number(u64),
-    Bad,
-}
+ghost use Rattle.words.specs.Words.{command_of, words_fit};
 
 // What a word is as a command.
-#[derive(Clone, Copy)]
+#[derive(Clone, Copy, Debug, PartialEq, Eq)]
 pub enum Command {
     New,
     Key,
@@ -34,100 +27,68 @@ pub enum Command {
 }
 
 // The number that a further digit makes of the number so far.
-fn step(n: u64, b: u8) -> Parsed
+fn step(n: u64, b: u8) -> Option<u64>
     ensures { result ≡ step_of n b }
 {
-    if 99999999 < n {
-        return Parsed::Bad;
+    match b {
+        b'0'..=b'9' if n <= 99_999_999 => Some(n * 10 + u64::from(b - b'0')),
+        _ => None,
     }
-    if b < 48 {
-        return Parsed::Bad;
-    }
-    if 57 < b {
-        return Parsed::Bad;
-    }
-    Parsed::Number(n * 10 + (octets::wide(b) - 48))
 }
 
 // A word as a decimal below 1,000,000,000.
 #[tactic(auto, using(crate::proofs::Laws::no_digit, crate::proofs::Laws::first_digit, crate::proofs::Laws::next_digit, crate::proofs::Laws::bad_digit, crate::proofs::Laws::no_more))]
-pub fn decimal(word: &[u8]) -> Parsed
+pub fn decimal(word: &[u8]) -> Option<u64>
     ensures { result ≡ decimal_of word.now }
 {
-    if word.len() < 1 {
-        return Parsed::Bad;
+    if word.is_empty() {
+        return None;
     }
-    let mut n: u64 = 0;
-    let mut i = 0;
-    while i < word.len() {
-        let Parsed::Number(m) = step(n, word[i]) else {
-            return Parsed::Bad;
-        };
-        n = m;
-        i += 1;
+    let mut n = 0;
+    for b in word {
+        n = step(n, *b)?;
     }
-    Parsed::Number(n)
+    Some(n)
 }
 
 // Whether a word is a name.
-#[tactic(auto, using(crate::proofs::Laws::differ))]
 pub fn is(word: &[u8], name: &[u8]) -> bool
     ensures { result ≡ same_bytes word.now name.now }
 {
-    if word.len() != name.len() {
-        return false;
-    }
-    octets::same(word, name)
+    word == name
 }
 
-// The command that a word names, of those that change nothing.
-fn reader_of(word: &[u8]) -> Command
-    ensures { result ≡ reader_of word.now }
-{
-    if is(word, b"find") {
-        return Command::Find;
-    }
-    if is(word, b"count") {
-        return Command::Count;
-    }
-    if is(word, b"token") {
-        return Command::Token;
-    }
-    if is(word, b"show") {
-        return Command::Show;
-    }
-    if is(word, b"check") {
-        return Command::Check;
-    }
-    if is(word, b"help") {
-        return Command::Help;
-    }
-    Command::Unknown
-}
-
-// The command that a word names.
+// The command that a word names. A chain of tests: the check leaves arms of a `match` on byte strings open, those of six bytes and more.
 pub fn command_of(word: &[u8]) -> Command
     ensures { result ≡ command_of word.now }
 {
     if is(word, b"new") {
-        return Command::New;
+        Command::New
+    } else if is(word, b"key") {
+        Command::Key
+    } else if is(word, b"insert") {
+        Command::Insert
+    } else if is(word, b"erase") {
+        Command::Erase
+    } else if is(word, b"compact") {
+        Command::Compact
+    } else if is(word, b"order") {
+        Command::Order
+    } else if is(word, b"find") {
+        Command::Find
+    } else if is(word, b"count") {
+        Command::Count
+    } else if is(word, b"token") {
+        Command::Token
+    } else if is(word, b"show") {
+        Command::Show
+    } else if is(word, b"check") {
+        Command::Check
+    } else if is(word, b"help") {
+        Command::Help
+    } else {
+        Command::Unknown
     }
-    if is(word, b"key") {
-        return Command::Key;
-    }
-    if is(word, b"insert") {
-        return Command::Insert;
-    }
-    if is(word, b"erase") {
-        return Command::Erase;
-    }
-    if is(word, b"compact") {
-        return Command::Compact;
-    }
-    if is(word, b"order") {
-        return Command::Order;
-    }
-    reader_of(word)
 }
 
 // Whether a command takes so many words, its own among them; with a token, other than with a key file.

@@ -1,69 +1,53 @@
 // The words of a command line that stands in one slice, each with a 0 after it.
-ghost use Rattle.std.specs.Prelude.{◌≡◌, ◌+◌, ◌≤◌, length, drop};
+ghost use Rattle.std.specs.Prelude.{◌≡◌, ◌≤◌, length};
 ghost use Rattle.words.specs.Line.{word_length, after_word, from_word, word_at, word_count};
 
-// Where the word that starts at a place ends.
-#[tactic(auto, using(crate::proofs::Lines::word_on, crate::proofs::Lines::word_stops, crate::proofs::Lines::word_ends))]
-fn end_of(line: &[u8], start: usize) -> usize
-    requires { start ≤ length line.now }
-    ensures { (result ≡ start + word_length (drop start line.now)) × (result ≤ length line.now) }
+// How long the first word is.
+fn first_length(line: &[u8]) -> usize
+    ensures value { result ≡ word_length line.now }
+    ensures within { result ≤ length line.now }
 {
-    let mut end = start;
-    while end < line.len() {
-        if line[end] == 0 {
-            break;
-        }
-        end += 1;
+    line.iter().position(|b| *b == 0).unwrap_or(line.len())
+}
+
+// The line after its first word.
+#[tactic(auto, using(crate::proofs::Lines::after_first, crate::proofs::Lines::after_last))]
+fn after_first(line: &[u8]) -> &[u8]
+    ensures { result.now ≡ after_word line.now }
+{
+    let end = first_length(line);
+    if end < line.len() {
+        &line[end + 1..]
+    } else {
+        &line[end..]
     }
-    end
 }
 
-// Where the word after the one that starts at a place starts.
-#[tactic(auto, using(crate::proofs::Lines::after_word_lem, crate::proofs::Lines::after_last))]
-fn after(line: &[u8], start: usize) -> usize
-    requires { start ≤ length line.now }
-    ensures { (drop result line.now ≡ after_word (drop start line.now)) × (result ≤ length line.now) }
-{
-    let end = end_of(line, start);
-    if end < line.len() { end + 1 } else { end }
-}
-
-// Where word i starts.
+// The line from word i on, empty where there are fewer.
 #[tactic(auto, using(crate::proofs::Lines::from_next, crate::proofs::Lines::from_none))]
-fn start_of(line: &[u8], i: usize) -> usize
-    ensures { (drop result line.now ≡ from_word i line.now) × (result ≤ length line.now) }
+fn from(line: &[u8], i: usize) -> &[u8]
+    ensures { result.now ≡ from_word i line.now }
 {
-    let mut start = 0;
-    let mut left = i;
-    while 0 < left {
-        start = after(line, start);
-        left -= 1;
+    let mut rest = line;
+    for _passed in 0..i {
+        rest = after_first(rest);
     }
-    start
+    rest
 }
 
 // Word i, empty where there are fewer.
-#[tactic(auto, using(crate::proofs::Lines::word_found))]
+#[tactic(auto, unfolding(crate::specs::Line::word_at))]
 pub fn word(line: &[u8], i: usize) -> &[u8]
     ensures { result.now ≡ word_at i line.now }
 {
-    let start = start_of(line, i);
-    let end = end_of(line, start);
-    &line[start..end]
+    let rest = from(line, i);
+    &rest[..first_length(rest)]
 }
 
 // How many words there are.
-#[tactic(auto, using(crate::proofs::Lines::count_on, crate::proofs::Lines::count_one, crate::proofs::Lines::count_ends))]
+#[tactic(auto, using(crate::proofs::Lines::word_count_is))]
 pub fn count(line: &[u8]) -> usize
     ensures { result ≡ word_count line.now }
 {
-    let mut n = 0;
-    let mut i = 0;
-    while i < line.len() {
-        if line[i] == 0 {
-            n += 1;
-        }
-        i += 1;
-    }
-    n
+    line.iter().filter(|b| **b == 0).count()
 }

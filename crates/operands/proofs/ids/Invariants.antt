@@ -1,12 +1,9 @@
 -- The ids so far stand at the start.
-use Prim.Native.Nat.{◌*◌, ◌-◌, ◌≤◌}
+use Prim.Native.Nat.{◌*◌}
 use mathlib.Core.Path.{◌≡◌}
-use lib.ListN.{length, take}
+use lib.ListN.{take}
 use Rattle.operands.specs.Ids.{ids_of}
 use Rattle.operands.proofs.ids.Given as goal
 
 abbrev pub invariant-loop-i : goal.invariant-loop-i
-invariant-loop-i l = (l.i ≤ l.n) × (length l.to ≡ 16 * l.n) × (take (16 * l.i) l.to ≡ ids_of l.first l.i l.line)
-
-abbrev pub decreases-loop-i : goal.decreases-loop-i
-decreases-loop-i l = l.n - l.i
+invariant-loop-i l = take (16 * l.i) l.to ≡ ids_of l.first l.i l.line

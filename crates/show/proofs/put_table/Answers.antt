@@ -12,7 +12,7 @@ pub returns : goal.returns
 unfolding table_line
 returns c =
     let s = c in
-    let used = c.above-used.ensures in
+    let used = c.saturating_sub-used.ensures in
     let p = c.put-a.ensures in
     let b = c.put_bar-b.ensures in
     let x = c.put_counted-d.ensures in

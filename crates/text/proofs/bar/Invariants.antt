@@ -1,5 +1,4 @@
 -- The places written so far are right.
-use Prim.Native.Nat.{◌≤◌, ◌-◌}
 use mathlib.Core.Path.{◌≡◌}
 use lib.ListN.{length, take}
 use Rattle.text.specs.Tabulate.{tabulate}
@@ -7,7 +6,4 @@ use Rattle.text.specs.Bar.{bar_at}
 use Rattle.text.proofs.bar.Given as goal
 
 abbrev pub invariant-loop-i : goal.invariant-loop-i
-invariant-loop-i l = (l.i ≤ length l.initial.to) × (length l.to ≡ length l.initial.to) × (take l.i l.to ≡ tabulate (bar_at l.used l.total (length l.initial.to)) l.i)
-
-abbrev pub decreases-loop-i : goal.decreases-loop-i
-decreases-loop-i l = length l.initial.to - l.i
+invariant-loop-i l = take l.i l.to ≡ tabulate (bar_at l.used l.total (length l.initial.to)) l.i
