@@ -5,7 +5,7 @@ use mathlib.Core.Logic.{⊎_elim}
 use mathlib.Core.List.{List, [], ◌∷◌, ◌++◌, append-nil}
 use native.Mathlib.Omega.{arith}
 use native.Mathlib.Nat.{suc-ne-zero, suc_inj, le_refl, eq-or-lt_of_le, min-le_left}
-use lib.ListN.{length, take, drop, length-append, length-set, length-drop, drop_of_length-le}
+use lib.ListN.{length, get_or, set, take, drop, length-append, length-set, length-drop, drop_of_length-le}
 use lib.Seq.{take_all, length-take-le}
 use Rattle.chacha20_block.specs.Words.{◌⊞◌}
 use Rattle.chacha20_block.specs.Quarter.{quarter_at}
@@ -47,6 +47,20 @@ length-block s e =
 length_initial : (key : List ℕ) (counter : ℕ) (nonce : List ℕ) → length (initial_state key counter nonce) ≡ 16
 unfolding initial_state
 length_initial key counter nonce = refl
+
+-- ---- the state of the next block
+
+module _ (key nonce w v : List ℕ) (e : w ≡ initial_state key (get_or w 12 0) nonce) (f : v ≡ set w 12 (get_or w 12 0 ⊞ 1)) where
+  next_is : v ≡ initial_state key (get_or w 12 0 ⊞ 1) nonce
+  unfolding initial_state
+  next_is = f ∙ ap (λ (l : List ℕ). set l 12 (get_or w 12 0 ⊞ 1)) e
+
+  pub next_counter : get_or v 12 0 ≡ get_or w 12 0 ⊞ 1
+  unfolding initial_state
+  next_counter = ap (λ (l : List ℕ). get_or l 12 0) next_is
+
+  pub next_initial : v ≡ initial_state key (get_or v 12 0) nonce
+  next_initial = next_is ∙ ap (λ (c : ℕ). initial_state key c nonce) (sym next_counter)
 
 -- ---- the next bytes of a text: a whole block of it, or all that is left
 

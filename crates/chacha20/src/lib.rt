@@ -2,7 +2,7 @@
 // The blocks of the stream are chacha20_block's.
 #![tactic(auto)]
 
-ghost use Rattle.std.specs.Prelude.{◌≡◌, ◌≤◌, min, length};
+ghost use Rattle.std.specs.Prelude.{◌≡◌, ◌≤◌, length};
 ghost use Rattle.answer.specs.Answer.{completion};
 ghost use Rattle.chacha20_block.specs.Rounds.{words};
 ghost use Rattle.chacha20_block.specs.Block.{block as block_of};
@@ -12,16 +12,14 @@ ghost use Rattle.chacha20.specs.Call.{cipher_answer, cipher_text};
 use answer::Refusal;
 use chacha20_block::{State, block, first_state, next_state};
 
-// A text of n bytes XORed with bytes of the stream.
+// A text XORed with bytes of the stream.
 #[tactic(auto, using(crate::proofs::Lists::xored_more, crate::proofs::Lists::all_done, crate::proofs::Rules::xor_bytes_rules))]
-fn xor_bytes(text: &mut [u8], ks: &[u8], n: usize)
-    requires { (length text.old ≡ n) × (n ≤ length ks.now) }
+fn xor_bytes(text: &mut [u8], ks: &[u8])
+    requires { length text.old ≤ length ks.now }
     ensures { text.new ≡ xored text.old ks.now }
 {
-    let mut i: usize = 0;
-    while i < n {
-        text[i] = text[i] ^ ks[i];
-        i += 1;
+    for (i, byte) in text.iter_mut().enumerate() {
+        *byte ^= ks[i];
     }
 }
 
@@ -32,19 +30,11 @@ fn xor_block(s: State, text: &mut [u8])
     ensures { text.new ≡ xored text.old (block_of (words s)) }
 {
     let ks = block(s);
-    let n = text.len();
-    if n == 16 {
-        xor_bytes(text, &ks, 16);
+    if text.len() == 16 {
+        xor_bytes(&mut text[..16], &ks);
     } else {
-        xor_bytes(text, &ks, n);
+        xor_bytes(text, &ks);
     }
-}
-
-// How many of the bytes that are left the next block covers.
-fn span(left: usize) -> usize
-    ensures { result ≡ min left 64 }
-{
-    if left < 64 { left } else { 64 }
 }
 
 // E of at most 64 bytes under a key and a nonce of checked length: one block.
@@ -56,16 +46,16 @@ pub fn apply_short(key: &[u8], nonce: &[u8], text: &mut [u8])
 }
 
 // E under a key and a nonce of checked length. [01:KF2 KF3]
-#[tactic(auto, using(crate::proofs::Lists::part_length, crate::proofs::Lists::all_done, crate::proofs::Stream::text_turn, crate::proofs::Rules::apply_checked_rules), unfolding(chacha20_block::specs::Block::initial_state, crate::specs::Cipher::E))]
+#[tactic(auto, using(crate::proofs::Lists::part_length, crate::proofs::Lists::all_done, crate::proofs::Stream::text_turn, crate::proofs::Stream::next_initial, crate::proofs::Stream::next_counter, crate::proofs::Rules::apply_checked_rules), unfolding(chacha20_block::specs::Block::initial_state, crate::specs::Cipher::E))]
 pub fn apply_checked(key: &[u8], nonce: &[u8], text: &mut [u8])
     requires { (length key.now ≡ 32) × (length nonce.now ≡ 12) }
     ensures { text.new ≡ E key.now nonce.now text.old }
 {
     let mut s = first_state(key, nonce);
-    let mut at: usize = 0;
+    // An index loop: of `chunks_mut` a proof learns no more than how long the text is afterwards.
+    let mut at = 0;
     while at < text.len() {
-        let left = text.len() - at;
-        let e = at + span(left);
+        let e = at + (text.len() - at).min(64);
         xor_block(s, &mut text[at..e]);
         s = next_state(s);
         at = e;

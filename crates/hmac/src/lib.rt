@@ -27,30 +27,20 @@ fn block(key: &[u8], to: &mut [u8])
 {
     let n = key.len();
     if n <= 64 {
-        octets::copy(&mut to[..n], key);
+        to[..n].copy_from_slice(key);
     } else {
         sha256::digest(sha256::finish(sha256::initial(), 0, key), &mut to[..32]);
     }
 }
 
-// XORs a byte into each byte of a slice.
-fn xor(to: &mut [u8], x: u8)
-    ensures { to.new ≡ map (λ (b : ℕ). bit_xor b x) to.old }
-{
-    let mut i = 0;
-    while i < to.len() {
-        to[i] = to[i] ^ x;
-        i += 1;
-    }
-}
-
 // The hash value after the key's block XORed with a pad byte. [02:W5.2]
-fn padded(b: [u8; 64], x: u8) -> State
+fn padded(mut b: [u8; 64], x: u8) -> State
     ensures { words result ≡ compress H0 (map (λ (y : ℕ). bit_xor y x) b) }
 {
-    let mut p = b;
-    xor(&mut p, x);
-    sha256::first(&p)
+    for y in b.iter_mut() {
+        *y ^= x;
+    }
+    sha256::first(&b)
 }
 
 // The two hash values of a key.

@@ -3,17 +3,19 @@ use mathlib.Core.Path.{◌≡◌, refl, sym, ap, ap₂, ◌∙◌}
 use mathlib.Core.List.{List, [], ◌∷◌, ◌++◌, append_assoc, append-nil}
 use Prim.Native.Nat.{ℕ, zero, suc, ◌+◌, ◌-◌, ◌*◌, ◌/◌, ◌%◌, ◌<◌, ◌≤◌}
 use native.Mathlib.Omega.{arith}
-use native.Mathlib.Nat.{zero-add, suc-add, sub-zero}
+use native.Mathlib.Nat.{zero-add, suc-add}
 use native.Mathlib.Numerals.{add-one}
 use lib.ListN.{length, length-append, length-drop, length-replicate, take, drop, set, get_or, replicate, replicate-append-replicate}
 use lib.Seq.{take_at, drop_at, drop-drop, take-append-le, drop-append-le, take-suc, length-take-le, set-append_seam}
+use Rattle.std.specs.Int.{to_be_bytes}
+use mir.Syntax.{w32}
 use Rattle.octets.specs.Number.{bytes}
 use Rattle.octets.specs.Part.{back}
 use Rattle.octets.proofs.Numbers.{length-bytes}
-use Rattle.octets.proofs.Parts.{back_next, length_back, length_part}
+use Rattle.octets.proofs.Parts.{back_next, length_back}
 use Rattle.sha256.specs.Constants.{H0}
 use Rattle.compression.specs.Compression.{added, compress, compress_at}
-use Rattle.compression.proofs.Laws.{block_at}
+use Rattle.compression.proofs.Laws.{block_at, block_alone}
 use Rattle.sha256.specs.Padding.{zeros, padding}
 use Rattle.sha256.specs.Hash.{blocks, tail, final, digest, hash}
 
@@ -38,23 +40,22 @@ blocks_front (suc a) s x y h =
     ap₂ (λ (b r : List ℕ). blocks a (compress s b) r) (take-append-le 64 x y (omega arith)) (drop-append-le 64 x y (omega arith))
     ∙ blocks_front a (compress s (take 64 x)) (drop 64 x) y (omega (arith, length-drop 64 x))
 
--- one block more of those that are left at a place
-pub block_more : (at : ℕ) (s m : List ℕ) → 64 ≤ length m - at
-    → blocks ((length m - at) / 64) s (drop at m) ≡ blocks ((length m - (at + 64)) / 64) (compress s (take 64 (drop at m))) (drop (at + 64) m)
+-- one block more of those that are left
+pub block_more : (s v b rest m : List ℕ) → m ≡ b ++ rest → length b ≡ 64 → v ≡ compress_at s b 0
+    → blocks (length m / 64) s m ≡ blocks (length rest / 64) v rest
 unfolding blocks
-block_more at s m h =
-    ap (λ (n : ℕ). blocks n s (drop at m)) (split (length m) at h)
-    ∙ ap (blocks ((length m - (at + 64)) / 64) (compress s (take 64 (drop at m)))) (drop-drop 64 at m)
+block_more s v b rest m e f g =
+    ap (λ (l : List ℕ). blocks (length l / 64) s l) e
+    ∙ ap (λ (n : ℕ). blocks n s (b ++ rest)) count
+    ∙ ap₂ (λ (x y : List ℕ). blocks (length rest / 64) (compress s x) y) (take_at b rest 64 f) (drop_at b rest 64 f)
+    ∙ ap (λ (x : List ℕ). blocks (length rest / 64) x rest) (sym (g ∙ block_alone s b f))
   where
-    split : (l at : ℕ) → 64 ≤ l - at → (l - at) / 64 ≡ suc ((l - (at + 64)) / 64)
-    split l at h = omega arith
+    count : length (b ++ rest) / 64 ≡ suc (length rest / 64)
+    count = omega (arith, length-append b rest)
 
-pub block_first : (s m : List ℕ) → blocks ((length m - 0) / 64) s (drop 0 m) ≡ blocks (length m / 64) s m
-block_first s m = ap (λ (n : ℕ). blocks (n / 64) s m) (sub-zero (length m))
-
-pub block_none : (at : ℕ) (s m : List ℕ) → length m - at < 64 → blocks ((length m - at) / 64) s (drop at m) ≡ s
+pub block_none : (s m : List ℕ) → length m < 64 → blocks (length m / 64) s m ≡ s
 unfolding blocks
-block_none at s m h = ap (λ (n : ℕ). blocks n s (drop at m)) (none (length m - at) h)
+block_none s m h = ap (λ (n : ℕ). blocks n s m) (none (length m) h)
   where
     none : (l : ℕ) → l < 64 → l / 64 ≡ zero
     none l h = omega arith
@@ -199,13 +200,16 @@ digest-append [] ys = refl
 digest-append (x ∷ xs) ys =
     ap (λ (l : List ℕ). bytes 4 x ++ l) (digest-append xs ys) ∙ sym (append_assoc (bytes 4 x) (digest xs) (digest ys))
 
-module _ (i : ℕ) (to ws ys : List ℕ) (h : i < length ws) (e : length to ≡ 4 * length ws)
-    (g : ys ≡ bytes (length (take (4 * i + 4 - 4 * i) (drop (4 * i) to))) (get_or ws i 0)) where
+be_bytes : (x : ℕ) → to_be_bytes w32 x ≡ bytes 4 x
+unfolding bytes
+be_bytes x =
+    let two : x / 65536 ≡ x / 256 / 256 = omega arith in
+    let three : x / 16777216 ≡ x / 256 / 256 / 256 = omega arith in
+    rw (two, three)
+
+module _ (i : ℕ) (to ws ys : List ℕ) (h : i < length ws) (e : length to ≡ 4 * length ws) (g : ys ≡ to_be_bytes w32 (get_or ws i 0)) where
   four : ys ≡ bytes 4 (get_or ws i 0)
-  four = g ∙ ap (λ (k : ℕ). bytes k (get_or ws i 0)) (length_part to (4 * i) (4 * i + 4) (omega arith) ∙ gap4)
-    where
-      gap4 : 4 * i + 4 - 4 * i ≡ 4
-      gap4 = omega arith
+  four = g ∙ be_bytes (get_or ws i 0)
 
   pub digest_length : length (back to (4 * i) (4 * i + 4) ys) ≡ length to
   digest_length =

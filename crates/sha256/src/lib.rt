@@ -32,15 +32,13 @@ pub fn initial() -> State
 }
 
 // The hash value after the full blocks of a slice, each read where it stands. [02:W5.1]
-#[tactic(auto, using(crate::proofs::Laws::block_more, crate::proofs::Laws::block_none, compression::proofs::Laws::block_at))]
+#[tactic(auto, using(crate::proofs::Laws::block_none))]
 fn blocks(s: State, m: &[u8]) -> State
     ensures { words result ≡ blocks (length m.now / 64) (words s) m.now }
 {
     let mut v = s;
-    let mut at = 0;
-    while 64 <= m.len() - at {
-        v = compress(v, m, at);
-        at += 64;
+    for block in m.chunks_exact(64) {
+        v = compress(v, block, 0);
     }
     v
 }
@@ -54,7 +52,7 @@ fn pad(to: &mut [u8], rest: &[u8], n: usize)
     let r = rest.len();
     let e = to.len();
     let b = e - 8;
-    octets::copy(&mut to[..r], rest);
+    to[..r].copy_from_slice(rest);
     to[r] = 128;
     octets::put(&mut to[b..e], 8 * (n as u64));
 }
@@ -96,26 +94,14 @@ pub fn first(block: &[u8]) -> State
     compress(initial(), block, 0)
 }
 
-// A word as a wider number.
-fn wide(x: u32) -> u64
-    ensures { result ≡ x }
-{
-    x as u64
-}
-
 // Writes the words of a hash value, big-endian.
 #[tactic(auto, using(crate::proofs::Laws::digest_length, crate::proofs::Laws::digest_more), unfolding(crate::specs::Hash::digest))]
 pub fn digest(s: State, to: &mut [u8])
     requires { length to.old ≡ 32 }
     ensures { to.new ≡ digest (words s) }
 {
-    let w = s.words;
-    let mut i = 0;
-    while i < 8 {
-        let at = 4 * i;
-        let e = at + 4;
-        octets::put(&mut to[at..e], wide(w[i]));
-        i += 1;
+    for i in 0..8 {
+        to[4 * i..4 * i + 4].copy_from_slice(&s.words[i].to_be_bytes());
     }
 }
 
