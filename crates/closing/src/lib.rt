@@ -85,6 +85,7 @@ pub fn close(t: &mut [u8], w: usize, n: usize, u: usize, flags: &[u8])
 {
     let mut i = next_flagged(flags, 0, u);
     let mut to = i;
+    // No range: a turn goes over a whole run of rows.
     while i < u {
         let s = next_staying(flags, i + 1, u);
         let e = next_flagged(flags, s, u);

@@ -37,8 +37,7 @@ pub fn replace(t: &mut [u8], c: usize, u: usize, places: &[u16], k: usize, row: 
     let mut flags = [0u8; MOST_ROWS];
     flag_places(places, k, &mut flags);
     closing::close(t, C_WIDTH, c, u, &flags);
-    let marks = table::survey(t, C_WIDTH, c, 1);
-    let left = c - marks.free;
+    let left = c - table::count_free(t, C_WIDTH, c);
     merging::merge(t, C_WIDTH, c, left, row, 1);
     left + 1
 }

@@ -32,6 +32,18 @@ pub fn survey(t: &[u8], w: usize, n: usize, most: u8) -> Marks
     Marks { bad, free }
 }
 
+// How many rows are free.
+pub fn count_free(t: &[u8], w: usize, n: usize) -> usize
+    requires { (1 ≤ w) × (length t.now ≡ w * n) }
+    ensures { result ≡ free_rows (rows w n t.now) }
+{
+    let mut free = 0;
+    for i in 0..n {
+        free += usize::from(t[w * i] == 0);
+    }
+    free
+}
+
 // Whether a row is used and its body starts with a key.
 #[tactic(auto, using(crate::proofs::Walk::starts_said))]
 pub fn starts(row: &[u8], key: &[u8]) -> bool

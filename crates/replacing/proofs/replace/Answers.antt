@@ -43,7 +43,7 @@ flag_places-requires c =
 
 pub overflow_sub-left : goal.overflow_sub-left
 overflow_sub-left c =
-    omega (arith, c.survey-marks.ensures.1, rows_counted (rows (width_of table_c) c.args.c c.close.new.t), rows-length (width_of table_c) c.args.c c.close.new.t)
+    omega (arith, c.count_free.ensures, rows_counted (rows (width_of table_c) c.args.c c.close.new.t), rows-length (width_of table_c) c.args.c c.close.new.t)
 
 pub merge-requires : goal.merge-requires
 merge-requires c =
@@ -54,14 +54,14 @@ merge-requires c =
     (small a.c a.t.now c.requires.t_len.1.0) c.flag_places.ensures shut c.close.ensures in
     let r = shut_room (width_of table_c) a.u t c.requires.k_in_bounds.1.1.1 a.places.now a.k c.requires.k_in_bounds.0.0 c.requires.k_in_bounds.0.1 c.requires.t_len.1.1 c.flag_places.new.flags 4096
     (small a.c a.t.now c.requires.t_len.1.0) c.flag_places.ensures shut c.close.ensures in
-    let n = left_is a.c c.close.new.t c.survey-marks.result.free c.survey-marks.ensures.1 in record { t_len = (c.close.auto.t ∙ c.requires.t_len.0, (c.requires.k_in_bounds.1.0, omega (arith, r, n, rows-length (width_of table_c) a.c a.t.now))); t_value = (f, (n, refl)) }
+    let n = left_is a.c c.close.new.t c.count_free.result c.count_free.ensures in record { t_len = (c.close.auto.t ∙ c.requires.t_len.0, (c.requires.k_in_bounds.1.0, omega (arith, r, n, rows-length (width_of table_c) a.c a.t.now))); t_value = (f, (n, refl)) }
 
 pub returns : goal.returns
 returns c =
     let a = c.args in
     let t = rows (width_of table_c) a.c a.t.now in
     let shut = rows (width_of table_c) a.c c.close.new.t in
-    let n = left_is a.c c.close.new.t c.survey-marks.result.free c.survey-marks.ensures.1 in
+    let n = left_is a.c c.close.new.t c.count_free.result c.count_free.ensures in
     let e = c.merge.ensures ∙ ap (λ (x : Row). with_rows (width_of table_c) (x ∷ []) shut) (take_all (width_of table_c) a.row.now (omega (arith, c.requires.k_in_bounds.1.0))) in record {
       value = add-one _ ∙ ap suc n
           ∙ many_number (width_of table_c) a.u t c.requires.k_in_bounds.1.1.1 a.places.now a.k c.requires.k_in_bounds.0.0 c.requires.k_in_bounds.0.1 c.requires.t_len.1.1 c.flag_places.new.flags 4096
