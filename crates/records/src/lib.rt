@@ -12,20 +12,13 @@ const STDIN_FILENO: i32 = 0;
 
 const STDOUT_FILENO: i32 = 1;
 
-// A byte as a wider number.
-fn wide(x: u8) -> u64
-    ensures { (result ≡ x) × (result < 256) }
-{
-    x as u64
-}
-
 // Of what is read a contract can say its range alone.
 pub fn read_byte() -> u64
     ensures { result < 256 }
 {
     let mut one = [0u8; 1];
     io::read_full(STDIN_FILENO, &mut one);
-    wide(one[0])
+    u64::from(one[0])
 }
 
 // A number of 4 bytes, big-endian.
@@ -34,7 +27,7 @@ pub fn read_number() -> u64
 {
     let mut four = [0u8; 4];
     io::read_full(STDIN_FILENO, &mut four);
-    wide(four[0]) * 0x1000000 + wide(four[1]) * 0x10000 + wide(four[2]) * 0x100 + wide(four[3])
+    u64::from(u32::from_be_bytes(four))
 }
 
 // Fills the slice as the next byte string says.
@@ -66,9 +59,7 @@ pub fn read_bytes(to: &mut [u8]) -> usize
 pub fn write_hex(bytes: &[u8])
     ensures { result ≡ tt }
 {
-    let mut i = 0;
-    while i < bytes.len() {
-        io::print_hex(STDOUT_FILENO, wide(bytes[i]), 2);
-        i += 1;
+    for byte in bytes {
+        io::print_hex(STDOUT_FILENO, u64::from(*byte), 2);
     }
 }

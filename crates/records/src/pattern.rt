@@ -16,10 +16,8 @@ pub fn fill(to: &mut [u8], seed: u64)
     ensures { to.new ≡ pattern (length to.old) seed }
 {
     let mut x = seed;
-    let mut i = 0;
-    while i < to.len() {
+    for byte in to.iter_mut() {
         x = following(x);
-        to[i] = (x / 65536 % 256) as u8;
-        i += 1;
+        *byte = (x / 65536 % 256) as u8;
     }
 }

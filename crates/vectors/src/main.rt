@@ -41,7 +41,8 @@ fn write_output(bytes: &[u8])
         return;
     }
     let mut digest = [0u8; 32];
-    sha256::hash(bytes, &mut digest);
+    // It is not refused: what a call gives has at most 65,536 bytes.
+    let _ = sha256::hash(bytes, &mut digest);
     io::write_all(STDOUT_FILENO, b"sha256 ");
     write_digest(&digest);
 }
@@ -55,7 +56,7 @@ fn write_line(done: Result<(), Refusal>, output: &[u8], lent: &[u8])
         Err(r) => {
             io::write_all(STDOUT_FILENO, b"refused ");
             io::print_decimal(STDOUT_FILENO, r.number());
-            if check::same(output, lent) {
+            if output == lent {
                 io::write_all(STDOUT_FILENO, b", output as lent");
             } else {
                 io::write_all(STDOUT_FILENO, b", OUTPUT CHANGED");
@@ -146,9 +147,7 @@ fn record()
 }
 
 fn main() {
-    let mut left = records::read_number();
-    while 0 < left {
+    for _ in 0..records::read_number() {
         record();
-        left -= 1;
     }
 }

@@ -1,10 +1,7 @@
 use lib.Seq.{take-suc-set}
-use lib.ListN.{length, take, set, length-set}
-use mathlib.Core.List.{List, [], ◌∷◌, ◌++◌, append_assoc}
-use mathlib.Core.Path.{◌≡◌, ap, ◌∙◌}
+use lib.ListN.{length-set}
 use native.Mathlib.Numerals.{add-one}
-use native.Mathlib.Omega.{arith}
-use Prim.Native.Nat.{ℕ, ◌+◌, ◌-◌, ◌<◌, ◌/◌, ◌%◌}
+use Rattle.std.proofs.Common.{◌≡◌, ℕ, ◌+◌, ◌-◌, ◌<◌, ◌/◌, ◌%◌, List, [], ◌∷◌, ◌++◌, append_assoc, length, take, set, ap, ◌∙◌, arith}
 use Rattle.records.specs.Pattern.{following, pattern}
 use Rattle.records.proofs.pattern.fill.Goals as goal
 
@@ -19,15 +16,15 @@ more i k x to h =
     rw (add-one i, add-one k, take-suc-set to i (following x / 65536 % 256) h)
     (append_assoc (take i to) (following x / 65536 % 256 ∷ []) (pattern k (following x)))
 
-pub loop-i-preserved : goal.loop-i-preserved
-loop-i-preserved c =
-    let l = c.loop-i in
+pub loop-byte-preserved : goal.loop-byte-preserved
+loop-byte-preserved c =
+    let l = c.loop-byte in
+    let i = l.byte-index in
     let n = length c.args.to.now in (
-      omega arith,
-      simp length-set l.invariant.1,
+      simp length-set l.invariant.0,
       omega (arith, c.following-x.ensures),
       rw c.following-x.ensures
-          (more l.i (n - (l.i + 1)) l.x l.to (omega arith)
-          ∙ ap (λ k. take l.i l.to ++ pattern k l.x) (rest l.i n (omega arith))
-          ∙ l.invariant.3),
+          (more i (n - (i + 1)) l.x l.to (omega arith)
+          ∙ ap (λ k. take i l.to ++ pattern k l.x) (rest i n (omega arith))
+          ∙ l.invariant.2),
     )
