@@ -12,10 +12,11 @@ use lib.Seq.{take_at, get_or_at, drop-append-add}
 use Rattle.buffer.specs.Decimal.{spelled, decimal_text}
 use Rattle.words.specs.Decimal.{step_of, further, decimal_of}
 use Rattle.std.specs.Prelude.{Option, Some, None}
+use Rattle.words.specs.Line.{before, beyond}
 use Rattle.words.proofs.Laws.{first_digit}
 use Rattle.octets.specs.Compare.{same}
 use Rattle.holder.specs.Holder.{holder_at, holder_of}
-use Rattle.holder.specs.Line.{line_of, before, up_to, beyond, is_ended, body_of, host_of, is_name, positive_of, process_of}
+use Rattle.holder.specs.Line.{line_of, up_to, is_ended, body_of, host_of, is_name, positive_of, process_of}
 
 -- ---- a number's digits are read as the number
 

@@ -1,26 +1,19 @@
 -- The line of a lock file: the number of the process that made it, a space, the name of its host and a line feed.
-use Rattle.std.specs.Prelude.{ℕ, suc, ◌-◌, Bool, false, cond, ◌&&◌, leb, Option, Some, None, List, [], ◌∷◌, ◌++◌, eqb, ltb, length, get_or, take, drop}
+use Rattle.std.specs.Prelude.{ℕ, ◌-◌, Bool, false, cond, ◌&&◌, leb, Option, Some, None, List, ◌++◌, eqb, ltb, length, get_or, take}
 use Rattle.std.specs.List.{list_all}
 use Rattle.text.specs.Ascii.{ascii}
 use Rattle.buffer.specs.Decimal.{counted}
 use Rattle.words.specs.Decimal.{decimal_of}
+use Rattle.words.specs.Line.{before, beyond}
 
 abbrev pub line_of : ℕ → List ℕ → List ℕ
 line_of process host = counted process (ascii " ") ++ (host ++ ascii "\n")
 
 -- ---- such a line read again
 
--- how many bytes stand before the first b
-unfoldable pub before : ℕ → List ℕ → ℕ
-before b [] = 0
-before b (x ∷ xs) = cond (eqb x b) 0 (suc (before b xs))
-
--- a text up to the first b, and what stands after it
+-- a text up to the first b
 abbrev pub up_to : ℕ → List ℕ → List ℕ
 up_to b text = take (before b text) text
-
-abbrev pub beyond : ℕ → List ℕ → List ℕ
-beyond b text = drop (suc (before b text)) text
 
 -- whether the last byte is a line feed, and what stands before it
 abbrev pub is_ended : List ℕ → Bool

@@ -5,10 +5,11 @@
 ghost use Rattle.std.specs.Prelude.{◌≡◌, ◌+◌, ◌≤◌, length};
 ghost use Rattle.io.specs.Counts.{IsPrefixLen};
 ghost use Rattle.buffer.specs.Put.{Put};
-ghost use Rattle.holder.specs.Line.{line_of, before, up_to, body_of, host_of, is_ended, all_shown, is_name, process_of};
+ghost use Rattle.holder.specs.Line.{line_of, up_to, body_of, host_of, is_ended, all_shown, is_name, process_of};
 ghost use Rattle.holder.specs.Holder.{holder_of};
 
 use buffer::{put, put_counted};
+use words::line;
 
 // Whose a lock is: a process's on this host, one's on another, or nobody's that it names.
 #[derive(Clone, Copy, Debug, PartialEq, Eq)]
@@ -29,20 +30,12 @@ pub fn put_line(to: &mut [u8], process: u64, host: &[u8]) -> usize
     put(to, e, b"\n")
 }
 
-// Where a byte first stands in a text, or the text's length.
-fn find(text: &[u8], b: u8) -> usize
-    ensures value { result ≡ before b text.now }
-    ensures prefix_len { IsPrefixLen result text.now }
-{
-    text.iter().position(|x| *x == b).unwrap_or(text.len())
-}
-
 // A text up to the first of a byte, or all of it.
 pub fn up_to(text: &[u8], b: u8) -> &[u8]
     ensures result_value { result.now ≡ up_to b text.now }
     ensures result_in_bounds { length result.now ≤ length text.now }
 {
-    &text[..find(text, b)]
+    &text[..line::before(text, b)]
 }
 
 // Whether a line's last byte is a line feed.
@@ -60,17 +53,10 @@ fn body(line: &[u8]) -> &[u8]
 }
 
 // The host that a line names: what stands after its first space.
-#[tactic(auto, using(crate::proofs::Laws::beyond_found, crate::proofs::Laws::beyond_none))]
 pub fn host(line: &[u8]) -> &[u8]
     ensures { result.now ≡ host_of line.now }
 {
-    let text = body(line);
-    let e = find(text, b' ');
-    if e < text.len() {
-        &text[e + 1..]
-    } else {
-        &text[e..]
-    }
+    line::after(body(line), b' ')
 }
 
 // Whether every byte of a text is a mark of ASCII that can be seen.

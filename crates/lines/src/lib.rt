@@ -79,6 +79,7 @@ pub fn ids(found: &[u8], n: usize, to: &mut [u8]) -> usize
     ensures { Put to.old 0 (id_lines n found.now) to.new result }
 {
     let mut at = 0;
+    // By a place, as the definition of the lines goes: chunks would have to be tied to places first.
     for i in 0..n {
         let a = 16 * i;
         at = put_hex(to, at, &found[a..a + 16]);

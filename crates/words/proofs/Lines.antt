@@ -13,40 +13,42 @@ use Rattle.std.specs.Prelude.{Option, Some, None, unwrap_or}
 use Rattle.std.specs.List.{count_by, position, position_or_len}
 use Rattle.std.proofs.lemmas.List.Recursion.{is_count_by, is_position_or_len}
 use Rattle.std.proofs.lemmas.List.Sums.{prefix_len-le-length}
-use Rattle.words.specs.Line.{word_length, after_word, from_word, word_at, word_count}
+use Rattle.words.specs.Line.{before, beyond, word_length, after_word, from_word, word_at, word_count}
 
--- a word's length and the number of words, by std's words
-pub word_length_is : (line : List ℕ) → word_length line ≡ position_or_len (λ b. eqb b 0) line
-unfolding word_length
-word_length_is line =
-    is_position_or_len word_length (λ b. eqb b 0) refl (λ x xs. ap (λ (n : ℕ). cond (eqb x 0) 0 n) (let e : suc (word_length xs) ≡ 1 + word_length xs = omega arith in e)) line
+-- what stands before a byte and the number of words, by std's words
+before_is : (b : ℕ) (text : List ℕ) → before b text ≡ position_or_len (λ x. eqb x b) text
+unfolding before
+before_is b text =
+    is_position_or_len (before b) (λ x. eqb x b) refl (λ x xs. ap (λ (n : ℕ). cond (eqb x b) 0 n) (let e : suc (before b xs) ≡ 1 + before b xs = omega arith in e)) text
 
 pub word_count_is : (line : List ℕ) → word_count line ≡ count_by (λ b. eqb b 0) line
 unfolding word_count
 word_count_is line =
     is_count_by word_count (λ b. eqb b 0) refl (λ x xs. ap (λ (n : ℕ). cond (eqb x 0) n (word_count xs)) (let e : suc (word_count xs) ≡ 1 + word_count xs = omega arith in e)) line
 
--- where the first 0 stands, or how long the line is where there is none
-pub first_zero : (line : List ℕ) (found : Option ℕ) (n : ℕ) → found ≡ position (λ b. eqb b 0) line → n ≡ unwrap_or found (length line) → n ≡ word_length line
-first_zero line found n f e = e ∙ ap (λ (o : Option ℕ). unwrap_or o (length line)) f ∙ go (ltb at (length line)) refl
+-- where the first b stands, or how long the text is where there is none
+pub first_found : (b : ℕ) (text : List ℕ) (found : Option ℕ) (n : ℕ) → found ≡ position (λ x. eqb x b) text → n ≡ unwrap_or found (length text) → n ≡ before b text
+first_found b text found n f e = e ∙ ap (λ (o : Option ℕ). unwrap_or o (length text)) f ∙ go (ltb at (length text)) refl
   where
     at : ℕ
-    at = position_or_len (λ b. eqb b 0) line
+    at = position_or_len (λ x. eqb x b) text
 
-    go : (t : Bool) → ltb at (length line) ≡ t → unwrap_or (cond t (Some at) None) (length line) ≡ word_length line
-    go true e = sym (word_length_is line)
-    go false e = omega (arith, ltb-false at (length line) e, word_length_is line, prefix_len-le-length (λ b. not (eqb b 0)) line)
+    go : (t : Bool) → ltb at (length text) ≡ t → unwrap_or (cond t (Some at) None) (length text) ≡ before b text
+    go true e = sym (before_is b text)
+    go false e =
+        omega (arith, ltb-false at (length text) e, before_is b text, prefix_len-le-length (λ x. not (eqb x b)) text)
 
--- the line after a word that ends before the line does, and after the last
-to_end : (line : List ℕ) (s : ℕ) → take (length line - s) (drop s line) ≡ drop s line
-to_end line s = take_all (length line - s) (drop s line) (omega (arith, length-drop s line))
+-- a text from a place to its end
+to_end : (text : List ℕ) (s : ℕ) → take (length text - s) (drop s text) ≡ drop s text
+to_end text s = take_all (length text - s) (drop s text) (omega (arith, length-drop s text))
 
-pub after_first : (line : List ℕ) (end : ℕ) → end ≡ word_length line → take (length line - (end + 1)) (drop (end + 1) line) ≡ after_word line
-after_first line end e = to_end line (end + 1) ∙ ap (λ (k : ℕ). drop k line) (add-one end ∙ ap suc e)
+-- what stands after a byte that is there, and after one that is not
+pub beyond_found : (text : List ℕ) (b e : ℕ) → e ≡ before b text → take (length text - (e + 1)) (drop (e + 1) text) ≡ beyond b text
+beyond_found text b e h = to_end text (e + 1) ∙ ap (λ (k : ℕ). drop k text) (add-one e ∙ ap suc h)
 
-pub after_last : (line : List ℕ) (end : ℕ) → end ≡ word_length line → length line ≤ end → take (length line - end) (drop end line) ≡ after_word line
-after_last line end e h =
-    to_end line end ∙ drop_of_length-le line h ∙ sym (drop_of_length-le line {i = suc (word_length line)} (omega arith))
+pub beyond_none : (text : List ℕ) (b e : ℕ) → e ≡ before b text → length text ≤ e → take (length text - e) (drop e text) ≡ beyond b text
+beyond_none text b e h l =
+    to_end text e ∙ drop_of_length-le text l ∙ sym (drop_of_length-le text {i = suc (before b text)} (omega arith))
 
 -- the next word to come to
 pub from_next : (line rest : List ℕ) (i passed : ℕ) → passed < i → rest ≡ after_word line → from_word (i - (passed + 1)) rest ≡ from_word (i - passed) line

@@ -1,14 +1,22 @@
 -- The command line as one list of bytes: its words, each with a 0 after it, which no word holds.
 use Rattle.std.specs.Prelude.{ℕ, zero, suc, cond, List, [], ◌∷◌, eqb, take, drop}
 
--- how many bytes stand before the first 0
-unfoldable pub word_length : List ℕ → ℕ
-word_length [] = 0
-word_length (b ∷ bs) = cond (eqb b 0) 0 (suc (word_length bs))
+-- how many bytes stand before the first b
+unfoldable pub before : ℕ → List ℕ → ℕ
+before b [] = 0
+before b (x ∷ xs) = cond (eqb x b) 0 (suc (before b xs))
+
+-- what stands after the first b
+abbrev pub beyond : ℕ → List ℕ → List ℕ
+beyond b text = drop (suc (before b text)) text
+
+-- how long the first word is
+abbrev pub word_length : List ℕ → ℕ
+word_length line = before 0 line
 
 -- the line after its first word
 abbrev pub after_word : List ℕ → List ℕ
-after_word line = drop (suc (word_length line)) line
+after_word line = beyond 0 line
 
 -- the line from word i on, counted from 0
 unfoldable pub from_word : ℕ → List ℕ → List ℕ

@@ -1,25 +1,25 @@
 // The words of a command line that stands in one slice, each with a 0 after it.
 ghost use Rattle.std.specs.Prelude.{◌≡◌, ◌≤◌, length};
-ghost use Rattle.words.specs.Line.{word_length, after_word, from_word, word_at, word_count};
+ghost use Rattle.words.specs.Line.{before, beyond, from_word, word_at, word_count};
 
-// How long the first word is.
-fn first_length(line: &[u8]) -> usize
-    ensures value { result ≡ word_length line.now }
-    ensures within { result ≤ length line.now }
+// How many bytes of a text stand before the first of a byte: all, where it does not stand there.
+pub fn before(text: &[u8], b: u8) -> usize
+    ensures value { result ≡ before b text.now }
+    ensures within { result ≤ length text.now }
 {
-    line.iter().position(|b| *b == 0).unwrap_or(line.len())
+    text.iter().position(|x| *x == b).unwrap_or(text.len())
 }
 
-// The line after its first word.
-#[tactic(auto, using(crate::proofs::Lines::after_first, crate::proofs::Lines::after_last))]
-fn after_first(line: &[u8]) -> &[u8]
-    ensures { result.now ≡ after_word line.now }
+// What stands after the first of a byte, empty where it does not stand there.
+#[tactic(auto, using(crate::proofs::Lines::beyond_found, crate::proofs::Lines::beyond_none))]
+pub fn after(text: &[u8], b: u8) -> &[u8]
+    ensures { result.now ≡ beyond b text.now }
 {
-    let end = first_length(line);
-    if end < line.len() {
-        &line[end + 1..]
+    let end = before(text, b);
+    if end < text.len() {
+        &text[end + 1..]
     } else {
-        &line[end..]
+        &text[end..]
     }
 }
 
@@ -30,7 +30,7 @@ fn from(line: &[u8], i: usize) -> &[u8]
 {
     let mut rest = line;
     for _passed in 0..i {
-        rest = after_first(rest);
+        rest = after(rest, 0);
     }
     rest
 }
@@ -41,7 +41,7 @@ pub fn word(line: &[u8], i: usize) -> &[u8]
     ensures { result.now ≡ word_at i line.now }
 {
     let rest = from(line, i);
-    &rest[..first_length(rest)]
+    &rest[..before(rest, 0)]
 }
 
 // How many words there are.
