@@ -2,25 +2,15 @@
 // 01, "Store"). The definitions stand in specs/Table.antt, the laws in proofs/Rows.antt and Walk.antt.
 #![tactic(auto)]
 
-ghost use Rattle.std.specs.Prelude.{◌≡◌, not, ◌&&◌, ◌+◌, ◌*◌, ◌<◌, ◌≤◌, length, take, set};
+ghost use Rattle.std.specs.Prelude.{◌≡◌, cond, not, ◌&&◌, ◌+◌, ◌*◌, ◌<◌, ◌≤◌, length, take, set};
 ghost use Rattle.table.specs.Lists.{same as same_bytes};
 ghost use Rattle.table.specs.Table.{rows, is_free, body, free_rows, mark_bad};
 ghost use Rattle.table.specs.Order.{precedes as precedes_bytes};
 
-// What one pass over the marks tells.
-#[derive(Clone, Copy)]
-pub struct Marks {
-    // Whether a mark above the greatest stands.
-    pub bad: bool,
-    // How many rows are free.
-    pub free: usize,
-}
-
-// The check of every mark against the greatest allowed, and the number of free rows, in one pass.
-// [01:ST5 RS3]
-pub fn survey(t: &[u8], w: usize, n: usize, most: u8) -> Marks
+// How many rows are free; None where a mark above the greatest stands. All in one pass over the marks. [01:ST5 RS3]
+pub fn survey(t: &[u8], w: usize, n: usize, most: u8) -> Option<usize>
     requires { (1 ≤ w) × (length t.now ≡ w * n) }
-    ensures { (result.bad ≡ mark_bad most (rows w n t.now)) × (result.free ≡ free_rows (rows w n t.now)) }
+    ensures { result ≡ cond (mark_bad most (rows w n t.now)) None (Some (free_rows (rows w n t.now))) }
 {
     let mut bad = false;
     let mut free = 0;
@@ -29,7 +19,7 @@ pub fn survey(t: &[u8], w: usize, n: usize, most: u8) -> Marks
         bad |= most < mark;
         free += usize::from(mark == 0);
     }
-    Marks { bad, free }
+    if bad { None } else { Some(free) }
 }
 
 // How many rows are free.
