@@ -29,7 +29,9 @@ pub double_round_is : (w c0 c1 c2 c3 d0 d1 d2 d3 : List ℕ) → length w ≡ 16
     → d1 ≡ quarter_round (get_or c1 0 0) (get_or c2 1 0) (get_or c3 2 0) (get_or c0 3 0)
     → d2 ≡ quarter_round (get_or c2 0 0) (get_or c3 1 0) (get_or c0 2 0) (get_or c1 3 0)
     → d3 ≡ quarter_round (get_or c3 0 0) (get_or c0 1 0) (get_or c1 2 0) (get_or c2 3 0)
-    → get_or d0 0 0 ∷ get_or d1 0 0 ∷ get_or d2 0 0 ∷ get_or d3 0 0 ∷ get_or d3 1 0 ∷ get_or d0 1 0 ∷ get_or d1 1 0 ∷ get_or d2 1 0 ∷ get_or d2 2 0 ∷ get_or d3 2 0 ∷ get_or d0 2 0 ∷ get_or d1 2 0 ∷ get_or d1 3 0 ∷ get_or d2 3 0 ∷ get_or d3 3 0 ∷ get_or d0 3 0 ∷ [] ≡ diagonals (columns w)
+    → get_or d0 0 0 ∷ get_or d1 0 0 ∷ get_or d2 0 0 ∷ get_or d3 0 0 ∷ get_or d3 1 0 ∷ get_or d0 1 0 ∷ get_or d1 1 0 ∷ get_or d2 1 0 ∷
+    get_or d2 2 0 ∷ get_or d3 2 0 ∷ get_or d0 2 0 ∷ get_or d1 2 0 ∷ get_or d1 3 0 ∷ get_or d2 3 0 ∷ get_or d3 3 0 ∷ get_or d0 3 0 ∷
+    [] ≡ diagonals (columns w)
 unfolding listed columns diagonals quarter_at
 double_round_is w c0 c1 c2 c3 d0 d1 d2 d3 e f0 f1 f2 f3 g0 g1 g2 g3 =
     rw (g0, g1, g2, g3, f0, f1, f2, f3) (sym (ap (λ (l : List ℕ). diagonals (columns l)) (sixteen w e)))

@@ -145,21 +145,43 @@ pub words_read : (at : ℕ) (m ws : List ℕ) → length ws ≡ 16
 unfolding listed first_words
 words_read at m ws e h0 h1 h2 h3 h4 h5 h6 h7 h8 h9 h10 h11 h12 h13 h14 h15 =
     sixteen ws e ∙ rw (h0, h1, h2, h3, h4, h5, h6, h7, h8, h9, h10, h11, h12, h13, h14, h15)
-    (rw (word_at at 1 m, word_at at 2 m, word_at at 3 m, word_at at 4 m, word_at at 5 m, word_at at 6 m, word_at at 7 m, word_at at 8 m, word_at at 9 m, word_at at 10 m, word_at at 11 m, word_at at 12 m, word_at at 13 m, word_at at 14 m, word_at at 15 m) (sym (words_front 16 64 (drop at m) (omega arith))))
+    (rw (
+      word_at at 1 m,
+      word_at at 2 m,
+      word_at at 3 m,
+      word_at at 4 m,
+      word_at at 5 m,
+      word_at at 6 m,
+      word_at at 7 m,
+      word_at at 8 m,
+      word_at at 9 m,
+      word_at at 10 m,
+      word_at at 11 m,
+      word_at at 12 m,
+      word_at at 13 m,
+      word_at at 14 m,
+      word_at at 15 m,
+    ) (sym (words_front 16 64 (drop at m) (omega arith))))
 
 -- the four words that follow
 pub four_more : (w : List ℕ) (a b c d : ℕ) → length w ≡ 16
     → a ≡ σ1 (get_or w 14 0) ⊞ get_or w 9 0 ⊞ σ0 (get_or w 1 0) ⊞ get_or w 0 0
     → b ≡ σ1 (get_or w 15 0) ⊞ get_or w 10 0 ⊞ σ0 (get_or w 2 0) ⊞ get_or w 1 0
-    → c ≡ σ1 (a) ⊞ get_or w 11 0 ⊞ σ0 (get_or w 3 0) ⊞ get_or w 2 0
-    → d ≡ σ1 (b) ⊞ get_or w 12 0 ⊞ σ0 (get_or w 4 0) ⊞ get_or w 3 0
-    → get_or w 4 0 ∷ get_or w 5 0 ∷ get_or w 6 0 ∷ get_or w 7 0 ∷ get_or w 8 0 ∷ get_or w 9 0 ∷ get_or w 10 0 ∷ get_or w 11 0 ∷ get_or w 12 0 ∷ get_or w 13 0 ∷ get_or w 14 0 ∷ get_or w 15 0 ∷ a ∷ b ∷ c ∷ d ∷ [] ≡ slides 4 w
+    → c ≡ σ1 a ⊞ get_or w 11 0 ⊞ σ0 (get_or w 3 0) ⊞ get_or w 2 0
+    → d ≡ σ1 b ⊞ get_or w 12 0 ⊞ σ0 (get_or w 4 0) ⊞ get_or w 3 0
+    → get_or w 4 0 ∷ get_or w 5 0 ∷ get_or w 6 0 ∷ get_or w 7 0 ∷ get_or w 8 0 ∷ get_or w 9 0 ∷ get_or w 10 0 ∷ get_or w 11 0 ∷
+    get_or w 12 0 ∷ get_or w 13 0 ∷ get_or w 14 0 ∷ get_or w 15 0 ∷ a ∷ b ∷ c ∷ d ∷ [] ≡ slides 4 w
 unfolding listed slides slide next
 four_more w a b c d e ha hb hc hd = rw (hd, hc, hb, ha) (sym (ap (slides 4) (sixteen w e)))
 
 -- sixteen turns, one by one
 pub turns_written : (t : ℕ) (k w s : List ℕ) → length w ≡ 16
-    → turns t k w s ≡ step (get_or k (t + 15) 0) (get_or w 15 0) (step (get_or k (t + 14) 0) (get_or w 14 0) (step (get_or k (t + 13) 0) (get_or w 13 0) (step (get_or k (t + 12) 0) (get_or w 12 0) (step (get_or k (t + 11) 0) (get_or w 11 0) (step (get_or k (t + 10) 0) (get_or w 10 0) (step (get_or k (t + 9) 0) (get_or w 9 0) (step (get_or k (t + 8) 0) (get_or w 8 0) (step (get_or k (t + 7) 0) (get_or w 7 0) (step (get_or k (t + 6) 0) (get_or w 6 0) (step (get_or k (t + 5) 0) (get_or w 5 0) (step (get_or k (t + 4) 0) (get_or w 4 0) (step (get_or k (t + 3) 0) (get_or w 3 0) (step (get_or k (t + 2) 0) (get_or w 2 0) (step (get_or k (t + 1) 0) (get_or w 1 0) (step (get_or k t 0) (get_or w 0 0) s)))))))))))))))
+    → turns t k w s ≡ step (get_or k (t + 15) 0) (get_or w 15 0) (step (get_or k (t + 14) 0) (get_or w 14 0)
+    (step (get_or k (t + 13) 0) (get_or w 13 0) (step (get_or k (t + 12) 0) (get_or w 12 0) (step (get_or k (t + 11) 0) (get_or w 11 0)
+    (step (get_or k (t + 10) 0) (get_or w 10 0) (step (get_or k (t + 9) 0) (get_or w 9 0) (step (get_or k (t + 8) 0) (get_or w 8 0)
+    (step (get_or k (t + 7) 0) (get_or w 7 0) (step (get_or k (t + 6) 0) (get_or w 6 0) (step (get_or k (t + 5) 0) (get_or w 5 0)
+    (step (get_or k (t + 4) 0) (get_or w 4 0) (step (get_or k (t + 3) 0) (get_or w 3 0) (step (get_or k (t + 2) 0) (get_or w 2 0)
+    (step (get_or k (t + 1) 0) (get_or w 1 0) (step (get_or k t 0) (get_or w 0 0) s)))))))))))))))
 unfolding listed turns
 turns_written t k w s e = ap (λ (l : List ℕ). turns t k l s) (sixteen w e) ∙ simp add_assoc
 
