@@ -5,14 +5,13 @@ use mathlib.Core.Bool.{Bool, true, false, cond, not, ◌||◌, or-false}
 use mathlib.Core.Option.{none, some}
 use mathlib.Core.List.{List, [], ◌++◌, append-nil}
 use native.Mathlib.Omega.{arith}
-use lib.Dec.{ltb, eqb}
-use lib.ListN.{length, get_or, take, drop, replicate, length-drop, drop_of_length-le}
+use lib.ListN.{length, take, drop, replicate, length-drop, drop_of_length-le}
 use lib.Seq.{drop_at, length-take-le}
-use borrow.Author.Tests.{ltb-false, eqb-true, not-false, le-ltb, eq-eqb, ne_eqb}
+use borrow.Author.Tests.{not-false, eq-eqb, ne_eqb}
 use Rattle.octets.specs.Part.{back}
 use Rattle.octets.proofs.Parts.{back_next}
 use Rattle.table.specs.Lists.{any_of}
-use Rattle.table.specs.Table.{rows, mark_bad, free_rows}
+use Rattle.table.specs.Table.{Table, rows, mark_bad, free_rows}
 use Rattle.table.specs.Order.{used_rows, in_form, Searchable}
 use Rattle.table.proofs.Counting.{neither}
 use Rattle.table.proofs.Rows.{rows-length}
@@ -22,15 +21,13 @@ use Rattle.answer.specs.Answer.{done, refused, refusal}
 use Rattle.answer.specs.declared.Refusal.{Refusal}
 use Rattle.answer.specs.declared.Refusal.TheVariants.{Header, Mark, Form}
 use Rattle.answer.specs.Verdict.{Test, verdict}
-use Rattle.scheme.specs.Store.{Sizes, Which, plan, width_of, rows_of, greatest_mark, start_of, header_length, rows_bad, sizes_bad, length_for, header_of, sizes_of, cut, header_bad, marks_bad, form_bad, mark_tests, state_tests, fresh, make_tests, make}
+use Rattle.scheme.specs.Store.{Sizes, Which, plan, width_of, rows_of, greatest_mark, start_of, header_length, sizes_bad, length_for, header_of, sizes_of, cut, header_bad, marks_bad, form_bad, mark_tests, state_tests, fresh, make_tests, make}
 use Rattle.scheme.specs.Layout.{Span, span_of, Laid}
 use Rattle.scheme.proofs.Plan.{laid_cut, laid_end, laid_inside, laid_long, laid_rows, laid_from}
 use Rattle.store.specs.declared.Shape.{Shape}
-use Rattle.store.specs.declared.Surveyed.{Surveyed}
-use Rattle.store.specs.declared.Surveys.{Surveys}
-use Rattle.std.specs.Prelude.{Result}
-use Rattle.std.specs.Prelude.{Ok, Err}
-use Rattle.store.specs.Check.{survey_of, surveys_of, table_by, shape_by, marked_of, checked_of, part_in, span_in, sizes_in}
+use Rattle.store.specs.declared.Part.{Part}
+use Rattle.std.specs.Prelude.{Some, None, Result, Ok, Err}
+use Rattle.store.specs.Check.{survey_of, surveys_of, table_by, part_by, shape_by, marked_of, checked_of, part_in, span_in, sizes_in}
 pub use Rattle.header.proofs.Laws.{InRange, in_range, length_shares, GoodHeader, good_header, sizes_read}
 pub use Rattle.store.specs.Check.{table_m, table_v, table_c, table_s, table_r}
 
@@ -64,57 +61,78 @@ module _ (z : Sizes) (b : List ℕ) where
 
 -- ---- the checks
 
--- a table's part, from where the one before it ended
-pub survey_at : (b : List ℕ) (x : Surveyed) (a a' w n most : ℕ) → x ≡ survey_of b a w n most → a ≡ a' → x ≡ survey_of b a' w n most
-survey_at b x a a' w n most e f = e ∙ ap (λ (y : ℕ). survey_of b y w n most) f
-
-pub survey_end : (b : List ℕ) (x : Surveyed) (a w n most : ℕ) → x ≡ survey_of b a w n most → x.part.end ≡ a + w * n
-unfolding survey_of
-survey_end b x a w n most e = ap (λ (y : Surveyed). y.part.end) e
+abbrev part_at : List ℕ → ℕ → ℕ → ℕ → Part
+part_at b a w n = record { start = a; end = a + w * n; rows = n; free = free_rows (rows w n (drop a b)) }
 
 -- one pass over the lent part
-pub surveyed : (b : List ℕ) (start w n most free : ℕ) (bad : Bool) → bad ≡ mark_bad most (rows w n (take (start + w * n - start) (drop start b))) → free ≡ free_rows (rows w n (take (start + w * n - start) (drop start b)))
-    → record { bad = bad; part = record { start = start; end = start + w * n; rows = n; free = free } } ≡ survey_of b start w n most
-unfolding survey_of
-surveyed b start w n most free bad e f =
-    let r = rows_take w n (start + w * n - start) (drop start b) (omega arith) in
-    let x = e ∙ ap (mark_bad most) r in
-    let y = f ∙ ap free_rows r in
-    λ i. record { bad = x i; part = record { start = start; end = start + w * n; rows = n; free = y i } }
+module _ (b : List ℕ) (start w n most : ℕ) where
+  abbrev lent_rows : Table
+  lent_rows = rows w n (take (start + w * n - start) (drop start b))
 
--- the tables one after the other
-pub all_surveyed : (b : List ℕ) (z : Sizes) (x_m x_v x_c x_s x_r : Surveyed) (bad : Bool) → bad ≡ (x_m.bad || (x_v.bad || (x_c.bad || (x_s.bad || x_r.bad))))
-    → x_m ≡ survey_of b (start_of z table_m) (width_of table_m) (rows_of z table_m) (greatest_mark table_m)
-    → x_v ≡ survey_of b (start_of z table_v) (width_of table_v) (rows_of z table_v) (greatest_mark table_v)
-    → x_c ≡ survey_of b (start_of z table_c) (width_of table_c) (rows_of z table_c) (greatest_mark table_c)
-    → x_s ≡ survey_of b (start_of z table_s) (width_of table_s) (rows_of z table_s) (greatest_mark table_s)
-    → x_r ≡ survey_of b (start_of z table_r) (width_of table_r) (rows_of z table_r) (greatest_mark table_r)
-    → record { bad = bad; shape = record { p = z.p; m = x_m.part; v = x_v.part; c = x_c.part; s = x_s.part; r = x_r.part } } ≡ surveys_of b z
-unfolding survey_of surveys_of
-all_surveyed b z x_m x_v x_c x_s x_r bad e e_m e_v e_c e_s e_r =
-    let w : bad ≡ (x_m.bad || (x_v.bad || (x_c.bad || (x_s.bad || (x_r.bad || false))))) = e ∙ ap (λ (x : Bool). x_m.bad || (x_v.bad || (x_c.bad || (x_s.bad || x)))) (sym (or-false x_r.bad)) in
-    (λ i. record { bad = w i; shape = record { p = z.p; m = x_m.part; v = x_v.part; c = x_c.part; s = x_s.part; r = x_r.part } })
-    ∙ (λ i. record { bad = (e_m i).bad || ((e_v i).bad || ((e_c i).bad || ((e_s i).bad || ((e_r i).bad || false)))); shape = record { p = z.p; m = (e_m i).part; v = (e_v i).part; c = (e_c i).part; s = (e_s i).part; r = (e_r i).part } })
+  all_rows : lent_rows ≡ rows w n (drop start b)
+  all_rows = rows_take w n (start + w * n - start) (drop start b) (omega arith)
+
+  pub surveyed_bad : None ≡ cond (mark_bad most lent_rows) None (Some (free_rows lent_rows)) → Err Mark ≡ survey_of b start w n most
+  unfolding survey_of
+  surveyed_bad e = go (mark_bad most (rows w n (drop start b))) (e ∙ ap (λ (t : Table). cond (mark_bad most t) None (Some (free_rows t))) all_rows)
+    where
+      go : (h : Bool) → None ≡ cond h None (Some (free_rows (rows w n (drop start b)))) → Err Mark ≡ cond h (Err Mark) (Ok (part_at b start w n))
+      go true e = refl
+      go false e = absurd (let z : ◌≡◌ {A = ℕ} 0 1 = cc in omega arith)
+
+  pub surveyed : (free : ℕ) → Some free ≡ cond (mark_bad most lent_rows) None (Some (free_rows lent_rows))
+      → Ok (record { start = start; end = start + w * n; rows = n; free = free }) ≡ survey_of b start w n most
+  unfolding survey_of
+  surveyed free e = go (mark_bad most (rows w n (drop start b))) (e ∙ ap (λ (t : Table). cond (mark_bad most t) None (Some (free_rows t))) all_rows)
+    where
+      go : (h : Bool) → Some free ≡ cond h None (Some (free_rows (rows w n (drop start b))))
+          → Ok (record { start = start; end = start + w * n; rows = n; free = free }) ≡ cond h (Err Mark) (Ok (part_at b start w n))
+      go true e = absurd (let z : ◌≡◌ {A = ℕ} 0 1 = cc in omega arith)
+      go false e = let q : free ≡ free_rows (rows w n (drop start b)) = cc in ap (λ (k : ℕ). Ok (record { start = start; end = start + w * n; rows = n; free = k })) q
+
+-- a table that was surveyed: none of its marks is bad, and this is its part
+pub record Surveyed (b : List ℕ) (z : Sizes) (k : Which) (x : Part) : Type 0 where
+  pub fine : mark_bad (greatest_mark k) (table_by b z k) ≡ false
+  pub is : x ≡ part_by b z k
+
+module _ (b : List ℕ) (z : Sizes) (k : Which) (a : ℕ) (here : a ≡ start_of z k) where
+  pub good_survey : (x : Part) → Ok x ≡ survey_of b a (width_of k) (rows_of z k) (greatest_mark k) → Surveyed b z k x
+  unfolding survey_of
+  good_survey x e = go (mark_bad (greatest_mark k) (table_by b z k)) refl (e ∙ ap (λ (y : ℕ). survey_of b y (width_of k) (rows_of z k) (greatest_mark k)) here)
+    where
+      go : (h : Bool) → mark_bad (greatest_mark k) (table_by b z k) ≡ h → Ok x ≡ cond h (Err Mark) (Ok (part_by b z k)) → Surveyed b z k x
+      go true f e = absurd (let z : ◌≡◌ {A = ℕ} 0 1 = cc in omega arith)
+      go false f e = let q : x ≡ part_by b z k = cc in record { fine = f; is = q }
+
+  pub bad_survey : (r : Refusal) → Err r ≡ survey_of b a (width_of k) (rows_of z k) (greatest_mark k) → (mark_bad (greatest_mark k) (table_by b z k) ≡ true) × (r ≡ Mark)
+  unfolding survey_of
+  bad_survey r e = go (mark_bad (greatest_mark k) (table_by b z k)) refl (e ∙ ap (λ (y : ℕ). survey_of b y (width_of k) (rows_of z k) (greatest_mark k)) here)
+    where
+      go : (h : Bool) → mark_bad (greatest_mark k) (table_by b z k) ≡ h → Err r ≡ cond h (Err Mark) (Ok (part_by b z k)) → (mark_bad (greatest_mark k) (table_by b z k) ≡ true) × (r ≡ Mark)
+      go true f e = let q : r ≡ Mark = cc in (f, q)
+      go false f e = absurd (let z : ◌≡◌ {A = ℕ} 0 1 = cc in omega arith)
+
+-- all tables were surveyed, or one has a bad mark
+module _ (b : List ℕ) (z : Sizes) where
+  abbrev bad_marks : Bool
+  bad_marks = any_of (λ k. mark_bad (greatest_mark k) (table_by b z k)) plan
+
+  pub bad_surveys : (r : Refusal) → bad_marks ≡ true → r ≡ Mark → Err r ≡ surveys_of b z
+  unfolding surveys_of
+  bad_surveys r e f = rw e (ap Err f)
+
+  pub good_surveys : (x : Shape) → bad_marks ≡ false → x ≡ shape_by b z → Ok x ≡ surveys_of b z
+  unfolding surveys_of
+  good_surveys x e f = rw e (ap Ok f)
 
 module _ (b : List ℕ) where
   pub checked_header : header_bad b ≡ true → Err Header ≡ marked_of b
   unfolding marked_of
   checked_header e = rw e
 
-  module _ (z : Sizes) (v : Surveys) (e : header_bad b ≡ false) (q : z ≡ sizes_of b) (w : v ≡ surveys_of b z) where
-    marks : v.bad ≡ marks_bad (cut b)
-    unfolding marks_bad cut surveys_of
-    marks = ap (λ (x : Surveys). x.bad) (w ∙ ap (surveys_of b) q)
-
-    pub checked_mark : v.bad ≡ true → Err Mark ≡ marked_of b
-    unfolding marked_of
-    checked_mark f = rw (e, sym marks ∙ f)
-
-    pub checked_fit : v.bad ≡ false → Ok v.shape ≡ marked_of b
-    unfolding marked_of surveys_of
-    checked_fit f =
-        let s : v.shape ≡ shape_by b (sizes_of b) = ap (λ (x : Surveys). x.shape) (w ∙ ap (surveys_of b) q) in
-        rw (e, sym marks ∙ f) (ap Ok s)
+  pub checked_marks : (z : Sizes) (v : Result Shape Refusal) → header_bad b ≡ false → z ≡ sizes_of b → v ≡ surveys_of b z → v ≡ marked_of b
+  unfolding marked_of surveys_of marks_bad cut
+  checked_marks z v e q w = w ∙ ap (surveys_of b) q ∙ rw e
 
 -- ---- what a caller learns
 

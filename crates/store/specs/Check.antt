@@ -1,6 +1,6 @@
 -- What the checks 10, 11 and 20 make of a slice: its p, and of each table where it stands, how many rows it has and how many are free; or
 -- the refusal (document 01, "Store" and "Refusals from the state").
-use Rattle.std.specs.Prelude.{ℕ, ◌+◌, ◌*◌, cond, List, drop}
+use Rattle.std.specs.Prelude.{ℕ, ◌+◌, ◌*◌, cond, List, drop, Result, Ok, Err}
 use Rattle.table.specs.Lists.{any_of}
 use Rattle.table.specs.Table.{Table, rows, mark_bad, free_rows}
 use Rattle.answer.specs.declared.Refusal.TheVariants.{Header, Mark, Form}
@@ -8,19 +8,13 @@ use Rattle.scheme.specs.Store.{Sizes, Which, plan, width_of, rows_of, greatest_m
 use Rattle.scheme.specs.Layout.{Span}
 use Rattle.store.specs.declared.Part.{Part}
 use Rattle.store.specs.declared.Shape.{Shape}
-use Rattle.store.specs.declared.Surveyed.{Surveyed}
-use Rattle.store.specs.declared.Surveys.{Surveys}
-use Rattle.std.specs.Prelude.{Result}
 use Rattle.answer.specs.declared.Refusal.{Refusal}
-use Rattle.std.specs.Prelude.{Ok, Err}
 pub use Rattle.scheme.specs.Store.{table_m, table_v, table_c, table_s, table_r}
 
--- what one pass over the marks of n rows of w bytes from a place on tells
-unfoldable pub survey_of : List ℕ → ℕ → ℕ → ℕ → ℕ → Surveyed
-survey_of b start w n most = record {
-  bad = mark_bad most (rows w n (drop start b));
-  part = record { start = start; end = start + w * n; rows = n; free = free_rows (rows w n (drop start b)) };
-}
+-- one pass over the marks of n rows of w bytes from a place on: their part, or 11 [01:ST5 RS3]
+unfoldable pub survey_of : List ℕ → ℕ → ℕ → ℕ → ℕ → Result Part Refusal
+survey_of b start w n most =
+    cond (mark_bad most (rows w n (drop start b))) (Err Mark) (Ok (record { start = start; end = start + w * n; rows = n; free = free_rows (rows w n (drop start b)) }))
 
 -- a table of a slice with these sizes, and its part
 abbrev pub table_by : List ℕ → Sizes → Which → Table
@@ -32,9 +26,9 @@ part_by b z k = record { start = start_of z k; end = start_of z k + width_of k *
 abbrev pub shape_by : List ℕ → Sizes → Shape
 shape_by b z = record { p = z.p; m = part_by b z table_m; v = part_by b z table_v; c = part_by b z table_c; s = part_by b z table_s; r = part_by b z table_r }
 
--- what the passes over all tables tell
-unfoldable pub surveys_of : List ℕ → Sizes → Surveys
-surveys_of b z = record { bad = any_of (λ k. mark_bad (greatest_mark k) (table_by b z k)) plan; shape = shape_by b z }
+-- the passes over all tables
+unfoldable pub surveys_of : List ℕ → Sizes → Result Shape Refusal
+surveys_of b z = cond (any_of (λ k. mark_bad (greatest_mark k) (table_by b z k)) plan) (Err Mark) (Ok (shape_by b z))
 
 -- 10, then 11 [01:RS1 RS2 RS3] [02:W2.9]
 unfoldable pub marked_of : List ℕ → Result Shape Refusal

@@ -51,20 +51,6 @@ pub struct Shape {
     pub r: Part,
 }
 
-// A table, and whether a mark above the greatest stands in it.
-#[derive(Clone, Copy)]
-struct Surveyed {
-    bad: bool,
-    part: Part,
-}
-
-// All tables, and whether a mark above the greatest stands in one.
-#[derive(Clone, Copy)]
-struct Surveys {
-    bad: bool,
-    shape: Shape,
-}
-
 // Writes the header of a store and zeroes the rest. [01:ST16]
 #[tactic(auto, using(crate::proofs::Laws::made), unfolding(scheme::specs::Store::length_for))]
 fn write(p: u64, m: u64, c: u64, s: u64, r: u64, slice: &mut [u8])
@@ -93,54 +79,50 @@ pub fn make(p: u64, m: u64, c: u64, s: u64, r: u64, slice: &mut [u8]) -> Result<
     Ok(())
 }
 
-// One pass over the marks of the table of n rows of w bytes that starts at a place.
-#[tactic(auto, using(crate::proofs::Laws::surveyed))]
-fn survey(store: &[u8], start: usize, w: usize, n: usize, most: u8) -> Surveyed
+// One pass over the marks of the table of n rows of w bytes that starts at a place: its part, or 11.
+#[tactic(auto, using(crate::proofs::Laws::surveyed_bad, crate::proofs::Laws::surveyed))]
+fn survey(store: &[u8], start: usize, w: usize, n: usize, most: u8) -> Result<Part, Refusal>
     requires { (1 ≤ w) × (start + w * n ≤ length store.now) }
     ensures { result ≡ survey_of store.now start w n most }
 {
     let end = start + w * n;
-    let marks = table::survey(&store[start..end], w, n, most);
-    let part = Part {
+    let Some(free) = table::survey(&store[start..end], w, n, most) else {
+        return Err(Refusal::Mark);
+    };
+    Ok(Part {
         start,
         end,
         rows: n,
-        free: marks.free,
-    };
-    Surveyed {
-        bad: marks.bad,
-        part,
-    }
+        free,
+    })
 }
 
 // One pass over each table, one after the other, with the greatest mark that it allows. [01:ST3 ST5]
 #[tactic(auto, using(crate::proofs::Rules::survey_all_rules), unfolding(scheme::specs::Store::length_for))]
-fn survey_all(store: &[u8], p: u64, m: usize, c: usize, s: usize, r: usize) -> Surveys
+fn survey_all(
+    store: &[u8],
+    p: u64,
+    m: usize,
+    c: usize,
+    s: usize,
+    r: usize,
+) -> Result<Shape, Refusal>
     requires { length store.now ≡ length_for (record { p = p; m = m; c = c; s = s; r = r }) }
     ensures { result ≡ surveys_of store.now (record { p = p; m = m; c = c; s = s; r = r }) }
 {
-    let in_m = survey(store, HEADER, M_WIDTH, m, 1);
-    let in_v = survey(store, in_m.part.end, V_WIDTH, m, 1);
-    let in_c = survey(store, in_v.part.end, C_WIDTH, c, 1);
-    let in_s = survey(store, in_c.part.end, S_WIDTH, s, 1);
-    let in_r = survey(store, in_s.part.end, R_WIDTH, r, 1);
-    let part_m = in_m.part;
-    let part_v = in_v.part;
-    let part_c = in_c.part;
-    let part_s = in_s.part;
-    let part_r = in_r.part;
-    let shape = Shape {
+    let of_m = survey(store, HEADER, M_WIDTH, m, 1)?;
+    let of_v = survey(store, of_m.end, V_WIDTH, m, 1)?;
+    let of_c = survey(store, of_v.end, C_WIDTH, c, 1)?;
+    let of_s = survey(store, of_c.end, S_WIDTH, s, 1)?;
+    let of_r = survey(store, of_s.end, R_WIDTH, r, 1)?;
+    Ok(Shape {
         p,
-        m: part_m,
-        v: part_v,
-        c: part_c,
-        s: part_s,
-        r: part_r,
-    };
-    Surveys {
-        bad: any(in_m.bad, in_v.bad, in_c.bad, in_s.bad, in_r.bad),
-        shape,
-    }
+        m: of_m,
+        v: of_v,
+        c: of_c,
+        s: of_s,
+        r: of_r,
+    })
 }
 
 // The checks 10 and 11, with what an operation needs to know of the store. [01:RS2 RS3] [02:W2.9]
@@ -151,17 +133,12 @@ pub fn marked(store: &[u8]) -> Result<Shape, Refusal>
     if bad_header(store) {
         return Err(Refusal::Header);
     }
-    let p = octets::wide(store[1]);
+    let p = u64::from(store[1]);
     let m = number(store, 2) as usize;
     let c = number(store, 4) as usize;
     let s = number(store, 6) as usize;
     let r = number(store, 8) as usize;
-    let all = survey_all(store, p, m, c, s, r);
-    if all.bad {
-        return Err(Refusal::Mark);
-    }
-    let shape = all.shape;
-    Ok(shape)
+    survey_all(store, p, m, c, s, r)
 }
 
 // Whether the table of a part is in form. [02:W2.1 W2.2 W2.3]

@@ -1,5 +1,4 @@
 -- The tables of the plan, one after the other.
-use Prim.Native.Nat.{◌-◌}
 use native.Mathlib.Omega.{arith}
 use Rattle.store.proofs.Laws.{table_m, table_v, table_c, table_s, table_r, part_formed}
 use Rattle.store.proofs.bad_form.Goals as goal

@@ -1,36 +1,108 @@
--- Each table starts where the one before it ended.
-use mathlib.Core.Path.{◌≡◌}
-use Rattle.scheme.specs.Store.{Sizes, table_v, table_c, table_s, table_r, start_of}
-use Rattle.store.proofs.Laws.{survey_at, survey_end, all_surveyed}
+-- Each table starts where the one before it ended; the first with a bad mark is 11.
+use mathlib.Core.Path.{refl, ap}
+use native.Mathlib.Omega.{arith}
+use Rattle.std.proofs.lemmas.Result.{err_from_is_err_and}
+use Rattle.scheme.specs.Store.{Sizes, table_m, table_v, table_c, table_s, table_r, length_for}
+use Rattle.store.specs.declared.Part.{Part}
+use Rattle.store.proofs.Laws.{good_survey, bad_survey, bad_surveys, good_surveys}
 use Rattle.store.proofs.survey_all.Goals as goal
-use Rattle.store.proofs.survey_all.Lts.View as view
-use Rattle.store.proofs.survey_all.Goals.{After-survey-in_c, After-survey-in_m, After-survey-in_s, After-survey-in_v, Start}
 
-sizes : Start → Sizes
-sizes c = let a = c.args in record { p = a.p; m = a.m; c = a.c; s = a.s; r = a.r }
+pub returns-in_err-of_m : goal.returns-in_err-of_m
+returns-in_err-of_m c =
+    let b = c.args.store.now in
+    let z : Sizes = record { p = c.args.p; m = c.args.m; c = c.args.c; s = c.args.s; r = c.args.r } in
+    let bad = bad_survey b z table_m (10) refl c.in_err-of_m.field-0.0 c.in_err-of_m.ensures in
+    let p = err_from_is_err_and c.from_residual.result c.from_residual.ensures.1 in
+    rw (p.1, p.2) (bad_surveys b z c.in_err-of_m.field-0.0 (rw (bad.0) refl) bad.1)
 
-of_v : (c : After-survey-in_m) → c.survey-in_m.result.part.end ≡ start_of (sizes c.before.before.before) table_v
-unfolding sizes
-of_v c = survey_end _ _ _ _ _ _ c.survey-in_m.ensures
+pub survey-requires-2 : goal.survey-requires-2
+unfolding length_for
+survey-requires-2 c =
+    let b = c.args.store.now in
+    let z : Sizes = record { p = c.args.p; m = c.args.m; c = c.args.c; s = c.args.s; r = c.args.r } in
+    let on_m = good_survey b z table_m (10) refl c.in_ok-of_m.of_m c.in_ok-of_m.ensures in
+    (omega arith, omega (arith, ap (λ (x : Part). x.end) on_m.is, c.requires))
 
-of_c : (c : After-survey-in_v) → c.survey-in_v.result.part.end ≡ start_of (sizes c.before.before.before.before) table_c
-unfolding sizes
-of_c c = survey_end _ _ _ _ _ _ (survey_at _ _ _ _ _ _ _ c.survey-in_v.ensures (of_v (view.up-After-survey-in_m _ _ _ c.before.before)))
+pub returns-in_err-of_v : goal.returns-in_err-of_v
+returns-in_err-of_v c =
+    let b = c.args.store.now in
+    let z : Sizes = record { p = c.args.p; m = c.args.m; c = c.args.c; s = c.args.s; r = c.args.r } in
+    let on_m = good_survey b z table_m (10) refl c.in_ok-of_m.of_m c.in_ok-of_m.ensures in
+    let bad = bad_survey b z table_v (c.in_ok-of_m.of_m.end) (ap (λ (x : Part). x.end) on_m.is) c.in_err-of_v.field-0.0 c.in_err-of_v.ensures in
+    let p = err_from_is_err_and c.from_residual-in_err-of_v.result c.from_residual-in_err-of_v.ensures.1 in
+    rw (p.1, p.2) (bad_surveys b z c.in_err-of_v.field-0.0 (rw (on_m.fine, bad.0) refl) bad.1)
 
-of_s : (c : After-survey-in_c) → c.survey-in_c.result.part.end ≡ start_of (sizes c.before.before.before.before.before) table_s
-unfolding sizes
-of_s c = survey_end _ _ _ _ _ _ (survey_at _ _ _ _ _ _ _ c.survey-in_c.ensures (of_c (view.up-After-survey-in_v _ _ _ c.before.before)))
+pub survey-requires-3 : goal.survey-requires-3
+unfolding length_for
+survey-requires-3 c =
+    let b = c.args.store.now in
+    let z : Sizes = record { p = c.args.p; m = c.args.m; c = c.args.c; s = c.args.s; r = c.args.r } in
+    let on_m = good_survey b z table_m (10) refl c.in_ok-of_m.of_m c.in_ok-of_m.ensures in
+    let on_v = good_survey b z table_v (c.in_ok-of_m.of_m.end) (ap (λ (x : Part). x.end) on_m.is) c.in_ok-of_v.of_v c.in_ok-of_v.ensures in
+    (omega arith, omega (arith, ap (λ (x : Part). x.end) on_v.is, c.requires))
 
-of_r : (c : After-survey-in_s) → c.survey-in_s.result.part.end ≡ start_of (sizes c.before.before.before.before.before.before) table_r
-unfolding sizes
-of_r c = survey_end _ _ _ _ _ _ (survey_at _ _ _ _ _ _ _ c.survey-in_s.ensures (of_s (view.up-After-survey-in_c _ _ _ c.before.before)))
+pub returns-in_err-of_c : goal.returns-in_err-of_c
+returns-in_err-of_c c =
+    let b = c.args.store.now in
+    let z : Sizes = record { p = c.args.p; m = c.args.m; c = c.args.c; s = c.args.s; r = c.args.r } in
+    let on_m = good_survey b z table_m (10) refl c.in_ok-of_m.of_m c.in_ok-of_m.ensures in
+    let on_v = good_survey b z table_v (c.in_ok-of_m.of_m.end) (ap (λ (x : Part). x.end) on_m.is) c.in_ok-of_v.of_v c.in_ok-of_v.ensures in
+    let bad = bad_survey b z table_c (c.in_ok-of_v.of_v.end) (ap (λ (x : Part). x.end) on_v.is) c.in_err-of_c.field-0.0 c.in_err-of_c.ensures in
+    let p = err_from_is_err_and c.from_residual-in_err-of_c.result c.from_residual-in_err-of_c.ensures.1 in
+    rw (p.1, p.2) (bad_surveys b z c.in_err-of_c.field-0.0 (rw (on_m.fine, on_v.fine, bad.0) refl) bad.1)
+
+pub survey-requires-4 : goal.survey-requires-4
+unfolding length_for
+survey-requires-4 c =
+    let b = c.args.store.now in
+    let z : Sizes = record { p = c.args.p; m = c.args.m; c = c.args.c; s = c.args.s; r = c.args.r } in
+    let on_m = good_survey b z table_m (10) refl c.in_ok-of_m.of_m c.in_ok-of_m.ensures in
+    let on_v = good_survey b z table_v (c.in_ok-of_m.of_m.end) (ap (λ (x : Part). x.end) on_m.is) c.in_ok-of_v.of_v c.in_ok-of_v.ensures in
+    let on_c = good_survey b z table_c (c.in_ok-of_v.of_v.end) (ap (λ (x : Part). x.end) on_v.is) c.in_ok-of_c.of_c c.in_ok-of_c.ensures in
+    (omega arith, omega (arith, ap (λ (x : Part). x.end) on_c.is, c.requires))
+
+pub returns-in_err-of_s : goal.returns-in_err-of_s
+returns-in_err-of_s c =
+    let b = c.args.store.now in
+    let z : Sizes = record { p = c.args.p; m = c.args.m; c = c.args.c; s = c.args.s; r = c.args.r } in
+    let on_m = good_survey b z table_m (10) refl c.in_ok-of_m.of_m c.in_ok-of_m.ensures in
+    let on_v = good_survey b z table_v (c.in_ok-of_m.of_m.end) (ap (λ (x : Part). x.end) on_m.is) c.in_ok-of_v.of_v c.in_ok-of_v.ensures in
+    let on_c = good_survey b z table_c (c.in_ok-of_v.of_v.end) (ap (λ (x : Part). x.end) on_v.is) c.in_ok-of_c.of_c c.in_ok-of_c.ensures in
+    let bad = bad_survey b z table_s (c.in_ok-of_c.of_c.end) (ap (λ (x : Part). x.end) on_c.is) c.in_err-of_s.field-0.0 c.in_err-of_s.ensures in
+    let p = err_from_is_err_and c.from_residual-in_err-of_s.result c.from_residual-in_err-of_s.ensures.1 in
+    rw (p.1, p.2) (bad_surveys b z c.in_err-of_s.field-0.0 (rw (on_m.fine, on_v.fine, on_c.fine, bad.0) refl) bad.1)
+
+pub survey-requires-5 : goal.survey-requires-5
+unfolding length_for
+survey-requires-5 c =
+    let b = c.args.store.now in
+    let z : Sizes = record { p = c.args.p; m = c.args.m; c = c.args.c; s = c.args.s; r = c.args.r } in
+    let on_m = good_survey b z table_m (10) refl c.in_ok-of_m.of_m c.in_ok-of_m.ensures in
+    let on_v = good_survey b z table_v (c.in_ok-of_m.of_m.end) (ap (λ (x : Part). x.end) on_m.is) c.in_ok-of_v.of_v c.in_ok-of_v.ensures in
+    let on_c = good_survey b z table_c (c.in_ok-of_v.of_v.end) (ap (λ (x : Part). x.end) on_v.is) c.in_ok-of_c.of_c c.in_ok-of_c.ensures in
+    let on_s = good_survey b z table_s (c.in_ok-of_c.of_c.end) (ap (λ (x : Part). x.end) on_c.is) c.in_ok-of_s.of_s c.in_ok-of_s.ensures in
+    (omega arith, omega (arith, ap (λ (x : Part). x.end) on_s.is, c.requires))
+
+pub returns-in_err-of_r : goal.returns-in_err-of_r
+returns-in_err-of_r c =
+    let b = c.args.store.now in
+    let z : Sizes = record { p = c.args.p; m = c.args.m; c = c.args.c; s = c.args.s; r = c.args.r } in
+    let on_m = good_survey b z table_m (10) refl c.in_ok-of_m.of_m c.in_ok-of_m.ensures in
+    let on_v = good_survey b z table_v (c.in_ok-of_m.of_m.end) (ap (λ (x : Part). x.end) on_m.is) c.in_ok-of_v.of_v c.in_ok-of_v.ensures in
+    let on_c = good_survey b z table_c (c.in_ok-of_v.of_v.end) (ap (λ (x : Part). x.end) on_v.is) c.in_ok-of_c.of_c c.in_ok-of_c.ensures in
+    let on_s = good_survey b z table_s (c.in_ok-of_c.of_c.end) (ap (λ (x : Part). x.end) on_c.is) c.in_ok-of_s.of_s c.in_ok-of_s.ensures in
+    let bad = bad_survey b z table_r (c.in_ok-of_s.of_s.end) (ap (λ (x : Part). x.end) on_s.is) c.in_err-of_r.field-0.0 c.in_err-of_r.ensures in
+    let p = err_from_is_err_and c.from_residual-in_err-of_r.result c.from_residual-in_err-of_r.ensures.1 in
+    rw (p.1, p.2) (bad_surveys b z c.in_err-of_r.field-0.0 (rw (on_m.fine, on_v.fine, on_c.fine, on_s.fine, bad.0) refl) bad.1)
 
 pub returns : goal.returns
-unfolding sizes
 returns c =
-    all_surveyed c.args.store.now (sizes (goal.at.returns c).Start) _ _ _ _ _ _ c.any.ensures
-    c.survey-in_m.ensures
-    (survey_at _ _ _ _ _ _ _ c.survey-in_v.ensures (of_v (goal.at.returns c).After-survey-in_m))
-    (survey_at _ _ _ _ _ _ _ c.survey-in_c.ensures (of_c (goal.at.returns c).After-survey-in_v))
-    (survey_at _ _ _ _ _ _ _ c.survey-in_s.ensures (of_s (goal.at.returns c).After-survey-in_c))
-    (survey_at _ _ _ _ _ _ _ c.survey-in_r.ensures (of_r (goal.at.returns c).After-survey-in_s))
+    let b = c.args.store.now in
+    let z : Sizes = record { p = c.args.p; m = c.args.m; c = c.args.c; s = c.args.s; r = c.args.r } in
+    let on_m = good_survey b z table_m (10) refl c.in_ok-of_m.of_m c.in_ok-of_m.ensures in
+    let on_v = good_survey b z table_v (c.in_ok-of_m.of_m.end) (ap (λ (x : Part). x.end) on_m.is) c.in_ok-of_v.of_v c.in_ok-of_v.ensures in
+    let on_c = good_survey b z table_c (c.in_ok-of_v.of_v.end) (ap (λ (x : Part). x.end) on_v.is) c.in_ok-of_c.of_c c.in_ok-of_c.ensures in
+    let on_s = good_survey b z table_s (c.in_ok-of_c.of_c.end) (ap (λ (x : Part). x.end) on_c.is) c.in_ok-of_s.of_s c.in_ok-of_s.ensures in
+    let on_r = good_survey b z table_r (c.in_ok-of_s.of_s.end) (ap (λ (x : Part). x.end) on_s.is) c.in_ok-of_r.of_r c.in_ok-of_r.ensures in
+    good_surveys b z _ (rw (on_m.fine, on_v.fine, on_c.fine, on_s.fine, on_r.fine) refl)
+    (λ i. record { p = z.p; m = on_m.is i; v = on_v.is i; c = on_c.is i; s = on_s.is i; r = on_r.is i })
