@@ -24,12 +24,10 @@ fn open_log(t: &[u8], s: usize, n: usize, ks: &[u8], log: &mut [u8])
     requires { (n ≤ s) × ((length t.now ≡ width_of table_s * s) × ((length ks.now ≡ 32) × (32 * n ≤ length log.old))) }
     ensures { (rows 32 n log.new ≡ cls_in ks.now (take n (rows (width_of table_s) s t.now))) × (drop (32 * n) log.new ≡ drop (32 * n) log.old) }
 {
-    let mut i = 0;
-    while i < n {
+    for i in 0..n {
         let at = 32 * i;
         let e = at + 32;
         row::open_row(t, s, i, ks, &mut log[at..e]);
-        i += 1;
     }
 }
 

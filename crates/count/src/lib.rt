@@ -27,15 +27,13 @@ fn sum_of_counts(t: &[u8], c: usize, used: usize, clx: Keyed, p: u64) -> Result<
 {
     let mut sum: u64 = 0;
     let mut rows: u64 = 0;
-    let mut u: u64 = 0;
-    while u <= p {
+    for u in 0..p + 1 {
         let reading = counter::read_share(t, c, used, Lookup::Walk, clx, u);
         let Reading::Counter(z) = reading else {
             return Err(Refusal::Damage);
         };
         sum += z.count;
         rows += z.rows;
-        u += 1;
     }
     Ok(Tallied { n: sum, rows })
 }

@@ -24,7 +24,7 @@ fn cl_at(log: &[u8], n: usize, i: usize) -> [u8; 32]
     let at = 32 * i;
     let e = at + 32;
     let mut cl = [0u8; 32];
-    octets::copy(&mut cl, &log[at..e]);
+    cl.copy_from_slice(&log[at..e]);
     cl
 }
 
@@ -34,8 +34,7 @@ fn stopped(r: Treated) -> bool
 {
     match r {
         Treated::Damage => true,
-        Treated::Skipped => false,
-        Treated::Anchored(_) => false,
+        Treated::Skipped | Treated::Anchored(_) => false,
     }
 }
 
@@ -45,8 +44,7 @@ fn added(t: Tally, r: Treated) -> Tally
     ensures { result ≡ totals_after t r }
 {
     match r {
-        Treated::Damage => t,
-        Treated::Skipped => t,
+        Treated::Damage | Treated::Skipped => t,
         Treated::Anchored(k) => Tally {
             anchors: t.anchors + 1,
             counters: t.counters + k,
@@ -112,13 +110,6 @@ pub struct Progress {
     pub stopped: bool,
 }
 
-// A number as a place.
-fn wide(x: u16) -> usize
-    ensures { result ≡ x }
-{
-    x as usize
-}
-
 // Treats the distinct CL of the log, in the order of their first rows, in table C. [01:OP10 OP11 RS13]
 pub fn treat_firsts(
     t: &mut [u8],
@@ -143,9 +134,8 @@ pub fn treat_firsts(
         used: u,
         stopped: false,
     };
-    let mut i = 0;
-    while i < n {
-        z = treat_row(t, c, z, nonces, log, n, i, wide(first[i]));
+    for i in 0..n {
+        z = treat_row(t, c, z, nonces, log, n, i, usize::from(first[i]));
         if z.stopped {
             let totals = z.totals;
             return Progress {
@@ -154,7 +144,6 @@ pub fn treat_firsts(
                 stopped: true,
             };
         }
-        i += 1;
     }
     let totals = z.totals;
     Progress {

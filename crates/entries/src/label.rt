@@ -16,14 +16,12 @@ pub fn new_rows(rl: &[u8], n: usize, nonces: &[u8], ids: &[u8], labels: &mut [u8
     ensures { rows (width_of table_r) n labels.new ≡ label_rows program rl.now (rows 16 n ids.now) nonces.now }
 {
     let k = hmac::prepare(rl);
-    let mut i = 0;
-    while i < n {
+    for i in 0..n {
         let a = NONCE * i;
         let e = a + NONCE;
         let b = ID * i;
         let f = b + ID;
         let row = row::label_row(k, rl, &nonces[a..e], &ids[b..f]);
         table::put_row(labels, R_WIDTH, n, i, &row);
-        i += 1;
     }
 }

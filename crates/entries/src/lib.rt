@@ -33,8 +33,7 @@ pub fn new_rows(
     ensures reverses_after { rows (width_of table_v) n reverses.new ≡ reverse_rows program mt.now g (rows 16 n ids.now) }
 {
     let k = hmac::prepare(mt);
-    let mut i = 0;
-    while i < n {
+    for i in 0..n {
         let a = NONCE * i;
         let e = a + NONCE;
         let b = ID * i;
@@ -51,6 +50,5 @@ pub fn new_rows(
         let reverse = r.reverse;
         table::put_row(entries, M_WIDTH, n, i, &entry);
         table::put_row(reverses, V_WIDTH, n, i, &reverse);
-        i += 1;
     }
 }

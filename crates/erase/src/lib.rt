@@ -2,7 +2,7 @@
 // rows, each M row with a tag of theirs, and all its R rows.
 #![tactic(auto)]
 
-ghost use Rattle.std.specs.Prelude.{◌≡◌, ◌*◌, ◌≤◌, ◌<◌, length, replicate};
+ghost use Rattle.std.specs.Prelude.{◌≡◌, ◌*◌, ◌≤◌, ◌<◌, length};
 ghost use Rattle.table.specs.Lists.{count};
 ghost use Rattle.table.specs.Table.{rows, used};
 ghost use Rattle.table.specs.Order.{Searchable, closed};
@@ -17,13 +17,6 @@ ghost use Rattle.erase.specs.Tags.{Clean, has_id, erased_by};
 use answer::Refusal;
 use format::{ID, row};
 use store::{M_WIDTH, MOST_ROWS, Part, R_WIDTH, Shape, V_WIDTH};
-
-// A flag for each row that a table can have, none set.
-fn blank() -> [u8; MOST_ROWS]
-    ensures { result ≡ replicate 4096 0 }
-{
-    [0u8; MOST_ROWS]
-}
 
 // Flags the rows of M with a tag of the id's rows of V, which stand together from the first that is not
 // before the id. [01:OP4]
@@ -42,14 +35,12 @@ fn flag_entries(
     ensures { flags.new ≡ flagged (erased_by id.now (rows (width_of table_v) k v.now)) (rows (width_of table_m) n m.now) flags.old }
 {
     let from = search::lower(v, V_WIDTH, k, used, id);
-    let mut i = from;
-    while i < used {
+    for i in from..used {
         if !row::is_reverse(v, k, i, id) {
             return;
         }
         let tag = row::tag_at(v, k, i);
         closing::flag(m, M_WIDTH, n, u, &tag, flags);
-        i += 1;
     }
 }
 
@@ -66,7 +57,7 @@ fn free_entries(store: &mut [u8], m: Part, v: Part, id: &[u8; ID])
     let k = v.rows;
     let in_m = n - m.free;
     let in_v = k - v.free;
-    let mut flags = blank();
+    let mut flags = [0u8; MOST_ROWS];
     flag_entries(
         &store[from..to],
         n,
@@ -91,7 +82,7 @@ fn free_rows(store: &mut [u8], part: Part, w: usize, id: &[u8; ID]) -> u64
     let e = part.end;
     let n = part.rows;
     let u = n - part.free;
-    let mut flags = blank();
+    let mut flags = [0u8; MOST_ROWS];
     let freed = closing::flag(&store[a..e], w, n, u, id, &mut flags);
     closing::close(&mut store[a..e], w, n, u, &flags);
     freed as u64
@@ -123,7 +114,7 @@ pub fn erase(store: &mut [u8], id: &[u8]) -> Result<u64, Refusal>
         return Err(Refusal::IdLength);
     }
     let mut name = [0u8; ID];
-    octets::copy(&mut name, id);
+    name.copy_from_slice(id);
     let z = store::sizes(store)?;
     Ok(erase_rows(store, z, &name))
 }

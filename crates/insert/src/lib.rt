@@ -63,14 +63,14 @@ fn insert_checked(
     ensures store_after { store.new ≡ (insert_of program store.old ids.now nonces.now token.now).store }
 {
     let p = z.p;
-    if octets::wide(token[0]) != p {
+    if u64::from(token[0]) != p {
         return Err(Refusal::TokenShares);
     }
     let c = z.c;
     let a = c.start;
     let e = c.end;
     let mut cl = [0u8; 32];
-    octets::copy(&mut cl, &token[65..97]);
+    cl.copy_from_slice(&token[65..97]);
     let keys = format::keys_of(&cl);
     let Reading::Counter(x) = counter::read_keyed(
         &store[a..e],

@@ -59,28 +59,28 @@ module _ (held : ℕ → Bool) where
           at zero z = ap held (let n : i + suc zero ≡ suc i = omega arith in n) ∙ h
           at (suc j) z = ap held (let n : i + suc (suc j) ≡ suc i + suc j = omega arith in n) ∙ f j z
 
--- k of the numbers after i were held, at most left more are to be looked up, and the last row stands at a place
-pub record Walked (tag : ℕ → List ℕ) (t : Table) (c i k left at : ℕ) : Type 0 where
-  pub bound : k + left ≡ c
-  pub total : k + walk (held_in tag t) left (i + k) ≡ walk (held_in tag t) c i
+-- k of the numbers after i were held, at most c - k more are to be looked up, and the last row stands at a place
+pub record Walked (tag : ℕ → List ℕ) (t : Table) (c i k at : ℕ) : Type 0 where
+  pub bound : k ≤ c
+  pub total : k + walk (held_in tag t) (c - k) (i + k) ≡ walk (held_in tag t) c i
   pub place : at ≡ last_place tag t i k
 
 module _ (tag : ℕ → List ℕ) (t : Table) (c i : ℕ) where
-  pub walked_none : c ≡ length t → Walked tag t c i 0 c c
+  pub walked_none : c ≡ length t → Walked tag t c i 0 c
   unfolding last_place
   walked_none e =
-      record { bound = omega arith; total = zero-add _ ∙ ap (walk (held_in tag t) c) (add-zero i); place = e }
+      let n : c - 0 ≡ c = omega arith in
+      record { bound = omega arith; total = zero-add _ ∙ ap₂ (walk (held_in tag t)) n (add-zero i); place = e }
 
-  module _ (k left at : ℕ) (w : Walked tag t c i k left at) where
+  module _ (k at : ℕ) (w : Walked tag t c i k at) where
     module _ (j : ℕ) (found : j ≡ place_of (tag (i + k + 1)) t) where
-      pub walked_more : 0 < left → j < length t → Walked tag t c i (k + 1) (left - 1) j
+      pub walked_more : k < c → j < length t → Walked tag t c i (k + 1) j
       unfolding last_place
       walked_more p h =
-          let b = w.bound in
           let s = w.total in
-          let e = walk_more (held_in tag t) left (i + k) p (place_holds (tag (i + k + 1)) t ∙ lt-ltb (place_of (tag (i + k + 1)) t) (length t) (omega arith)) in
-          let a : walk (held_in tag t) (left - 1) (i + (k + 1)) ≡ walk (held_in tag t) (left - 1) (i + k + 1) =
-          ap (walk (held_in tag t) (left - 1)) (let n : i + (k + 1) ≡ i + k + 1 = omega arith in n) in
+          let e = walk_more (held_in tag t) (c - k) (i + k) (omega arith) (place_holds (tag (i + k + 1)) t ∙ lt-ltb (place_of (tag (i + k + 1)) t) (length t) (omega arith)) in
+          let a : walk (held_in tag t) (c - (k + 1)) (i + (k + 1)) ≡ walk (held_in tag t) (c - k - 1) (i + k + 1) =
+          ap₂ (walk (held_in tag t)) (let l : c - (k + 1) ≡ c - k - 1 = omega arith in l) (let n : i + (k + 1) ≡ i + k + 1 = omega arith in n) in
           record {
             bound = omega arith;
             total = omega arith;
@@ -90,14 +90,15 @@ module _ (tag : ℕ → List ℕ) (t : Table) (c i : ℕ) where
       pub walked_stop : length t ≤ j → (k ≡ walk (held_in tag t) c i) × (at ≡ last_place tag t i k)
       walked_stop h =
           let s = w.total in
-          let e = walk_stop (held_in tag t) left (i + k) (place_holds (tag (i + k + 1)) t ∙ le-ltb (place_of (tag (i + k + 1)) t) (length t) (omega arith)) in
+          let e = walk_stop (held_in tag t) (c - k) (i + k) (place_holds (tag (i + k + 1)) t ∙ le-ltb (place_of (tag (i + k + 1)) t) (length t) (omega arith)) in
           (omega arith, w.place)
 
-    pub walked_end : left ≤ 0 → (k ≡ walk (held_in tag t) c i) × (at ≡ last_place tag t i k)
+    pub walked_end : c ≤ k → (c ≡ walk (held_in tag t) c i) × (at ≡ last_place tag t i c)
     walked_end h =
         let s = w.total in
-        let e = walk_end (held_in tag t) left (i + k) h in
-        (omega arith, w.place)
+        let b = w.bound in
+        let e = walk_end (held_in tag t) (c - k) (i + k) (omega arith) in
+        (omega arith, w.place ∙ ap (last_place tag t i) (let n : k ≡ c = omega arith in n))
 
 -- ---- places
 
@@ -150,8 +151,8 @@ module _ (by : Lookup) (tag : ℕ → List ℕ) (t : Table) (i : ℕ) where
   pub tally_stop : (k c n : ℕ) → k < c → n ≡ tallied_by by (looked_over tag t i (k + 1)) → n ≡ tallied_by by (looked_over tag t i (min (suc k) c))
   tally_stop k c n h e = e ∙ ap (λ (j : ℕ). tallied_by by (looked_over tag t i j)) (let m : k + 1 ≡ min (suc k) c = omega arith in m)
 
-  pub tally_end : (k c n : ℕ) → k ≡ c → n ≡ tallied_by by (looked_over tag t i k) → n ≡ tallied_by by (looked_over tag t i (min (suc k) c))
-  tally_end k c n h e = e ∙ ap (λ (j : ℕ). tallied_by by (looked_over tag t i j)) (let m : k ≡ min (suc k) c = omega arith in m)
+  pub tally_end : (k c n : ℕ) → k ≡ c → n ≡ tallied_by by (looked_over tag t i k) → n ≡ tallied_by by (looked_over tag t i (min (suc c) c))
+  tally_end k c n h e = e ∙ ap (λ (j : ℕ). tallied_by by (looked_over tag t i j)) (let m : k ≡ min (suc c) c = omega arith in m)
 
   module _ (h : length t ≤ 4096) where
     pub tally_small : (k n : ℕ) → k ≤ 4096 → n ≡ tallied_by by (looked_over tag t i k) → n ≤ 16777216

@@ -54,11 +54,9 @@ pub fn anchors_held(t: &[u8], c: usize, u: usize, by: Lookup, ct: Keyed) -> Anch
     ensures b_value { (result.b.0 ≡ walk (held_in (anchor_tags ct) (rows (width_of table_c) c t.now)) c 0) × (result.at ≡ last_place (anchor_tags ct) (rows (width_of table_c) c t.now) 0 result.b.0) }
     ensures rows_value { result.rows ≡ tallied_by by (looked_over (anchor_tags ct) (rows (width_of table_c) c t.now) 0 (min (suc result.b.0) c)) }
 {
-    let mut b: u64 = 0;
     let mut at = c;
     let mut rows: u64 = 0;
-    let mut left = c;
-    while 0 < left {
+    for b in 0..c as u64 {
         let tag = format::anchor_tag(ct, AnchorNumber(b + 1));
         let found = place(t, c, u, by, &tag);
         rows += found.rows;
@@ -69,12 +67,10 @@ pub fn anchors_held(t: &[u8], c: usize, u: usize, by: Lookup, ct: Keyed) -> Anch
                 rows,
             };
         }
-        b += 1;
         at = found.at;
-        left -= 1;
     }
     Anchors {
-        b: AnchorNumber(b),
+        b: AnchorNumber(c as u64),
         at,
         rows,
     }
@@ -104,11 +100,9 @@ pub fn counters_held(
     ensures places_after { places.new ≡ noted (counter_tags ct) (rows (width_of table_c) c t.now) start.0 result.k places.old }
     ensures rows_value { result.rows ≡ tallied_by by (looked_over (counter_tags ct) (rows (width_of table_c) c t.now) start.0 (min (suc result.k) c)) }
 {
-    let mut k: u64 = 0;
     let mut at = c;
     let mut rows: u64 = 0;
-    let mut rest = c;
-    while 0 < rest {
+    for k in 0..c as u64 {
         let tag = format::counter_tag(ct, Position(start.0 + k + 1));
         let next = place(t, c, u, by, &tag);
         rows += next.rows;
@@ -116,9 +110,11 @@ pub fn counters_held(
             return Counters { k, at, rows };
         }
         places[k as usize] = next.at as u16;
-        k += 1;
         at = next.at;
-        rest -= 1;
     }
-    Counters { k, at, rows }
+    Counters {
+        k: c as u64,
+        at,
+        rows,
+    }
 }

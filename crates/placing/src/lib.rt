@@ -2,7 +2,7 @@
 // (entries) and S are made and, with the counter's, placed in their tables.
 #![tactic(auto)]
 
-ghost use Rattle.std.specs.Prelude.{◌≡◌, ◌*◌, ◌≤◌, length, replicate, true};
+ghost use Rattle.std.specs.Prelude.{◌≡◌, ◌*◌, ◌≤◌, length, true};
 ghost use Rattle.table.specs.Table.{rows};
 ghost use Rattle.table.specs.Order.{ascending, sorted, with_rows};
 ghost use Rattle.scheme.specs.Store.{table_m, table_v, table_c, table_s, table_r, width_of, joined, log_row};
@@ -19,6 +19,9 @@ ghost use Rattle.placing.specs.Placed.{Lengths, Room, placed_store};
 use entries::label;
 use format::{ID, INSERT_RL, INSERT_TOKEN, NONCE, row};
 use store::{C_WIDTH, M_WIDTH, Part, R_WIDTH, S_WIDTH, Shape, V_WIDTH};
+
+// The most rows that an insert adds to a table.
+const MOST_NEW: usize = 64;
 
 // Adds n ascending rows to the table of a part, which has room for them. [01:ST4 OP1] [02:W2.4]
 fn add_rows(store: &mut [u8], part: Part, w: usize, new: &[u8], n: usize)
@@ -58,26 +61,12 @@ fn place(
     add_rows(store, s, S_WIDTH, log, 1);
 }
 
-// Room for 64 rows of M, or of R, which are as wide.
-fn blank_entries() -> [u8; 64 * M_WIDTH]
-    ensures { result ≡ replicate (64 * width_of table_m) 0 }
-{
-    [0u8; 64 * M_WIDTH]
-}
-
-// Room for 64 rows of V.
-fn blank_reverses() -> [u8; 64 * V_WIDTH]
-    ensures { result ≡ replicate (64 * width_of table_v) 0 }
-{
-    [0u8; 64 * V_WIDTH]
-}
-
 // Puts at most 64 rows in byte order. [02:W2.2]
 fn sort_rows(t: &mut [u8], w: usize, n: usize)
     requires { (length t.old ≡ w * n) × ((n ≤ 64) × (w ≤ width_of table_m)) }
     ensures { rows w n t.new ≡ sorted (rows w n t.old) }
 {
-    let mut room = blank_entries();
+    let mut room = [0u8; MOST_NEW * M_WIDTH];
     let e = w * n;
     sorting::sort(t, w, n, &mut room[..e]);
 }
@@ -111,7 +100,7 @@ fn write_labels(store: &mut [u8], part: Part, n: usize, rl: &[u8], nonces: &[u8]
     ensures { Replaced store.old part (width_of table_r) (with_rows (width_of table_r) (label_rows program rl.now (rows 16 n ids.now) nonces.now) (table_of store.old part (width_of table_r))) store.new }
 {
     let i = R_WIDTH * n;
-    let mut labels = blank_entries();
+    let mut labels = [0u8; MOST_NEW * R_WIDTH];
     label::new_rows(rl, n, nonces, ids, &mut labels[..i]);
     sort_rows(&mut labels[..i], R_WIDTH, n);
     add_rows(store, part, R_WIDTH, &labels[..i], n);
@@ -136,8 +125,8 @@ pub fn write(
     let n = ids.len() / ID;
     let i = M_WIDTH * n;
     let j = V_WIDTH * n;
-    let mut entries = blank_entries();
-    let mut reverses = blank_reverses();
+    let mut entries = [0u8; MOST_NEW * M_WIDTH];
+    let mut reverses = [0u8; MOST_NEW * V_WIDTH];
     make_rows(
         &token[1..33],
         &token[33..65],

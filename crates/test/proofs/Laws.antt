@@ -1,6 +1,6 @@
 -- The id's rows stand together, so what is left from one of them on decides a test; and each way out of a test is the definition's.
 use Prim.Native.Nat.{ℕ, zero, suc, ◌+◌, ◌≤◌, ◌<◌}
-use mathlib.Core.Path.{◌≡◌, refl, sym, ap, ap₂, ◌∙◌}
+use mathlib.Core.Path.{◌≡◌, refl, sym, ap, ◌∙◌}
 use mathlib.Core.Bool.{Bool, true, false, cond, not, ◌&&◌, ◌||◌}
 use mathlib.Core.Option.{Option, none, some}
 use mathlib.Core.List.{List, [], ◌∷◌, ◌++◌, append-nil}
@@ -13,9 +13,9 @@ use Rattle.table.specs.Lists.{same, any_of}
 use Rattle.table.specs.Table.{Row, Table, is_free, body, used}
 use Rattle.table.proofs.Search.{starts_with}
 use Rattle.hmac.specs.declared.Keyed.{Keyed}
-use Rattle.answer.specs.Answer.{Answer, done, refused, refusal}
+use Rattle.answer.specs.Answer.{Answer, refused, refusal}
 use Rattle.answer.specs.declared.Refusal.{Refusal}
-use Rattle.answer.specs.Verdict.{Test, verdict, answer_or}
+use Rattle.answer.specs.Verdict.{verdict, answer_or}
 use Rattle.scheme.specs.Keys.{mark_token_length}
 use Rattle.scheme.specs.Store.{table_r, cut, state_tests, label_id, label_nonce, label_mark}
 use Rattle.scheme.specs.Refusals.{id_tests, token_tests}

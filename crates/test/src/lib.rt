@@ -24,8 +24,8 @@ pub fn tests(t: &[u8], n: usize, used: usize, rl: Keyed, id: &[u8; ID]) -> bool
     requires { (length t.now ≡ width_of table_r * n) × Searchable (width_of table_r) used (rows (width_of table_r) n t.now) }
     ensures { result ≡ tests_by rl (rows (width_of table_r) n t.now) id.now }
 {
-    let mut i = search::lower(t, R_WIDTH, n, used, id);
-    while i < used {
+    let from = search::lower(t, R_WIDTH, n, used, id);
+    for i in from..used {
         let at = R_WIDTH * i;
         let e = at + R_WIDTH;
         if !table::starts(&t[at..e], id) {
@@ -34,7 +34,6 @@ pub fn tests(t: &[u8], n: usize, used: usize, rl: Keyed, id: &[u8; ID]) -> bool
         if row::is_marked(t, n, i, rl, id) {
             return true;
         }
-        i += 1;
     }
     false
 }
@@ -55,7 +54,7 @@ fn test_in(store: &[u8], z: Shape, id: &[u8], token: &[u8]) -> Result<u64, Refus
     let a = r.start;
     let e = r.end;
     let mut name = [0u8; ID];
-    octets::copy(&mut name, id);
+    name.copy_from_slice(id);
     let rl = hmac::prepare(token);
     let yes = tests(&store[a..e], r.rows, r.rows - r.free, rl, &name);
     Ok(answered(yes))

@@ -6,4 +6,4 @@ use Rattle.course.proofs.cl_at.Goals as goal
 pub returns : goal.returns
 returns c =
     let a = c.args in
-    c.copy.ensures ∙ row_part 32 a.n a.i a.log.now c.requires.0
+    c.copy_from_slice.ensures.after ∙ row_part 32 a.n a.i a.log.now c.requires.0

@@ -42,7 +42,7 @@ returns-then-z c =
     let l = c.loop-i in
     let n = rows-length 32 a.n a.log.now in
     let both = going_stops a.c a.nonces.now (rows 32 a.n a.log.now) (rows (width_of table_c) a.c a.t.now) l.i _ l.z.totals l.z.stopped l.z.used l.invariant.1.1 c.requires.t_len.0.1 (omega (arith, n, c.loop-i-test.true))
-    (omega (arith, n, c.loop-i-test.true)) c.wide.result (c.wide.ensures ∙ first_at a.first.now a.n a.log.now c.requires.first_value l.i (omega (arith, c.loop-i-test.true)))
+    (omega (arith, n, c.loop-i-test.true)) c.from.result (c.from.ensures ∙ first_at a.first.now a.n a.log.now c.requires.first_value l.i (omega (arith, c.loop-i-test.true)))
     _ c.treat_row-z.result.totals c.treat_row-z.result.stopped c.treat_row-z.ensures.stopped_after c.if-z.true a.n (sym n) in
     record { stopped_after = both.0; upto_value = both.1 }
 
@@ -55,7 +55,7 @@ loop-i-preserved c =
       (
         c.treat_row-z.auto.t ∙ l.invariant.1.0,
         going_on a.c a.nonces.now (rows 32 a.n a.log.now) (rows (width_of table_c) a.c a.t.now) l.i _ l.z.totals l.z.stopped l.z.used l.invariant.1.1 c.requires.t_len.0.1 (omega (arith, n, c.loop-i-test.true))
-            (omega (arith, n, c.loop-i-test.true)) c.wide.result (c.wide.ensures ∙ first_at a.first.now a.n a.log.now c.requires.first_value l.i (omega (arith, c.loop-i-test.true)))
+            (omega (arith, n, c.loop-i-test.true)) c.from.result (c.from.ensures ∙ first_at a.first.now a.n a.log.now c.requires.first_value l.i (omega (arith, c.loop-i-test.true)))
             _ c.treat_row-z.result.totals c.treat_row-z.result.stopped c.treat_row-z.ensures.stopped_after c.if-z.false c.treat_row-z.result.used c.treat_row-z.ensures.used_value,
       ),
     )

@@ -1,5 +1,5 @@
 -- Row after row; damage ends it.
-use Prim.Native.Nat.{◌-◌, ◌≤◌}
+use Prim.Native.Nat.{◌≤◌}
 use mathlib.Core.Path.{◌≡◌}
 use lib.ListN.{length}
 use Rattle.table.specs.Table.{rows}
@@ -9,6 +9,3 @@ use Rattle.course.proofs.treat_firsts.Given as goal
 
 abbrev pub invariant-loop-i : goal.invariant-loop-i
 invariant-loop-i l = (l.i ≤ l.n) × ((length l.t ≡ length l.initial.t) × Going l.c l.nonces (rows 32 l.n l.log) (rows (width_of table_c) l.c l.initial.t) l.i (rows (width_of table_c) l.c l.t) l.z.totals l.z.stopped l.z.used)
-
-abbrev pub decreases-loop-i : goal.decreases-loop-i
-decreases-loop-i l = l.n - l.i

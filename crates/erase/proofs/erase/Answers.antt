@@ -1,5 +1,5 @@
 -- Refused by the definition's tests, in its order.
-use mathlib.Core.Path.{◌≡◌, sym, ◌∙◌}
+use mathlib.Core.Path.{◌≡◌, sym}
 use Rattle.std.specs.Prelude.{Ok}
 use Rattle.store.specs.Check.{checked_of}
 use Rattle.erase.proofs.Laws.{erase-length, erase_unfit, erase_fit}
@@ -26,5 +26,5 @@ returns c =
     let n = c.erase_rows in
     let z = (goal.at.returns c).In_ok-z in
     let a = z.args in
-    let both = erase_fit a.store.now a.id.now c.if-id-ne-ID.false z.in_ok-z.z (checked z) z.copy.new.to z.copy.ensures n.result n.new.store n.ensures.value n.ensures.store_after in
+    let both = erase_fit a.store.now a.id.now c.if-id-ne-ID.false z.in_ok-z.z (checked z) z.copy_from_slice.new.self z.copy_from_slice.ensures.after n.result n.new.store n.ensures.value n.ensures.store_after in
     record { result_value = both.0; store_after = both.1 }

@@ -1,5 +1,5 @@
 -- The rows with a tag of the id's are flagged, and M closes up.
-use mathlib.Core.Path.{ap, ◌∙◌}
+use mathlib.Core.Path.{refl, ap, ◌∙◌}
 use native.Mathlib.Omega.{arith}
 use Rattle.table.proofs.Rows.{rows-length}
 use Rattle.closing.specs.Flags.{flagged}
@@ -33,4 +33,4 @@ returns c =
     replaced b a.m (width_of table_m) _ o.new.t c.requires.0.order.within o.auto.t
     (o.ensures
     ∙ closed_by (width_of table_m) q t c.flag_entries.new.flags (omega (arith, c.requires.0.most, rows-length (width_of table_m) a.m.rows (bytes_of b a.m)))
-    (c.flag_entries.ensures ∙ ap (flagged q t) c.blank-flags.ensures))
+    (c.flag_entries.ensures ∙ ap (flagged q t) refl))

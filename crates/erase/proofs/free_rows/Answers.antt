@@ -1,6 +1,6 @@
 -- The id's rows are flagged, and the table closes up.
 use Prim.Native.Nat.{ℕ}
-use mathlib.Core.Path.{◌≡◌, ap, ap₂, ◌∙◌}
+use mathlib.Core.Path.{◌≡◌, refl, ap, ap₂, ◌∙◌}
 use mathlib.Core.List.{List}
 use native.Mathlib.Omega.{arith}
 use lib.ListN.{length, take}
@@ -26,5 +26,5 @@ returns c =
       replaced = replaced b a.part a.w _ o.new.t c.requires.0.order.within o.auto.t
           (o.ensures
           ∙ closed_by a.w (has_id id) t c.flag-freed.new.flags (omega (arith, c.requires.0.most, rows-length a.w a.part.rows (bytes_of b a.part)))
-          (c.flag-freed.ensures.flags_after ∙ ap₂ (λ (k : ℕ) (fs : List ℕ). flagged (λ x. same (take k x) id) t fs) e c.blank-flags.ensures));
+          (c.flag-freed.ensures.flags_after ∙ ap₂ (λ (k : ℕ) (fs : List ℕ). flagged (λ x. same (take k x) id) t fs) e refl));
     }

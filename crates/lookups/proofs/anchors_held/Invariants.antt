@@ -7,8 +7,5 @@ use Rattle.lookups.specs.Walks.{anchor_tags, tallied_by}
 use Rattle.lookups.proofs.Walks.{Walked}
 use Rattle.lookups.proofs.anchors_held.Given as goal
 
-abbrev pub invariant-loop-left : goal.invariant-loop-left
-invariant-loop-left l = Walked (anchor_tags l.ct) (rows (width_of table_c) l.c l.t) l.c 0 l.b l.left l.at × (l.rows ≡ tallied_by l.by (looked_over (anchor_tags l.ct) (rows (width_of table_c) l.c l.t) 0 l.b))
-
-abbrev pub decreases-loop-left : goal.decreases-loop-left
-decreases-loop-left l = l.left
+abbrev pub invariant-loop-b : goal.invariant-loop-b
+invariant-loop-b l = Walked (anchor_tags l.ct) (rows (width_of table_c) l.c l.t) l.c 0 l.b l.at × (l.rows ≡ tallied_by l.by (looked_over (anchor_tags l.ct) (rows (width_of table_c) l.c l.t) 0 l.b))

@@ -12,12 +12,12 @@ use Rattle.table.proofs.Rows.{rows-length}
 use Rattle.lookups.specs.Walks.{counter_tags, tallied_by}
 use Rattle.lookups.proofs.Walks.{walked_none, walked_more, walked_stop, noted_more, tally_none, tally_more, tally_stop, tally_small, more_small}
 use Rattle.lookups.proofs.counters_held.Goals as goal
-use Rattle.lookups.proofs.counters_held.Goals.{After-place-next, In-loop-rest}
+use Rattle.lookups.proofs.counters_held.Goals.{After-place-next, In-loop-k}
 
 -- the place of the next one's row, and the rows looked at for it
 found : (c : After-place-next) →
     let a = c.args in
-    let k = a.start.0 + c.loop-rest.k + 1 in
+    let k = a.start.0 + c.loop-k.k + 1 in
     (c.place-next.result.at ≡ place_of (counter_tags a.ct k) (rows (width_of table_c) a.c a.t.now))
     × (c.place-next.result.rows ≡ tallied_by a.by (looked_at (counter_tags a.ct k) (rows (width_of table_c) a.c a.t.now)))
 found c = let a = c.args in
@@ -27,11 +27,11 @@ found c = let a = c.args in
 
 -- the tally with the next one's rows, which fits
 more : (c : After-place-next) →
-    let l = c.loop-rest in
+    let l = c.loop-k in
     let a = c.args in
     (l.rows + c.place-next.result.rows ≡ tallied_by a.by (looked_over (counter_tags a.ct) (rows (width_of table_c) a.c a.t.now) a.start.0 (l.k + 1)))
     × (l.rows + c.place-next.result.rows ≤ 16781312)
-more c = let l = c.loop-rest in
+more c = let l = c.loop-k in
     let a = c.args in
     let t : Table = rows (width_of table_c) a.c a.t.now in
     let h : length t ≤ 4096 = omega (arith, c.requires.1.0, rows-length (width_of table_c) a.c a.t.now) in (
@@ -40,35 +40,35 @@ more c = let l = c.loop-rest in
     )
 
 -- there is room for the next
-room : (c : In-loop-rest) → c.loop-rest.k < length c.args.places.now
-room c = omega (arith, c.loop-rest.invariant.0.0.bound, c.requires)
+room : (c : In-loop-k) → c.loop-k.k < length c.args.places.now
+room c = omega (arith, c.loop-k.invariant.0.0.bound, c.requires)
 
-pub loop-rest-init : goal.loop-rest-init
-loop-rest-init c =
+pub loop-k-init : goal.loop-k-init
+loop-k-init c =
     let a = c.args in
     ((walked_none (counter_tags a.ct) (rows (width_of table_c) a.c a.t.now) a.c a.start.0 (sym (rows-length (width_of table_c) a.c a.t.now)), refl), tally_none a.by)
 
 pub returns-then-c-next : goal.returns-then-c-next
 returns-then-c-next c =
     let o = (goal.at.returns-then-c-next c).After-place-next in
-    let l = o.loop-rest in
+    let l = o.loop-k in
     let a = o.args in
     let t : Table = rows (width_of table_c) a.c a.t.now in record {
-      k_value = walked_stop (counter_tags a.ct) t a.c a.start.0 l.k l.rest l.at l.invariant.0.0 o.place-next.result.at (found o).0 (omega (arith, rows-length (width_of table_c) a.c a.t.now, c.if-c-next.true));
+      k_value = walked_stop (counter_tags a.ct) t a.c a.start.0 l.k l.at l.invariant.0.0 o.place-next.result.at (found o).0 (omega (arith, rows-length (width_of table_c) a.c a.t.now, c.if-c-next.true));
       places_after = l.invariant.0.1;
-      rows_value = tally_stop a.by (counter_tags a.ct) t a.start.0 l.k a.c (l.rows + o.place-next.result.rows) (omega (arith, l.invariant.0.0.bound, o.loop-rest-test.true)) (more o).0;
+      rows_value = tally_stop a.by (counter_tags a.ct) t a.start.0 l.k a.c (l.rows + o.place-next.result.rows) (omega (arith, l.invariant.0.0.bound, o.loop-k-test.true)) (more o).0;
     }
 
-pub loop-rest-preserved : goal.loop-rest-preserved
-loop-rest-preserved c =
-    let o = (goal.at.loop-rest-preserved c).After-place-next in
-    let l = o.loop-rest in
+pub loop-k-preserved : goal.loop-k-preserved
+loop-k-preserved c =
+    let o = (goal.at.loop-k-preserved c).After-place-next in
+    let l = o.loop-k in
     let a = o.args in
     let t : Table = rows (width_of table_c) a.c a.t.now in
     let j = o.place-next.result.at in (
       (
-        walked_more (counter_tags a.ct) t a.c a.start.0 l.k l.rest l.at l.invariant.0.0 j (found o).0 o.loop-rest-test.true (omega (arith, rows-length (width_of table_c) a.c a.t.now, c.if-c-next.false)),
-        noted_more (counter_tags a.ct) t a.start.0 l.k a.places.now l.places l.invariant.0.1 (room (goal.at.loop-rest-preserved c).In-loop-rest) j (found o).0,
+        walked_more (counter_tags a.ct) t a.c a.start.0 l.k l.at l.invariant.0.0 j (found o).0 o.loop-k-test.true (omega (arith, rows-length (width_of table_c) a.c a.t.now, c.if-c-next.false)),
+        noted_more (counter_tags a.ct) t a.start.0 l.k a.places.now l.places l.invariant.0.1 (room (goal.at.loop-k-preserved c).In-loop-k) j (found o).0,
       ),
       (more o).0,
     )

@@ -7,9 +7,6 @@ use Rattle.lookups.specs.Walks.{counter_tags, noted, tallied_by}
 use Rattle.lookups.proofs.Walks.{Walked}
 use Rattle.lookups.proofs.counters_held.Given as goal
 
-abbrev pub invariant-loop-rest : goal.invariant-loop-rest
-invariant-loop-rest l = (Walked (counter_tags l.ct) (rows (width_of table_c) l.c l.t) l.c l.start.0 l.k l.rest l.at × (l.places ≡ noted (counter_tags l.ct) (rows (width_of table_c) l.c l.t) l.start.0 l.k l.initial.places))
+abbrev pub invariant-loop-k : goal.invariant-loop-k
+invariant-loop-k l = (Walked (counter_tags l.ct) (rows (width_of table_c) l.c l.t) l.c l.start.0 l.k l.at × (l.places ≡ noted (counter_tags l.ct) (rows (width_of table_c) l.c l.t) l.start.0 l.k l.initial.places))
     × (l.rows ≡ tallied_by l.by (looked_over (counter_tags l.ct) (rows (width_of table_c) l.c l.t) l.start.0 l.k))
-
-abbrev pub decreases-loop-rest : goal.decreases-loop-rest
-decreases-loop-rest l = l.rest

@@ -28,7 +28,7 @@ short : (s : Start) → count s ≤ 64
 short s = s.requires.lengths.0.most
 
 abbrev start : After-make_rows → Start
-start o = o.before.before.before.before.before.before.before.before.before.before.before.before.before
+start o = o.before.before.before.before.before.before.before.before.before.before.before
 
 -- the rows as they came back, and those that they are
 abbrev in_m : After-make_rows → List ℕ
@@ -45,12 +45,10 @@ abbrev new_v : After-make_rows → List Row
 new_v o = let a = (start o).args in reverse_rows program (take 32 (drop 1 a.token.now)) a.g (rows 16 (count (start o)) a.ids.now)
 
 long_m : (o : After-make_rows) → length (in_m o) ≡ width_of table_m * count (start o)
-long_m o = o.make_rows.auto.entries ∙ sym ((let b = o.blank_entries-entries in
-    sym (length-take-le _ b.result (omega (arith, short o.before.before.before.before.before.before.before.before.before.before.before.before.before, ap length b.ensures ∙ length-replicate {A = ℕ} (64 * width_of table_m) 0)))))
+long_m o = o.make_rows.auto.entries ∙ length-take-le _ _ (omega (arith, short (start o), length-replicate {A = ℕ} (64 * width_of table_m) 0))
 
 long_v : (o : After-make_rows) → length (in_v o) ≡ width_of table_v * count (start o)
-long_v o = o.make_rows.auto.reverses ∙ sym ((let b = o.blank_reverses-reverses in
-    sym (length-take-le _ b.result (omega (arith, short o.before.before.before.before.before.before.before.before.before.before.before.before.before, ap length b.ensures ∙ length-replicate {A = ℕ} (64 * width_of table_v) 0)))))
+long_v o = o.make_rows.auto.reverses ∙ length-take-le _ _ (omega (arith, short (start o), length-replicate {A = ℕ} (64 * width_of table_v) 0))
 
 front_m : (o : After-make_rows) (rest : List ℕ) → take (width_of table_m * count (start o)) (in_m o ++ rest) ≡ in_m o
 front_m o rest = front_is _ (in_m o) rest _ (sym (long_m o)) refl

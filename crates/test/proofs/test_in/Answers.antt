@@ -34,7 +34,7 @@ returns c =
     let r = rows (width_of table_r) a.z.r.rows (take (a.z.r.end - a.z.r.start) (drop a.z.r.start a.store.now)) in
     ap (λ (n : ℕ). done (n ∷ [])) c.answered.ensures
     ∙ fit_store a.store.now a.id.now a.token.now s.requires.1.0 s.requires.1.1 a.z p.prepare-rl.result r t.result s.requires.0
-    (record { inner = p.prepare-rl.ensures.0; outer = p.prepare-rl.ensures.1 }) (in_r s).same (t.ensures ∙ ap (tests_by p.prepare-rl.result r) p.copy.ensures)
+    (record { inner = p.prepare-rl.ensures.0; outer = p.prepare-rl.ensures.1 }) (in_r s).same (t.ensures ∙ ap (tests_by p.prepare-rl.result r) p.copy_from_slice.ensures.after)
 
 pub slice_bounds-tests-count : goal.slice_bounds-tests-count
 slice_bounds-tests-count c = omega (arith, in_r (start c))

@@ -1,5 +1,5 @@
 -- The rows of the first ids are made.
-use Prim.Native.Nat.{◌-◌, ◌≤◌}
+use Prim.Native.Nat.{◌≤◌}
 use mathlib.Core.Path.{◌≡◌}
 use lib.ListN.{length, take}
 use Rattle.table.specs.Table.{rows}
@@ -10,6 +10,3 @@ use Rattle.entries.proofs.label.new_rows.Given as goal
 
 abbrev pub invariant-loop-i : goal.invariant-loop-i
 invariant-loop-i l = (l.i ≤ l.n) × (length l.labels ≡ length l.initial.labels) × (take l.i (rows (width_of table_r) l.n l.labels) ≡ take l.i (label_rows program l.rl (rows 16 l.n l.ids) l.nonces))
-
-abbrev pub decreases-loop-i : goal.decreases-loop-i
-decreases-loop-i l = l.n - l.i
