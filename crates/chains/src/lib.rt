@@ -134,10 +134,8 @@ pub fn write(t: &[u8], m: usize, me: Keyed, index: &[u32], ids: &[u8], n: usize,
     requires { (length t.now ≡ width_of table_m * m) × (Chained me (rows (width_of table_m) m t.now) (kept index.now ids.now n) × (16 * n ≤ length output.old)) }
     ensures { output.new ≡ written output.old 0 (flat (kept_ids me (rows (width_of table_m) m t.now) index.now n)) }
 {
-    let mut i: usize = 0;
-    while i < n {
+    for i in 0..n {
         let id = id_at(t, m, me, index, ids, i);
         octets::copy_at(output, ID * i, &id);
-        i += 1;
     }
 }

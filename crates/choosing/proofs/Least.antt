@@ -1,5 +1,5 @@
--- Chosen part after part, the part is the one at the place of the least number; or one of the parts is damaged.
-use Prim.Native.Nat.{ℕ, zero, suc, ◌≤◌, ◌<◌}
+-- Chosen part after part, the part is the one at the place of the least number; none where one of the parts is damaged.
+use Prim.Native.Nat.{ℕ, zero, suc, ◌-◌, ◌≤◌, ◌<◌}
 use mathlib.Core.Path.{◌≡◌, refl, sym, ap, ap₂, ◌∙◌}
 use mathlib.Core.Bool.{Bool, true, false, cond, ◌||◌, true≢false, or-true}
 use mathlib.Core.List.{List, [], ◌∷◌, ◌++◌, map, map-append}
@@ -9,12 +9,13 @@ use lib.Dec.{ltb}
 use lib.ListN.{length, get_or, take, length-map}
 use lib.Seq.{take-suc, get_or-take, length-take-le}
 use borrow.Author.Tests.{ltb-true, ltb-false, lt-ltb}
+use Rattle.std.specs.Prelude.{Option, Some, None, is_none}
 use Rattle.table.specs.Lists.{any_of}
 use Rattle.table.proofs.Counting.{neither, any_append}
 use Rattle.scheme.specs.JointFind.{least_at}
 use Rattle.find.specs.declared.Counts.{Counts}
 use Rattle.choosing.specs.declared.Choice.{Choice}
-use Rattle.choosing.specs.Choice.{choice, better_of, chosen_to}
+use Rattle.choosing.specs.Choice.{choice, better_of, first_of, next_of, chosen_to}
 
 -- ---- the place of the least number
 
@@ -67,86 +68,109 @@ get_d_map g [] i h = absurd (not-suc-le-zero h)
 get_d_map g (x ∷ xs) zero h = refl
 get_d_map g (x ∷ xs) (suc i) h = get_d_map g xs i (omega arith)
 
-module _ (f : List ℕ → Counts) (ps : List (List ℕ)) where
+-- what is counted, and 0 of a damaged part
+abbrev pub sum_in : Option Counts → ℕ
+sum_in None = 0
+sum_in (Some k) = k.sum
+
+module _ (f : List ℕ → Option Counts) (ps : List (List ℕ)) where
+  -- ---- one part more
+
+  pub choice_more : (i : ℕ) (c : Choice) (k : Counts) → 1 ≤ i → Some c ≡ chosen_to f ps (i - 1) → Some k ≡ f (get_or ps i []) → Some (better_of c i k) ≡ chosen_to f ps i
+  choice_more zero c k h e q = absurd (not-suc-le-zero h)
+  choice_more (suc i) c k h e q =
+      let n : suc i - 1 ≡ i = omega arith in
+      let p : Some c ≡ chosen_to f ps i = e ∙ ap (λ (j : ℕ). chosen_to f ps j) n in
+      ap₂ (λ (o : Option Choice) (x : Option Counts). next_of o (suc i) x) p q
+
+  -- none once a part is damaged
+  pub choice_none : (n i : ℕ) → i ≤ n → None ≡ f (get_or ps i []) → None ≡ chosen_to f ps n
+  choice_none zero i h e =
+      let n : i ≡ 0 = omega arith in
+      ap (λ (o : Option Counts). first_of o) (e ∙ ap (λ (j : ℕ). f (get_or ps j [])) n)
+  choice_none (suc n) i h e = go (ltb i (suc n)) refl (λ m. choice_none n i m e)
+    where
+      last : (o : Option Choice) → None ≡ next_of o (suc n) None
+      last None = refl
+      last (Some c) = refl
+
+      go : (b : Bool) → ltb i (suc n) ≡ b → (i ≤ n → None ≡ chosen_to f ps n) → None ≡ next_of (chosen_to f ps n) (suc n) (f (get_or ps (suc n) []))
+      go true q r =
+          let h : i < suc n = ltb-true i (suc n) q in
+          ap (λ (o : Option Choice). next_of o (suc n) (f (get_or ps (suc n) []))) (r (omega arith))
+      go false q r =
+          let m : i ≡ suc n = omega (arith, ltb-false i (suc n) q) in
+          last (chosen_to f ps n) ∙ ap (λ (x : Option Counts). next_of (chosen_to f ps n) (suc n) x) (e ∙ ap (λ (j : ℕ). f (get_or ps j [])) m)
+
+  -- ---- the part at the place of the least number
+
   abbrev damaged_to : ℕ → Bool
-  damaged_to n = any_of (λ p. (f p).damaged) (take n ps)
+  damaged_to n = any_of (λ p. is_none (f p)) (take n ps)
 
   abbrev sums_to : ℕ → List ℕ
-  sums_to n = map (λ p. (f p).sum) (take n ps)
+  sums_to n = map (λ p. sum_in (f p)) (take n ps)
 
   -- of the parts 0 to i none is damaged
   pub record Sound (i : ℕ) (c : Choice) : Type 0 where
     pub none_damaged : damaged_to (suc i) ≡ false
     pub at_least : c.at ≡ least_at (sums_to (suc i))
-    pub counts_are : c.counts ≡ f (get_or ps c.at [])
+    pub counts_are : Some c.counts ≡ f (get_or ps c.at [])
     pub at_most : c.at ≤ i
 
-  pub record Chosen (i : ℕ) (c : Choice) : Type 0 where
-    pub bad : c.counts.damaged ≡ true → damaged_to (suc i) ≡ true
-    pub sound : c.counts.damaged ≡ false → Sound i c
+  abbrev pub Chosen : ℕ → Option Choice → Type 0
+  Chosen i None = damaged_to (suc i) ≡ true
+  Chosen i (Some c) = Sound i c
 
   module _ (i : ℕ) (h : i < length ps) where
     next_part : take (suc i) ps ≡ take i ps ++ (get_or ps i [] ∷ [])
     next_part = take-suc ps i [] h
 
-    damaged_next : damaged_to (suc i) ≡ (damaged_to i || ((f (get_or ps i [])).damaged || false))
-    damaged_next = ap (any_of (λ p. (f p).damaged)) next_part ∙ any_append (λ p. (f p).damaged) (take i ps) (get_or ps i [] ∷ [])
+    damaged_next : damaged_to (suc i) ≡ (damaged_to i || (is_none (f (get_or ps i [])) || false))
+    damaged_next = ap (any_of (λ p. is_none (f p))) next_part ∙ any_append (λ p. is_none (f p)) (take i ps) (get_or ps i [] ∷ [])
 
-    sums_next : sums_to (suc i) ≡ sums_to i ++ ((f (get_or ps i [])).sum ∷ [])
-    sums_next = ap (map (λ p. (f p).sum)) next_part ∙ map-append (λ p. (f p).sum) (take i ps) (get_or ps i [] ∷ [])
+    sums_next : sums_to (suc i) ≡ sums_to i ++ (sum_in (f (get_or ps i [])) ∷ [])
+    sums_next = ap (map (λ p. sum_in (f p))) next_part ∙ map-append (λ p. sum_in (f p)) (take i ps) (get_or ps i [] ∷ [])
 
     sums_length : length (sums_to i) ≡ i
-    sums_length = length-map (take i ps) (λ p. (f p).sum) ∙ length-take-le i ps (omega arith)
+    sums_length = length-map (take i ps) (λ p. sum_in (f p)) ∙ length-take-le i ps (omega arith)
 
   -- the number that was least is what the part chosen counts
   least_is : (i : ℕ) (c : Choice) → i < length ps → Sound i c → get_or (sums_to (suc i)) (least_at (sums_to (suc i))) 0 ≡ c.counts.sum
   least_is i c h s =
       ap (λ (k : ℕ). get_or (sums_to (suc i)) k 0) (sym s.at_least)
-      ∙ get_d_map (λ p. (f p).sum) (take (suc i) ps) c.at (omega (arith, s.at_most, length-take-le (suc i) ps h))
-      ∙ ap (λ (p : List ℕ). (f p).sum) (get_or-take (suc i) ps c.at [] (omega (arith, s.at_most))) ∙ ap (λ (k : Counts). k.sum) (sym s.counts_are)
+      ∙ get_d_map (λ p. sum_in (f p)) (take (suc i) ps) c.at (omega (arith, s.at_most, length-take-le (suc i) ps h))
+      ∙ ap (λ (p : List ℕ). sum_in (f p)) (get_or-take (suc i) ps c.at [] (omega (arith, s.at_most))) ∙ ap (λ (k : Option Counts). sum_in k) (sym s.counts_are)
 
-  better_is : (i : ℕ) (c : Choice) → suc i < length ps → Chosen i c → Chosen (suc i) (better_of c (suc i) (f (get_or ps (suc i) [])))
+  better_is : (i : ℕ) (o : Option Choice) (k : Option Counts) → suc i < length ps → k ≡ f (get_or ps (suc i) []) → Chosen i o → Chosen (suc i) (next_of o (suc i) k)
   unfolding better_of
-  better_is i c h k = go c.counts.damaged new.damaged (ltb new.sum c.counts.sum) refl refl refl
+  better_is i None k h e w = damaged_next (suc i) h ∙ ap (λ (x : Bool). x || (is_none (f (get_or ps (suc i) [])) || false)) w
+  better_is i (Some c) None h e w =
+      damaged_next (suc i) h ∙ ap (λ (x : Option Counts). damaged_to (suc i) || (is_none x || false)) (sym e) ∙ or-true (damaged_to (suc i))
+  better_is i (Some c) (Some k) h e w = go (ltb k.sum c.counts.sum) refl
     where
-      new : Counts
-      new = f (get_or ps (suc i) [])
+      none : damaged_to (suc (suc i)) ≡ false
+      none = damaged_next (suc i) h ∙ ap₂ (λ (x : Bool) (y : Option Counts). x || (is_none y || false)) w.none_damaged (sym e)
 
-      go : (a b l : Bool) → c.counts.damaged ≡ a → new.damaged ≡ b → ltb new.sum c.counts.sum ≡ l → Chosen (suc i) (cond a c (cond b (choice (suc i) new) (cond l (choice (suc i) new) c)))
-      go true b l ea eb el = record { bad = λ e. damaged_next (suc i) h ∙ ap (λ (x : Bool). x || (new.damaged || false)) (k.bad e); sound = λ e. absurd (true≢false (sym ea ∙ e)) }
-      go false true l ea eb el = record { bad = λ e. damaged_next (suc i) h ∙ ap (λ (x : Bool). damaged_to (suc i) || (x || false)) eb ∙ or-true (damaged_to (suc i)); sound = λ e. absurd (true≢false (sym eb ∙ e)) }
-      go false false l ea eb el = go2 l el
-        where
-          s : Sound i c
-          s = k.sound ea
+      place : least_at (sums_to (suc (suc i))) ≡ cond (ltb k.sum c.counts.sum) (suc i) c.at
+      place =
+          ap least_at (sums_next (suc i) h) ∙ ap (λ (x : Option Counts). least_at (sums_to (suc i) ++ (sum_in x ∷ []))) (sym e)
+          ∙ least_end (sums_to (suc i)) k.sum (omega (arith, sums_length (suc i) h))
+          ∙ ap₂ (λ (x y : ℕ). cond (ltb k.sum x) y (least_at (sums_to (suc i)))) (least_is i c (omega arith) w) (sums_length (suc i) h)
+          ∙ ap (λ (y : ℕ). cond (ltb k.sum c.counts.sum) (suc i) y) (sym w.at_least)
 
-          none : damaged_to (suc (suc i)) ≡ false
-          none = damaged_next (suc i) h ∙ ap₂ (λ (x y : Bool). x || (y || false)) s.none_damaged eb
-
-          place : least_at (sums_to (suc (suc i))) ≡ cond (ltb new.sum c.counts.sum) (suc i) c.at
-          place =
-              ap least_at (sums_next (suc i) h) ∙ least_end (sums_to (suc i)) new.sum (omega (arith, sums_length (suc i) h))
-              ∙ ap₂ (λ (x y : ℕ). cond (ltb new.sum x) y (least_at (sums_to (suc i)))) (least_is i c (omega arith) s) (sums_length (suc i) h)
-              ∙ ap (λ (y : ℕ). cond (ltb new.sum c.counts.sum) (suc i) y) (sym s.at_least)
-
-          go2 : (l : Bool) → ltb new.sum c.counts.sum ≡ l → Chosen (suc i) (cond l (choice (suc i) new) c)
-          go2 true el = record {
-            bad = λ e. absurd (true≢false (sym e ∙ eb));
-            sound = λ e. record { none_damaged = none; at_least = sym (place ∙ ap (λ (b : Bool). cond b (suc i) c.at) el); counts_are = refl; at_most = omega arith };
-          }
-          go2 false el = record {
-            bad = λ e. absurd (true≢false (sym e ∙ ea));
-            sound = λ e. record { none_damaged = none; at_least = sym (place ∙ ap (λ (b : Bool). cond b (suc i) c.at) el); counts_are = s.counts_are; at_most = omega (arith, s.at_most) };
-          }
+      go : (l : Bool) → ltb k.sum c.counts.sum ≡ l → Sound (suc i) (cond l (choice (suc i) k) c)
+      go true el = record { none_damaged = none; at_least = sym (place ∙ ap (λ (b : Bool). cond b (suc i) c.at) el); counts_are = e; at_most = omega arith }
+      go false el = record { none_damaged = none; at_least = sym (place ∙ ap (λ (b : Bool). cond b (suc i) c.at) el); counts_are = w.counts_are; at_most = omega (arith, w.at_most) }
 
   pub chosen_is : (i : ℕ) → i < length ps → Chosen i (chosen_to f ps i)
-  chosen_is zero h = record {
-    bad = λ e. damaged_next zero h ∙ ap (λ (x : Bool). x || false) e;
-    sound = λ e. record {
-      none_damaged = damaged_next zero h ∙ ap (λ (x : Bool). x || false) e;
-      at_least = sym (ap least_at (sums_next zero h));
-      counts_are = refl;
-      at_most = omega arith;
-    };
-  }
-  chosen_is (suc i) h = better_is i (chosen_to f ps i) h (chosen_is i (omega arith))
+  chosen_is zero h = go (f (get_or ps zero [])) refl
+    where
+      go : (k : Option Counts) → k ≡ f (get_or ps zero []) → Chosen zero (first_of k)
+      go None e = damaged_next zero h ∙ ap (λ (x : Option Counts). is_none x || false) (sym e)
+      go (Some k) e = record {
+        none_damaged = damaged_next zero h ∙ ap (λ (x : Option Counts). is_none x || false) (sym e);
+        at_least = sym (ap least_at (sums_next zero h));
+        counts_are = e;
+        at_most = omega arith;
+      }
+  chosen_is (suc i) h = better_is i (chosen_to f ps i) (f (get_or ps (suc i) [])) h refl (chosen_is i (omega arith))

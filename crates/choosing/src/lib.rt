@@ -1,5 +1,5 @@
-// The part of a joint find that counts least (document 02, "Find by several fields"): every part's shares are
-// read, part after part.
+// The part of a joint find that counts least (document 02, "Find by several fields"): the parts' shares are read,
+// part after part, up to the first that is damaged.
 #![tactic(auto)]
 
 ghost use Rattle.std.specs.Prelude.{◌≡◌, [], ◌*◌, ◌-◌, ◌≤◌, ◌<◌, length, get_or};
@@ -18,26 +18,18 @@ pub struct Choice {
     pub counts: Counts,
 }
 
-// The part of number i in the place of the one chosen so far, where it is damaged or counts less; a damaged
-// one stays. [02:W4.20 W4.22]
+// The part of number i in the place of the one chosen so far, where it counts less. [02:W4.20]
 fn better(c: Choice, i: usize, k: Counts) -> Choice
     ensures { result ≡ better_of c i k }
 {
-    let held = c.counts;
-    if held.damaged {
-        return c;
-    }
-    if k.damaged {
-        return Choice { at: i, counts: k };
-    }
-    if k.sum < held.sum {
+    if k.sum < c.counts.sum {
         return Choice { at: i, counts: k };
     }
     c
 }
 
-// What the part of number i counts.
-fn counts_of(store: &[u8], z: Shape, parts: &[u8], n: usize, i: usize) -> Counts
+// What the part of number i counts: none where a share is damaged.
+fn counts_of(store: &[u8], z: Shape, parts: &[u8], n: usize, i: usize) -> Option<Counts>
     requires { (checked_of store.now ≡ Ok z) × ((length parts.now ≡ 128 * n) × ((i < n) × (n ≤ 8))) }
     ensures { result ≡ part_counts store.now z.p (get_or (rows 128 n parts.now) i []) }
 {
@@ -46,20 +38,16 @@ fn counts_of(store: &[u8], z: Shape, parts: &[u8], n: usize, i: usize) -> Counts
     find::counts_in(store, z, &parts[a..e])
 }
 
-// The part with the least count, the earlier on a tie, or one that is damaged: every part is read.
-// [02:W4.19 W4.20 W4.22]
-pub fn choose(store: &[u8], z: Shape, parts: &[u8], n: usize) -> Choice
+// The part with the least count, the earlier on a tie; none where a part is damaged. [02:W4.19 W4.20 W4.22]
+pub fn choose(store: &[u8], z: Shape, parts: &[u8], n: usize) -> Option<Choice>
     requires { (checked_of store.now ≡ Ok z) × ((length parts.now ≡ 128 * n) × ((1 ≤ n) × (n ≤ 8))) }
     ensures { result ≡ chosen_to (part_counts store.now z.p) (rows 128 n parts.now) (n - 1) }
 {
-    let counts = counts_of(store, z, parts, n, 0);
+    let counts = counts_of(store, z, parts, n, 0)?;
     let mut best = Choice { at: 0, counts };
-    let mut i: usize = 0;
-    let last = n - 1;
-    while i < last {
-        i += 1;
-        let counts = counts_of(store, z, parts, n, i);
+    for i in 1..n {
+        let counts = counts_of(store, z, parts, n, i)?;
         best = better(best, i, counts);
     }
-    best
+    Some(best)
 }

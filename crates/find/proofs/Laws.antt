@@ -1,7 +1,7 @@
 -- The counts of the shares, the ids by them, and each way out of a find are the definitions'.
 use Prim.Native.Nat.{ℕ, zero, suc, ◌+◌, ◌*◌, ◌-◌, ◌≤◌, ◌<◌}
 use mathlib.Core.Path.{◌≡◌, refl, sym, ap, ap₂, subst, ◌∙◌}
-use mathlib.Core.Bool.{Bool, true, false, cond, not, true≢false}
+use mathlib.Core.Bool.{Bool, true, false, cond, not}
 use mathlib.Core.Option.{Option, none, some}
 use mathlib.Core.List.{List, [], ◌∷◌, ◌++◌, map}
 use native.Mathlib.Nat.{not-suc-le-zero}
@@ -30,7 +30,7 @@ use Rattle.scheme.specs.Find.{share_reading, ids_of_share, ids_held, ids_found, 
 use Rattle.scheme.proofs.Verdicts.{map-up_to}
 use Rattle.suite.specs.Program.{program}
 use Rattle.store.specs.declared.Shape.{Shape}
-use Rattle.std.specs.Prelude.{Ok, Err}
+use Rattle.std.specs.Prelude.{Ok, Err, Option as Outcome, Some, None, is_none}
 use Rattle.store.specs.Check.{checked_of}
 use Rattle.store.proofs.Laws.{table_m, table_c, unfit, fit_verdict, fit_sizes, fit_range, fits}
 use Rattle.format.specs.Tags.{numbered_by, Prepared}
@@ -51,37 +51,39 @@ use Rattle.ids.proofs.Noted.{gathers_in, wide_in}
 -- ---- the counts
 
 module _ (f : ℕ → Reading) (p : ℕ) where
-  pub counts_damage : any_of (λ u. damaged (f u)) (up_to p) ≡ true → record { damaged = true; of = replicate 16 0; sum = 0 } ≡ counts_of f p
+  pub counts_damage : any_of (λ u. damaged (f u)) (up_to p) ≡ true → None ≡ counts_of f p
   unfolding counts_of
-  counts_damage e = rw e
+  counts_damage e = rw e refl
 
   pub counts_done : (of : List ℕ) (n : ℕ) → of ≡ filled (λ u. count_of (f u)) (p + 1) (replicate 16 0)
-      → (any_of (λ u. damaged (f u)) (up_to p) ≡ false) × (n ≡ sum (map (λ u. count_of (f u)) (up_to p))) → record { damaged = false; of = of; sum = n } ≡ counts_of f p
+      → (any_of (λ u. damaged (f u)) (up_to p) ≡ false) × (n ≡ sum (map (λ u. count_of (f u)) (up_to p))) → Some (record { of = of; sum = n }) ≡ counts_of f p
   unfolding counts_of
-  counts_done of n o e = rw e.0 (λ j. record { damaged = false; of = o j; sum = e.1 j })
+  counts_done of n o e = rw e.0 (λ j. Some (record { of = o j; sum = e.1 j }))
 
--- by whether one is damaged
-abbrev counts_by : (ℕ → Reading) → ℕ → Bool → Counts
-counts_by f p b =
-    cond b (record { damaged = true; of = replicate 16 0; sum = 0 })
-    (record { damaged = false; of = filled (λ u. count_of (f u)) (p + 1) (replicate 16 0); sum = sum (map (λ u. count_of (f u)) (up_to p)) })
+  -- by whether one is damaged
+  abbrev counts_by : Bool → Outcome Counts
+  counts_by b = cond b None (Some (record { of = filled (λ u. count_of (f u)) (p + 1) (replicate 16 0); sum = sum (map (λ u. count_of (f u)) (up_to p)) }))
 
-module _ (f : ℕ → Reading) (p : ℕ) (c : Counts) (e : c ≡ counts_of f p) where
-  pub told_damage : c.damaged ≡ true → any_of (λ u. damaged (f u)) (up_to p) ≡ true
+  pub none_where_damaged : is_none (counts_of f p) ≡ any_of (λ u. damaged (f u)) (up_to p)
   unfolding counts_of
-  told_damage d = go (any_of (λ u. damaged (f u)) (up_to p)) (sym (ap (λ (c : Counts). c.damaged) e) ∙ d)
+  none_where_damaged = go (any_of (λ u. damaged (f u)) (up_to p))
     where
-      go : (b : Bool) → (counts_by f p b).damaged ≡ true → b ≡ true
-      go true q = refl
-      go false q = q
+      go : (b : Bool) → is_none (counts_by b) ≡ b
+      go true = refl
+      go false = refl
 
-  pub told_sound : c.damaged ≡ false → Sound f p c
+  pub told_damage : None ≡ counts_of f p → any_of (λ u. damaged (f u)) (up_to p) ≡ true
+  told_damage e = sym none_where_damaged ∙ ap (λ (o : Outcome Counts). is_none o) (sym e)
+
+  pub told_sound : (c : Counts) → Some c ≡ counts_of f p → Sound f p c
   unfolding counts_of
-  told_sound d = go (any_of (λ u. damaged (f u)) (up_to p)) refl e
+  told_sound c e = go (any_of (λ u. damaged (f u)) (up_to p)) refl e
     where
-      go : (b : Bool) → any_of (λ u. damaged (f u)) (up_to p) ≡ b → c ≡ counts_by f p b → Sound f p c
-      go true q r = absurd (true≢false (sym (ap (λ (c : Counts). c.damaged) r) ∙ d))
-      go false q r = record { none_damaged = q; of = ap (λ (c : Counts). c.of) r; sum = ap (λ (c : Counts). c.sum) r }
+      go : (b : Bool) → any_of (λ u. damaged (f u)) (up_to p) ≡ b → Some c ≡ counts_by b → Sound f p c
+      go true q r = cc
+      go false q r =
+          let k : c ≡ record { of = filled (λ u. count_of (f u)) (p + 1) (replicate 16 0); sum = sum (map (λ u. count_of (f u)) (up_to p)) } = cc in
+          record { none_damaged = q; of = ap (λ (c : Counts). c.of) k; sum = ap (λ (c : Counts). c.sum) k }
 
 length-filled : (g : ℕ → ℕ) (n : ℕ) (l : List ℕ) → length (filled g n l) ≡ length l
 length-filled g zero l = refl

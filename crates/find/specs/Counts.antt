@@ -1,6 +1,6 @@
--- What the readings of shares 0 to p come to: their counts, in an array of 16, with the sum, or that one is damaged
+-- What the readings of shares 0 to p come to: their counts, in an array of 16, with the sum, or none where one is damaged
 -- (document 01, "Operations": find; "Refusals from the state": 13).
-use Rattle.std.specs.Prelude.{ℕ, zero, suc, ◌+◌, ◌≡◌, true, false, cond, List, map, set, replicate}
+use Rattle.std.specs.Prelude.{ℕ, zero, suc, ◌+◌, ◌≡◌, false, cond, Option, Some, None, List, map, set, replicate}
 use Rattle.table.specs.Lists.{any_of, sum, up_to}
 use Rattle.scheme.specs.Reading.{Reading, damaged, count_of}
 use Rattle.find.specs.declared.Counts.{Counts}
@@ -11,11 +11,10 @@ filled f zero l = l
 filled f (suc n) l = set (filled f n l) n (f n)
 
 -- [01:RS6]
-unfoldable pub counts_of : (ℕ → Reading) → ℕ → Counts
+unfoldable pub counts_of : (ℕ → Reading) → ℕ → Option Counts
 counts_of f p =
-    cond (any_of (λ u. damaged (f u)) (up_to p))
-    (record { damaged = true; of = replicate 16 0; sum = 0 })
-    (record { damaged = false; of = filled (λ u. count_of (f u)) (p + 1) (replicate 16 0); sum = sum (map (λ u. count_of (f u)) (up_to p)) })
+    cond (any_of (λ u. damaged (f u)) (up_to p)) None
+    (Some (record { of = filled (λ u. count_of (f u)) (p + 1) (replicate 16 0); sum = sum (map (λ u. count_of (f u)) (up_to p)) }))
 
 -- counts of shares none of which is damaged
 pub record Sound (f : ℕ → Reading) (p : ℕ) (c : Counts) : Type 0 where

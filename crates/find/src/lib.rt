@@ -33,46 +33,35 @@ const FEW: usize = BUCKETS + MOST_ROWS;
 
 const MANY: usize = BUCKETS + 16 * MOST_ROWS;
 
-// What the shares count, and the sum; or that one is damaged.
+// What the shares count, and the sum.
 #[derive(Clone, Copy)]
 pub struct Counts {
-    pub damaged: bool,
     pub of: [u64; 16],
     pub sum: u64,
 }
 
-// Reads the counters of shares 0 to p out of the part that holds table C, from the prepared F(KC, x).
-// [01:RS6 FM8]
-fn read_all(t: &[u8], c: usize, used: usize, clx: Keyed, p: u64) -> Counts
+// Reads the counters of shares 0 to p out of the part that holds table C, from the prepared F(KC, x): none
+// where one is damaged. [01:RS6 FM8]
+fn read_all(t: &[u8], c: usize, used: usize, clx: Keyed, p: u64) -> Option<Counts>
     requires { ((length t.now ≡ width_of table_c * c) × Searchable (width_of table_c) used (rows (width_of table_c) c t.now)) × ((c ≤ 4096) × (p ≤ 15)) }
     ensures { result ≡ counts_of (share_read clx c (rows (width_of table_c) c t.now)) p }
 {
     let mut of = [0u64; 16];
     let mut sum: u64 = 0;
-    let mut u: u64 = 0;
-    while u <= p {
+    for u in 0..p + 1 {
         let reading = counter::read_share(t, c, used, Lookup::Search, clx, u);
         let Reading::Counter(z) = reading else {
-            return Counts {
-                damaged: true,
-                of: [0u64; 16],
-                sum: 0,
-            };
+            return None;
         };
-        let i = u as usize;
-        of[i] = z.count;
+        of[u as usize] = z.count;
         sum += z.count;
-        u += 1;
     }
-    Counts {
-        damaged: false,
-        of,
-        sum,
-    }
+    Some(Counts { of, sum })
 }
 
-// Reads the counters of all shares of a store that passed the checks, under a find token. [01:RS6]
-pub fn counts_in(store: &[u8], z: Shape, token: &[u8]) -> Counts
+// Reads the counters of all shares of a store that passed the checks, under a find token: none where one is
+// damaged. [01:RS6]
+pub fn counts_in(store: &[u8], z: Shape, token: &[u8]) -> Option<Counts>
     requires { (checked_of store.now ≡ Ok z) × (length token.now ≡ find_token_length) }
     ensures { result ≡ counts_of (share_reading program store.now (find_cl token.now)) z.p }
 {
@@ -156,10 +145,9 @@ fn find_in(store: &[u8], z: Shape, token: &[u8], output: &mut [u8]) -> Result<u6
     let m = z.m;
     let a = m.start;
     let e = m.end;
-    let counts = counts_in(store, z, token);
-    if counts.damaged {
+    let Some(counts) = counts_in(store, z, token) else {
         return Err(Refusal::Damage);
-    }
+    };
     let mt = hmac::prepare(&token[0..32]);
     let me = hmac::prepare(&token[32..64]);
     let keys = EntryKeys { mt, me };

@@ -89,10 +89,8 @@ fn note_share(
     ensures { kept index.new ids.new result ≡ noted_to keys (rows (width_of table_m) m t.now) s.u count (kept index.old ids.old n) }
 {
     let mut next = n;
-    let mut a: u64 = 0;
-    while a < count {
-        a += 1;
-        next = note_entry(t, m, used, s, keys, Address(a), index, ids, next);
+    for a in 0..count {
+        next = note_entry(t, m, used, s, keys, Address(a + 1), index, ids, next);
     }
     next
 }
@@ -113,12 +111,9 @@ pub fn gather(
     ensures { kept index.new ids.new result ≡ noted_in keys (rows (width_of table_m) m t.now) of (p + 1) (kept index.old ids.old 0) }
 {
     let mut n: usize = 0;
-    let mut u: u64 = 0;
-    while u <= p {
-        let i = u as usize;
+    for u in 0..p + 1 {
         let s = keys_of(keys, u);
-        n = note_share(t, m, used, s, keys, of[i], index, ids, n);
-        u += 1;
+        n = note_share(t, m, used, s, keys, of[u as usize], index, ids, n);
     }
     n
 }

@@ -1,11 +1,10 @@
 -- The parts are parts of the slice; the ids kept are those that no other part flags; each way out of a joint find is the definition's.
 use Prim.Native.Nat.{ℕ, zero, suc, ◌+◌, ◌*◌, ◌-◌, ◌/◌, ◌%◌, ◌≤◌, ◌<◌}
 use mathlib.Core.Path.{◌≡◌, refl, sym, ap, ap₂, subst, ◌∙◌}
-use mathlib.Core.Bool.{Bool, true, false, cond, not, ◌||◌, true≢false}
+use mathlib.Core.Bool.{Bool, true, false, cond, not, true≢false}
 use mathlib.Core.Option.{Option, none, some}
 use mathlib.Core.List.{List, [], ◌∷◌, ◌++◌, map}
 use native.Mathlib.Numerals.{add-one}
-use native.Mathlib.Nat.{div-add-mod'}
 use native.Mathlib.Omega.{arith}
 use lib.Dec.{ltb, eqb, lit≤}
 use lib.ListN.{length, get_or, take, drop, replicate, length-replicate}
@@ -20,9 +19,9 @@ use Rattle.table.specs.Table.{Table, rows}
 use Rattle.table.proofs.Counting.{neither, all_select}
 use Rattle.table.proofs.Cuts.{rows_front}
 use Rattle.table.proofs.Rows.{rows-length}
-use Rattle.table.proofs.Walk.{drop-take, field_at, row_at}
+use Rattle.table.proofs.Walk.{drop-take, field_at}
 use Rattle.scheme.specs.Keys.{find_token_length, find_mt, find_me, find_cl, part_find}
-use Rattle.scheme.specs.Store.{Sizes, table_r, sizes_of, cut, state_tests}
+use Rattle.scheme.specs.Store.{table_r, sizes_of, cut, state_tests}
 use Rattle.scheme.specs.Reading.{Reading, damaged, count_of}
 use Rattle.scheme.specs.Refusals.{part_count, parts_in, part_tests}
 use Rattle.scheme.specs.Find.{share_reading, ids_found}
@@ -30,9 +29,9 @@ use Rattle.scheme.specs.Count.{sum_of_counts}
 use Rattle.scheme.specs.JointFind.{least_at, without, part_damaged, part_sum, part_ids, part_test, chosen_at, chosen_part, ids_kept, joint_verdict, joint_find}
 use Rattle.suite.specs.Program.{program}
 use Rattle.store.specs.declared.Shape.{Shape}
-use Rattle.std.specs.Prelude.{Ok, Err}
+use Rattle.std.specs.Prelude.{Ok, Err, Option as Outcome, Some, None, is_none}
 use Rattle.store.specs.Check.{checked_of}
-use Rattle.store.proofs.Laws.{unfit, fit_verdict, fit_sizes}
+use Rattle.store.proofs.Laws.{unfit, fit_verdict}
 use Rattle.hmac.specs.declared.Keyed.{Keyed}
 use Rattle.chains.specs.Chains.{kept_ids}
 use Rattle.chains.proofs.Kept.{kept_length}
@@ -40,13 +39,13 @@ use Rattle.find.specs.declared.Counts.{Counts}
 use Rattle.find.specs.Counts
 use Rattle.find.specs.Counts.{counts_of}
 use Rattle.find.specs.Given.{given_answer, given_output}
-use Rattle.find.proofs.Laws.{told_damage, told_sound}
+use Rattle.find.proofs.Laws.{none_where_damaged, told_sound}
 use Rattle.sifting.specs.Sifting.{sifted_by, staying, unset}
 use Rattle.sifting.proofs.Laws.{staying_all, staying_by, staying-length, sifted_by_both}
 use Rattle.choosing.specs.declared.Choice.{Choice}
 use Rattle.choosing.specs.Choice.{part_counts, chosen_to}
 use Rattle.choosing.proofs.Laws.{find_token}
-use Rattle.choosing.proofs.Least.{Chosen, chosen_is}
+use Rattle.choosing.proofs.Least.{sum_in, Chosen, chosen_is}
 use Rattle.joint_find.specs.Kept.{test_of, kept_of, parts_bad}
 
 -- ---- a part in the slice
@@ -144,59 +143,62 @@ so_many n k l e h = omega arith
 
 -- ---- what the parts count
 
-counts_damaged : (f : ℕ → Reading) (p : ℕ) → (counts_of f p).damaged ≡ any_of (λ u. damaged (f u)) (up_to p)
-counts_damaged f p = go (counts_of f p).damaged refl
-  where
-    go : (b : Bool) → (counts_of f p).damaged ≡ b → b ≡ any_of (λ u. damaged (f u)) (up_to p)
-    go true e = sym (told_damage f p (counts_of f p) refl e)
-    go false e = sym (told_sound f p (counts_of f p) refl e).none_damaged
-
 module _ (before : List ℕ) (p : ℕ) (e : p ≡ (sizes_of before).p) where
-  part_damaged_lem : (part : List ℕ) → (part_counts before p part).damaged ≡ part_damaged program before part
+  abbrev counted : List ℕ → Outcome Counts
+  counted = part_counts before p
+
+  part_damaged_lem : (part : List ℕ) → is_none (counted part) ≡ part_damaged program before part
   unfolding part_counts part_damaged
-  part_damaged_lem part = counts_damaged (share_reading program before (find_cl (part_find part))) p ∙ ap (λ (q : ℕ). any_of (λ u. damaged (share_reading program before (find_cl (part_find part)) u)) (up_to q)) e
+  part_damaged_lem part = none_where_damaged (share_reading program before (find_cl (part_find part))) p ∙ ap (λ (q : ℕ). any_of (λ u. damaged (share_reading program before (find_cl (part_find part)) u)) (up_to q)) e
 
-  part_sum_lem : (part : List ℕ) → (part_counts before p part).damaged ≡ false → (part_counts before p part).sum ≡ part_sum program before part
+  part_sum_lem : (part : List ℕ) → is_none (counted part) ≡ false → sum_in (counted part) ≡ part_sum program before part
   unfolding part_counts part_sum sum_of_counts
-  part_sum_lem part d = (told_sound (share_reading program before (find_cl (part_find part))) p (counts_of (share_reading program before (find_cl (part_find part))) p) refl d).sum ∙ ap (λ (q : ℕ). sum (map (λ u. count_of (share_reading program before (find_cl (part_find part)) u)) (up_to q))) e
+  part_sum_lem part d = go (counts_of f p) refl d
+    where
+      f : ℕ → Reading
+      f = share_reading program before (find_cl (part_find part))
 
-  pub any_damaged : (ps : List (List ℕ)) → any_of (λ part. (part_counts before p part).damaged) ps ≡ any_of (part_damaged program before) ps
+      go : (o : Outcome Counts) → o ≡ counts_of f p → is_none o ≡ false → sum_in o ≡ sum (map (λ u. count_of (f u)) (up_to (sizes_of before).p))
+      go None q d = absurd (true≢false d)
+      go (Some c) q d = (told_sound f p c q).sum ∙ ap (λ (q : ℕ). sum (map (λ u. count_of (f u)) (up_to q))) e
+
+  pub any_damaged : (ps : List (List ℕ)) → any_of (λ part. is_none (counted part)) ps ≡ any_of (part_damaged program before) ps
   any_damaged ps = ap (λ (q : List ℕ → Bool). any_of q ps) (λ i part. part_damaged_lem part i)
 
-  pub sums_are : (ps : List (List ℕ)) → any_of (λ part. (part_counts before p part).damaged) ps ≡ false → map (λ part. (part_counts before p part).sum) ps ≡ map (part_sum program before) ps
+  pub sums_are : (ps : List (List ℕ)) → any_of (λ part. is_none (counted part)) ps ≡ false → map (λ part. sum_in (counted part)) ps ≡ map (part_sum program before) ps
   sums_are [] d = refl
   sums_are (x ∷ xs) d =
-      let n = neither (part_counts before p x).damaged (any_of (λ part. (part_counts before p part).damaged) xs) d in
+      let n = neither (is_none (counted x)) (any_of (λ part. is_none (counted part)) xs) d in
       ap₂ (λ (k : ℕ) (l : List ℕ). k ∷ l) (part_sum_lem x n.0) (sums_are xs n.1)
 
 -- the part chosen of all
-module _ (before parts : List ℕ) (p : ℕ) (e : p ≡ (sizes_of before).p) (h : Fill parts) (c : Choice) (q : c ≡ chosen_to (part_counts before p) (parts_in parts) (part_count parts - 1)) where
-  chosen : Chosen (part_counts before p) (parts_in parts) (part_count parts - 1) c
-  chosen =
-      subst (Chosen (part_counts before p) (parts_in parts) (part_count parts - 1)) (sym q)
-      (chosen_is (part_counts before p) (parts_in parts) (part_count parts - 1) (omega (arith, h.least, rows-length 128 (part_count parts) parts)))
+module _ (before parts : List ℕ) (p : ℕ) (e : p ≡ (sizes_of before).p) (h : Fill parts) where
+  chosen : (o : Outcome Choice) → o ≡ chosen_to (counted before p e) (parts_in parts) (part_count parts - 1) → Chosen (counted before p e) (parts_in parts) (part_count parts - 1) o
+  chosen o q =
+      subst (Chosen (counted before p e) (parts_in parts) (part_count parts - 1)) (sym q)
+      (chosen_is (counted before p e) (parts_in parts) (part_count parts - 1) (omega (arith, h.least, rows-length 128 (part_count parts) parts)))
 
   every : take (suc (part_count parts - 1)) (parts_in parts) ≡ parts_in parts
   every = take_all (suc (part_count parts - 1)) (parts_in parts) (omega (arith, h.least, rows-length 128 (part_count parts) parts))
 
-  pub choice_bad : c.counts.damaged ≡ true → any_of (part_damaged program before) (parts_in parts) ≡ true
-  choice_bad d = sym (any_damaged before p e (parts_in parts)) ∙ sym (ap (any_of (λ part. (part_counts before p part).damaged)) every) ∙ chosen.bad d
+  pub choice_bad : None ≡ chosen_to (counted before p e) (parts_in parts) (part_count parts - 1) → any_of (part_damaged program before) (parts_in parts) ≡ true
+  choice_bad q = sym (any_damaged before p e (parts_in parts)) ∙ sym (ap (any_of (λ part. is_none (counted before p e part))) every) ∙ chosen None q
 
-  pub record Picked : Type 0 where
+  pub record Picked (c : Choice) : Type 0 where
     pub none_damaged : any_of (part_damaged program before) (parts_in parts) ≡ false
     pub place : c.at ≡ chosen_at program before parts
     pub inside : c.at < part_count parts
     pub sound : Counts.Sound (share_reading program before (find_cl (part_find (get_or (parts_in parts) c.at [])))) p c.counts
 
-  pub choice_sound : c.counts.damaged ≡ false → Picked
+  pub choice_sound : (c : Choice) → Some c ≡ chosen_to (counted before p e) (parts_in parts) (part_count parts - 1) → Picked c
   unfolding chosen_at part_counts
-  choice_sound d =
-      let s = chosen.sound d in
-      let none = sym (ap (any_of (λ part. (part_counts before p part).damaged)) every) ∙ s.none_damaged in record {
+  choice_sound c q =
+      let s = chosen (Some c) q in
+      let none = sym (ap (any_of (λ part. is_none (counted before p e part))) every) ∙ s.none_damaged in record {
         none_damaged = sym (any_damaged before p e (parts_in parts)) ∙ none;
-        place = s.at_least ∙ ap (λ (l : List (List ℕ)). least_at (map (λ part. (part_counts before p part).sum) l)) every ∙ ap least_at (sums_are before p e (parts_in parts) none);
+        place = s.at_least ∙ ap (λ (l : List (List ℕ)). least_at (map (λ part. sum_in (counted before p e part)) l)) every ∙ ap least_at (sums_are before p e (parts_in parts) none);
         inside = omega (arith, h.least, s.at_most);
-        sound = told_sound (share_reading program before (find_cl (part_find (get_or (parts_in parts) c.at [])))) p c.counts s.counts_are d;
+        sound = told_sound (share_reading program before (find_cl (part_find (get_or (parts_in parts) c.at [])))) p c.counts s.counts_are;
       }
 
 -- ---- each way out

@@ -1,5 +1,5 @@
 // Joint find (document 02, "Find by several fields"): of the ids that the find of the part with the least
-// count gives, those for which every other part tests yes. All shares of all parts are read first; 18 is
+// count gives, those for which every other part tests yes. The shares of the parts are read first; 18 is
 // judged by the number of ids kept before any is written.
 #![tactic(auto)]
 
@@ -268,11 +268,9 @@ fn joint_in(store: &[u8], z: Shape, parts: &[u8], output: &mut [u8]) -> Result<u
     ensures output_after { output.new ≡ (joint_find_of program store.now parts.now output.old).output }
 {
     let n = parts.len() / PART_TOKEN;
-    let best = choosing::choose(store, z, parts, n);
-    let counts = best.counts;
-    if counts.damaged {
+    let Some(best) = choosing::choose(store, z, parts, n) else {
         return Err(Refusal::Damage);
-    }
+    };
     give_chosen(store, z, parts, n, best, output)
 }
 

@@ -1,5 +1,5 @@
 -- Flags set by one test after another leave the ids that pass all of them; and the loops go over the ids one by one.
-use Prim.Native.Nat.{ℕ, zero, suc, ◌+◌, ◌*◌, ◌-◌, ◌%◌, ◌≤◌, ◌<◌}
+use Prim.Native.Nat.{ℕ, zero, suc, ◌+◌, ◌*◌, ◌%◌, ◌≤◌, ◌<◌}
 use mathlib.Core.Path.{◌≡◌, refl, sym, ap, ap₂, ◌∙◌}
 use mathlib.Core.Bool.{Bool, true, false, cond, ◌&&◌}
 use mathlib.Core.List.{List, [], ◌∷◌, ◌++◌, append-nil, append_assoc}
@@ -12,7 +12,7 @@ use lib.Seq.{take-suc, drop-cons}
 use Rattle.octets.specs.Part.{written}
 use Rattle.octets.proofs.Parts.{written_none, written_more}
 use Rattle.table.specs.Lists.{bit, select, count, all_of, flat}
-use Rattle.table.specs.Table.{Table, rows}
+use Rattle.table.specs.Table.{Table}
 use Rattle.table.proofs.Counting.{count-append}
 use Rattle.table.proofs.Below.{flat_append}
 use Rattle.hmac.specs.declared.Keyed.{Keyed}

@@ -66,11 +66,9 @@ fn sift(
     requires labels_len { (length labels.now ≡ width_of table_r * r) × Searchable (width_of table_r) used (rows (width_of table_r) r labels.now) }
     ensures { flags.new ≡ sifted (tests_by rl (rows (width_of table_r) r labels.now)) (kept_ids me (rows (width_of table_m) m t.now) index.now n) flags.old }
 {
-    let mut i: usize = 0;
-    while i < n {
+    for i in 0..n {
         let flag = flags[i];
         flags[i] = flag_of(t, m, me, index, ids, i, labels, r, used, rl, flag);
-        i += 1;
     }
 }
 
@@ -95,13 +93,11 @@ pub fn sift_parts(
     requires labels_len { ((length labels.now ≡ width_of table_r * r) × Searchable (width_of table_r) used (rows (width_of table_r) r labels.now)) × ((128 * to ≤ length parts.now) × (to ≤ 8)) }
     ensures { flags.new ≡ sifted_by (λ p. tests_of program (rows (width_of table_r) r labels.now) (part_rl p)) (kept_ids me (rows (width_of table_m) m t.now) index.now n) (drop from (rows 128 to parts.now)) flags.old }
 {
-    let mut i = from;
-    while i < to {
+    for i in from..to {
         let a = PART_TOKEN * i + FIND_TOKEN;
         let e = PART_TOKEN * i + PART_TOKEN;
         let rl = hmac::prepare(&parts[a..e]);
         sift(t, m, me, index, ids, n, labels, r, used, rl, flags);
-        i += 1;
     }
 }
 
@@ -111,12 +107,10 @@ pub fn kept(flags: &[u8], n: usize) -> usize
     ensures { result ≡ unset n flags.now }
 {
     let mut k: usize = 0;
-    let mut i: usize = 0;
-    while i < n {
+    for i in 0..n {
         if flags[i] == 0 {
             k += 1;
         }
-        i += 1;
     }
     k
 }
@@ -161,9 +155,7 @@ pub fn write(
     ensures { output.new ≡ written output.old 0 (flat (staying (kept_ids me (rows (width_of table_m) m t.now) index.now n) flags.now)) }
 {
     let mut k: usize = 0;
-    let mut i: usize = 0;
-    while i < n {
+    for i in 0..n {
         k = put(t, m, me, index, ids, i, flags[i], k, output);
-        i += 1;
     }
 }

@@ -1,25 +1,13 @@
--- By whether one is damaged, then by the sums.
+-- By the sums.
 use mathlib.Core.Path.{refl}
 use borrow.Author.Tests.{lt-ltb, le-ltb}
 use Rattle.choosing.specs.Choice.{better_of}
 use Rattle.choosing.proofs.better.Goals as goal
 
-pub returns-then-held : goal.returns-then-held
+pub returns-then-k-c : goal.returns-then-k-c
 unfolding better_of
-returns-then-held c = rw c.if-held.true refl
-
-pub returns-then-k : goal.returns-then-k
-unfolding better_of
-returns-then-k c = rw (c.if-held.false, c.if-k.true) refl
-
-pub returns-then-k-held : goal.returns-then-k-held
-unfolding better_of
-returns-then-k-held c =
-    let a = c.args in
-    rw (c.if-held.false, c.if-k.false, lt-ltb a.k.sum a.c.counts.sum c.if-k-held.true) refl
+returns-then-k-c c = rw (lt-ltb c.args.k.sum c.args.c.counts.sum c.if-k-c.true) refl
 
 pub returns : goal.returns
 unfolding better_of
-returns c =
-    let a = c.args in
-    rw (c.if-held.false, c.if-k.false, le-ltb a.k.sum a.c.counts.sum c.if-k-held.false) refl
+returns c = rw (le-ltb c.args.k.sum c.args.c.counts.sum c.if-k-c.false) refl

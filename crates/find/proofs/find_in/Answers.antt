@@ -1,6 +1,6 @@
 -- All shares are read; then the ids are gathered in the smaller or the larger index.
 use Prim.Native.Nat.{ℕ, ◌+◌, ◌-◌, ◌≤◌}
-use mathlib.Core.Path.{◌≡◌, refl, ap, ◌∙◌}
+use mathlib.Core.Path.{◌≡◌, refl, sym, ap, ◌∙◌}
 use mathlib.Core.List.{List, map}
 use native.Mathlib.Omega.{arith}
 use lib.ListN.{get_or, take, drop}
@@ -18,8 +18,7 @@ use Rattle.ids.specs.Ids.{ids_in}
 use Rattle.find.specs.Given.{given_answer, given_output}
 use Rattle.find.proofs.Laws.{Sound, told_damage, told_sound, counts_sum, ids_are, damage_found, given}
 use Rattle.find.proofs.find_in.Goals as goal
-use Rattle.find.proofs.find_in.Lts.View as view
-use Rattle.find.proofs.find_in.Goals.{After-prepare-me, Else-counts, Start}
+use Rattle.find.proofs.find_in.Goals.{After-prepare-me, Start}
 
 -- the part that holds M
 in_m : (s : Start) → Fits s.args.store.now s.args.z table_m
@@ -34,15 +33,13 @@ rows_m s = (fit_range s.args.store.now s.args.z s.requires.0).m_most
 searched : (s : Start) → Searchable (width_of table_m) (s.args.z.m.rows - s.args.z.m.free) (rows (width_of table_m) s.args.z.m.rows (take (s.args.z.m.end - s.args.z.m.start) (drop s.args.z.m.start s.args.store.now)))
 searched s = part_searchable s.args.store.now s.args.z s.requires.0 table_m refl
 
-sound : (c : Else-counts) →
-    let a = c.args in
-    Sound (share_reading program a.store.now (find_cl a.token.now)) a.z.p c.counts_in-counts.result
-sound c = let a = c.args in
-    told_sound (share_reading program a.store.now (find_cl a.token.now)) a.z.p c.counts_in-counts.result c.counts_in-counts.ensures c.if-counts.false
-
 -- where the function starts, the keys, M's rows, and the counts
 abbrev start : After-prepare-me → Start
 start c = c.before.before.before.before.before.before.before.before.before.before.before
+
+sound : (c : After-prepare-me) → let a = (start c).args in Sound (share_reading program a.store.now (find_cl a.token.now)) a.z.p c.in-Some.counts
+sound c = let a = (start c).args in
+    told_sound (share_reading program a.store.now (find_cl a.token.now)) a.z.p c.in-Some.counts (sym c.in-Some.is ∙ c.counts_in.ensures)
 
 abbrev keys_at : After-prepare-me → EntryKeys
 keys_at c = record { mt = c.prepare-mt.result; me = c.prepare-me.result }
@@ -51,19 +48,19 @@ abbrev table_at : After-prepare-me → Table
 table_at c = let a = (start c).args in rows (width_of table_m) a.z.m.rows (take (a.z.m.end - a.z.m.start) (drop a.z.m.start a.store.now))
 
 abbrev of_at : After-prepare-me → List ℕ
-of_at c = c.counts_in-counts.result.of
+of_at c = c.in-Some.counts.of
 
 ids : (c : After-prepare-me) → let a = (start c).args in distinct (ids_in (keys_at c) (table_at c) (of_at c) (a.z.p + 1)) ≡ ids_found program a.store.now a.token.now
 unfolding find_mt find_me
 ids c = let s = start c in
     let a = s.args in
     let p = c.prepare-mt in
-    ids_are a.store.now a.token.now a.z s.requires.0 s.requires.1 (keys_at c) c.counts_in-counts.result
-    (record { inner = p.ensures.0; outer = p.ensures.1 }) (record { inner = c.prepare-me.ensures.0; outer = c.prepare-me.ensures.1 }) (sound (view.up-Else-counts _ _ _ _ c.before.before.before.before.before))
+    ids_are a.store.now a.token.now a.z s.requires.0 s.requires.1 (keys_at c) c.in-Some.counts
+    (record { inner = p.ensures.0; outer = p.ensures.1 }) (record { inner = c.prepare-me.ensures.0; outer = c.prepare-me.ensures.1 }) (sound c)
 
-total : (c : After-prepare-me) → sum (map (λ u. get_or (of_at c) u 0) (up_to (start c).args.z.p)) ≡ c.counts_in-counts.result.sum
+total : (c : After-prepare-me) → sum (map (λ u. get_or (of_at c) u 0) (up_to (start c).args.z.p)) ≡ c.in-Some.counts.sum
 total c = let a = (start c).args in
-    counts_sum (share_reading program a.store.now (find_cl a.token.now)) a.z.p c.counts_in-counts.result (sound (view.up-Else-counts _ _ _ _ c.before.before.before.before.before)) (shares (start c))
+    counts_sum (share_reading program a.store.now (find_cl a.token.now)) a.z.p c.in-Some.counts (sound c) (shares (start c))
 
 -- what is given of them is what find gives
 gives : (c : After-prepare-me) →
@@ -72,14 +69,14 @@ gives : (c : After-prepare-me) →
     (given_answer l a.output.now ≡ (Find.find program a.store.now a.token.now a.output.now).answer) × (given_output l a.output.now ≡ (Find.find program a.store.now a.token.now a.output.now).output)
 gives c = let s = start c in
     let a = s.args in
-    let g = given a.store.now a.token.now a.output.now s.requires.1 a.z s.requires.0 (sound (view.up-Else-counts _ _ _ _ c.before.before.before.before.before)).none_damaged in
+    let g = given a.store.now a.token.now a.output.now s.requires.1 a.z s.requires.0 (sound c).none_damaged in
     (ap (λ (l : List (List ℕ)). given_answer l a.output.now) (ids c) ∙ g.0, ap (λ (l : List (List ℕ)). given_output l a.output.now) (ids c) ∙ g.1)
 
-pub returns-then-counts : goal.returns-then-counts
-returns-then-counts c =
+pub returns-in_default : goal.returns-in_default
+returns-in_default c =
     let a = c.args in
     let both = damage_found a.store.now a.token.now a.output.now c.requires.1 a.z c.requires.0
-    (told_damage (share_reading program a.store.now (find_cl a.token.now)) a.z.p c.counts_in-counts.result c.counts_in-counts.ensures c.if-counts.true) in
+    (told_damage (share_reading program a.store.now (find_cl a.token.now)) a.z.p (sym c.in_default.is ∙ c.counts_in.ensures)) in
     record { result_value = both.0; output_after = both.1 }
 
 pub slice_bounds-give_few-count : goal.slice_bounds-give_few-count
@@ -101,11 +98,11 @@ overflow_sub-m c =
 pub give_few-requires : goal.give_few-requires
 give_few-requires c =
     let s = (goal.at.give_few-requires c).Start in
-    (((in_m s).long, searched s), (rows_m s, (shares s, omega (arith, c.if-counts-2.true, total (goal.at.give_few-requires c).After-prepare-me))))
+    (((in_m s).long, searched s), (rows_m s, (shares s, omega (arith, c.if-counts.true, total (goal.at.give_few-requires c).After-prepare-me))))
 
-pub returns-then-counts-2 : goal.returns-then-counts-2
-returns-then-counts-2 c =
-    let g = gives (goal.at.returns-then-counts-2 c).After-prepare-me in record { result_value = c.give_few.ensures.result_value ∙ g.0; output_after = c.give_few.ensures.output_after ∙ g.1 }
+pub returns-then-counts : goal.returns-then-counts
+returns-then-counts c =
+    let g = gives (goal.at.returns-then-counts c).After-prepare-me in record { result_value = c.give_few.ensures.result_value ∙ g.0; output_after = c.give_few.ensures.output_after ∙ g.1 }
 
 pub slice_bounds-give_many-count : goal.slice_bounds-give_many-count
 slice_bounds-give_many-count c =

@@ -1,5 +1,5 @@
 -- The ids at the first a addresses are noted.
-use Prim.Native.Nat.{◌-◌, ◌≤◌}
+use Prim.Native.Nat.{◌≤◌}
 use mathlib.Core.Path.{◌≡◌}
 use lib.ListN.{length}
 use Rattle.table.specs.Table.{rows}
@@ -11,6 +11,3 @@ use Rattle.ids.proofs.note_share.Given as goal
 abbrev pub invariant-loop-a : goal.invariant-loop-a
 invariant-loop-a l = (l.a ≤ l.count) × ((length l.index ≡ length l.initial.index) × ((length l.ids ≡ length l.initial.ids)
     × (kept l.index l.ids l.next ≡ noted_to l.keys (rows (width_of table_m) l.m l.t) l.s.u l.a (kept l.initial.index l.initial.ids l.n))))
-
-abbrev pub decreases-loop-a : goal.decreases-loop-a
-decreases-loop-a l = l.count - l.a

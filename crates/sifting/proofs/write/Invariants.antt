@@ -1,5 +1,5 @@
 -- Of the first i ids those that stay are written.
-use Prim.Native.Nat.{◌-◌, ◌≤◌}
+use Prim.Native.Nat.{◌≤◌}
 use mathlib.Core.Path.{◌≡◌}
 use lib.ListN.{length}
 use Rattle.table.specs.Table.{rows}
@@ -9,6 +9,3 @@ use Rattle.sifting.proofs.write.Given as goal
 
 abbrev pub invariant-loop-i : goal.invariant-loop-i
 invariant-loop-i l = (l.i ≤ l.n) × ((length l.output ≡ length l.initial.output) × Wrote l.me (rows (width_of table_m) l.m l.t) l.index l.flags l.initial.output l.i l.k l.output)
-
-abbrev pub decreases-loop-i : goal.decreases-loop-i
-decreases-loop-i l = l.n - l.i
