@@ -11,7 +11,7 @@ ghost use Rattle.part_tokens.specs.Parts.{parts_of};
 ghost use Rattle.scenario.specs.Given.{Inserted, Erased, Compacted, InsertedBy, CompactedBy};
 
 use crate::write;
-use answer::Counted;
+use answer::Refusal;
 
 pub fn insert(store: &mut [u8])
     ensures { Inserted store.old store.new }
@@ -110,10 +110,8 @@ fn read_numbers(to: &mut [u64]) -> usize
     if to.len() < n {
         return 0;
     }
-    let mut i = 0;
-    while i < n {
+    for i in 0..n {
         to[i] = records::read_number();
-        i += 1;
     }
     n
 }

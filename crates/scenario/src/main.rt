@@ -149,10 +149,8 @@ fn run(room: &mut [u8])
     ensures { RanAll room.old room.new }
 {
     let mut n = 0;
-    let mut left = records::read_number();
-    while 0 < left {
+    for _ in 0..records::read_number() {
         n = record(room, n);
-        left -= 1;
     }
 }
 

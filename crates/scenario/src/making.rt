@@ -2,7 +2,7 @@
 ghost use Rattle.std.specs.Prelude.{◌≡◌};
 
 use crate::write;
-use answer::Completion;
+use answer::Refusal;
 
 // What an array's bytes are before the call.
 const LENT: u8 = 165;

@@ -32,23 +32,19 @@ fn tag(kind: Kind, key: Keyed, n: u64) -> [u8; 32]
 fn starts(kind: Kind, key: Keyed, to: &mut [u64])
     ensures { to.new ≡ starts_of kind key 0 (length to.old) }
 {
-    let mut i = 0;
-    while i < to.len() {
+    for i in 0..to.len() {
         let t = tag(kind, key, (i + 1) as u64);
         to[i] = octets::get(&t[0..8]);
-        i += 1;
     }
 }
 
 fn occurs(x: u64, list: &[u64]) -> bool
     ensures { result ≡ occurs_in x list.now }
 {
-    let mut i = 0;
-    while i < list.len() {
+    for i in 0..list.len() {
         if list[i] == x {
             return true;
         }
-        i += 1;
     }
     false
 }
@@ -57,14 +53,11 @@ fn occurs(x: u64, list: &[u64]) -> bool
 fn repeats(list: &[u64]) -> bool
     ensures { result ≡ repeating list.now }
 {
-    let mut i = 0;
     let n = list.len();
-    while i < n {
-        let next = i + 1;
-        if occurs(list[i], &list[next..n]) {
+    for i in 0..n {
+        if occurs(list[i], &list[i + 1..n]) {
             return true;
         }
-        i += 1;
     }
     false
 }

@@ -1,7 +1,7 @@
 // The lines: an answer by the paper's number and values, bytes in hexadecimal.
 ghost use Rattle.std.specs.Prelude.{◌≡◌};
 
-use answer::{Compaction, Completion, Counted, Faults, Inspected, Refusal, Tallied, Tally};
+use answer::{CompactionError, Faults, Refusal, Tallied, Tally};
 
 const STDOUT_FILENO: i32 = 1;
 

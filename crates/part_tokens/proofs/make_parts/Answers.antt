@@ -44,4 +44,3 @@ returns c =
       result_value = sym (ap (λ (o : Option Answer). answer_or o (done [])) v);
       to_after = kept_made (parts_of a.text.now a.ends.now) a.to.now c.loop-i.to v (going_all a.text.now a.ends.now n a.to.now c.loop-i.i c.loop-i.to c.loop-i.invariant c.loop-i-test.false);
     }
-

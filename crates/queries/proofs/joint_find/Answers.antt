@@ -53,8 +53,8 @@ returns c =
     let ps = parts_of a.text.now a.ends.now in
     let ts = parts_tests ps in
     let lent : take (128 * (length a.ends.now / 3)) c.make_parts.new.to ≡ parts_bytes ps =
-        all_kept a.text.now a.ends.now (replicate 1024 0) c.make_parts.new.to (length a.ends.now / 3) (length-replicate {A = ℕ} 1024 0) (omega (arith, c.if-n-gt8.false))
-        (made ts c.in_ok-make_parts.ensures.result_value) c.make_parts.ensures.to_after in
+    all_kept a.text.now a.ends.now (replicate 1024 0) c.make_parts.new.to (length a.ends.now / 3) (length-replicate {A = ℕ} 1024 0) (omega (arith, c.if-n-gt8.false))
+    (made ts c.in_ok-make_parts.ensures.result_value) c.make_parts.ensures.to_after in
     let g = ap (λ (t : List ℕ). JointFind.joint_find program a.store.now t a.output.now) lent
     ∙ sym (made_call ts (JointFind.joint_find program a.store.now (parts_bytes ps) a.output.now) a.store.now a.output.now c.in_ok-make_parts.ensures.result_value) in
     record { result_value = c.joint_find.ensures.result_value ∙ ap (λ r. r.answer) g; output_after = c.joint_find.ensures.output_after ∙ ap (λ r. r.output) g }

@@ -7,6 +7,3 @@ use Rattle.scenario.proofs.run.Given as goal
 
 abbrev pub invariant-loop-left : goal.invariant-loop-left
 invariant-loop-left l = (length l.room ≡ length l.initial.room) × (l.n ≤ length l.initial.room) × Ran l.initial.room l.n l.room
-
-abbrev pub decreases-loop-left : goal.decreases-loop-left
-decreases-loop-left l = l.left

@@ -1,5 +1,5 @@
 -- What is left decides.
-use Prim.Native.Nat.{◌-◌, ◌≤◌}
+use Prim.Native.Nat.{◌≤◌}
 use mathlib.Core.Path.{◌≡◌}
 use lib.ListN.{drop}
 use Rattle.scenario.specs.Premise.{repeating}
@@ -7,6 +7,3 @@ use Rattle.scenario.proofs.premise.repeats.Given as goal
 
 abbrev pub invariant-loop-i : goal.invariant-loop-i
 invariant-loop-i l = (l.i ≤ l.n) × (repeating (drop l.i l.list) ≡ repeating l.list)
-
-abbrev pub decreases-loop-i : goal.decreases-loop-i
-decreases-loop-i l = l.n - l.i
