@@ -36,7 +36,10 @@ fn keep(t: &mut [u8], w: usize, n: usize, to: usize, from: usize, stays: bool) -
     ensures t_after { rows w n t.new ≡ cond stays (set (rows w n t.old) to (get_or (rows w n t.old) from [])) (rows w n t.old) }
 {
     if stays {
-        moving::move_rows(t, w, n, from, 1, to);
+        // A row that stands at its place is not copied: an order of a store in form would take twice as long.
+        if to < from {
+            moving::move_rows(t, w, n, from, 1, to);
+        }
         to + 1
     } else {
         to

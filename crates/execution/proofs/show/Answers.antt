@@ -30,9 +30,9 @@ returns-in-Err c =
     ended Show [] s.store.now [] [] s.store.now _ a.result a.ensures.outcome_value (e, refl)
     (said (shown_text_lem _ _ _ x) a.ensures.put) a.ensures.put_2
 
-pub returns-in-Fit : goal.returns-in-Fit
+pub returns-in-Ok : goal.returns-in-Ok
 unfolding message_line
-returns-in-Fit c =
+returns-in-Ok c =
     let s = c.args in
     let x = sym c.sizes.ensures ∙ c.in-Ok.is in
     ended Show [] s.store.now [] [] s.store.now Done _ refl (sym (ap (λ (z : Result Shape Refusal). show_by z (room_of s.store.now)) x), refl)
