@@ -54,7 +54,7 @@ pub fn id_at(t: &[u8], m: usize, me: Keyed, index: &[u32], ids: &[u8], i: usize)
         let start = ID * i;
         let end = start + ID;
         let mut id = [0u8; ID];
-        octets::copy(&mut id, &ids[start..end]);
+        id.copy_from_slice(&ids[start..end]);
         return id;
     }
     let at = BUCKETS + i;
@@ -75,7 +75,7 @@ fn seen(t: &[u8], m: usize, me: Keyed, index: &[u32], ids: &[u8], n: usize, x: &
     while 0 < j {
         let i = j - 1;
         let id = id_at(t, m, me, index, ids, i);
-        if octets::same(&id, x) {
+        if id == *x {
             return true;
         }
         let at = BUCKETS + i;

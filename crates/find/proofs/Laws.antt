@@ -18,8 +18,9 @@ use Rattle.answer.specs.Verdict.{Test, ◌⇒◌, ◌⇒◌carrying◌, verdict,
 use Rattle.table.specs.Lists.{same, any_of, flat, sum, up_to, distinct, All}
 use Rattle.table.specs.Table.{Table, rows}
 use Rattle.table.proofs.Counting.{all_select}
-use Rattle.table.proofs.Rows.{flat-length}
+use Rattle.table.proofs.Rows.{flat-length, rows-length}
 use Rattle.table.proofs.Below.{below, up_to-below, flat_next}
+use Rattle.table.proofs.Distinct.{distinct_few}
 use Rattle.hmac.specs.declared.Keyed.{Keyed}
 use Rattle.scheme.specs.Keys.{find_token_length, share, find_mt, find_me, find_cl}
 use Rattle.scheme.specs.Store.{Sizes, width_of, sizes_of, cut, state_tests}
@@ -46,7 +47,7 @@ use Rattle.chains.specs.Chains.{Kept, kept, kept_ids, Chained}
 use Rattle.chains.proofs.Chains.{RowsM}
 use Rattle.chains.proofs.Kept.{chained_none, kept_length}
 use Rattle.ids.specs.Ids.{id_at, ids_to, ids_in, noted_in}
-use Rattle.ids.proofs.Noted.{gathers_in, wide_in}
+use Rattle.ids.proofs.Noted.{gathers_in, wide_in, few_in, most_in}
 
 -- ---- the counts
 
@@ -235,6 +236,23 @@ pub empty : (size n : ℕ) → 4096 + n ≤ size → size ≤ 69632 → Empty (r
 empty size n h k =
     let l : length (replicate size zero) ≡ size = length-replicate size zero in
     record { clear = ap (λ (m : ℕ). replicate m zero) (sym l); room = omega (arith, l); most = omega (arith, l) }
+
+-- an index for 4,096 ids has room for the different ones where the counts sum to no more; one for 16 times as many has, whatever
+-- the counts
+module _ (keys : EntryKeys) (m : ℕ) (t : List ℕ) (h : m ≤ 4096) (of : List ℕ) (p : ℕ) where
+  few_rows : length (rows (width_of table_m) m t) ≤ 4096
+  few_rows = omega (arith, rows-length (width_of table_m) m t)
+
+  pub room_for_few : sum (map (λ u. get_or of u 0) (up_to p)) ≤ 4096 → Empty (replicate 8192 0) (length (distinct (ids_in keys (rows (width_of table_m) m t) of (p + 1))))
+  room_for_few c =
+      let ids = ids_in keys (rows (width_of table_m) m t) of (p + 1) in
+      let e = ap (λ (l : List ℕ). sum (map (λ u. get_or of u 0) l)) (up_to-below p) in
+      empty 8192 (length (distinct ids)) (omega (arith, distinct_few ids, few_in keys (rows (width_of table_m) m t) few_rows of (p + 1), e, c)) (omega arith)
+
+  pub room_for_many : p ≤ 15 → Empty (replicate 69632 0) (length (distinct (ids_in keys (rows (width_of table_m) m t) of (p + 1))))
+  room_for_many l =
+      let ids = ids_in keys (rows (width_of table_m) m t) of (p + 1) in
+      empty 69632 (length (distinct ids)) (omega (arith, most_in keys (rows (width_of table_m) m t) few_rows of (p + 1) (omega (arith, l)))) (omega arith)
 
 -- ---- gathered in an index with no id: those kept are the distinct ones
 

@@ -3,9 +3,9 @@
 // the addresses gathers the different ids, and 18 is judged by their number before any is written.
 #![tactic(auto)]
 
-ghost use Rattle.std.specs.Prelude.{◌≡◌, map, ◌+◌, ◌*◌, ◌≤◌, length, get_or, replicate};
+ghost use Rattle.std.specs.Prelude.{◌≡◌, ◌+◌, ◌*◌, ◌≤◌, length, replicate};
 ghost use Rattle.answer.specs.Answer.{counted};
-ghost use Rattle.table.specs.Lists.{sum, up_to, distinct};
+ghost use Rattle.table.specs.Lists.{distinct};
 ghost use Rattle.table.specs.Table.{rows};
 ghost use Rattle.table.specs.Order.{Searchable};
 ghost use Rattle.scheme.specs.Store.{table_c, table_m, width_of};
@@ -28,7 +28,8 @@ use ids::EntryKeys;
 use lookups::Lookup;
 use store::{MOST_ROWS, Shape};
 
-// An index for as many ids as a table has rows, and for as many in each share.
+// An index for as many ids as a table has rows, which serves where the counts sum to no more, and one for as
+// many in each share, which serves whatever they count.
 const FEW: usize = BUCKETS + MOST_ROWS;
 
 const MANY: usize = BUCKETS + 16 * MOST_ROWS;
@@ -99,8 +100,8 @@ fn give(
     Ok(n as u64)
 }
 
-// The same, where the counts sum to no more than a table has rows: a small index serves.
-fn give_few(
+// The same, in an index of its own: N entries are room for all.
+fn give_within<const N: usize>(
     t: &[u8],
     m: usize,
     used: usize,
@@ -109,29 +110,11 @@ fn give_few(
     p: u64,
     output: &mut [u8],
 ) -> Result<u64, Refusal>
-    requires { ((length t.now ≡ width_of table_m * m) × Searchable (width_of table_m) used (rows (width_of table_m) m t.now)) × ((m ≤ 4096) × ((p ≤ 15) × (sum (map (λ u. get_or of u 0) (up_to p)) ≤ 4096))) }
+    requires { ((length t.now ≡ width_of table_m * m) × Searchable (width_of table_m) used (rows (width_of table_m) m t.now)) × ((m ≤ 4096) × ((p ≤ 15) × Empty (replicate N 0) (length (distinct (ids_in keys (rows (width_of table_m) m t.now) of (p + 1)))))) }
     ensures result_value { counted result ≡ given_answer (distinct (ids_in keys (rows (width_of table_m) m t.now) of (p + 1))) output.old }
     ensures output_after { output.new ≡ given_output (distinct (ids_in keys (rows (width_of table_m) m t.now) of (p + 1))) output.old }
 {
-    let mut index = [0u32; FEW];
-    give(t, m, used, keys, of, p, &mut index, output)
-}
-
-// The same, whatever the counts: m different ids in each share at the most.
-fn give_many(
-    t: &[u8],
-    m: usize,
-    used: usize,
-    keys: EntryKeys,
-    of: [u64; 16],
-    p: u64,
-    output: &mut [u8],
-) -> Result<u64, Refusal>
-    requires { ((length t.now ≡ width_of table_m * m) × Searchable (width_of table_m) used (rows (width_of table_m) m t.now)) × ((m ≤ 4096) × (p ≤ 15)) }
-    ensures result_value { counted result ≡ given_answer (distinct (ids_in keys (rows (width_of table_m) m t.now) of (p + 1))) output.old }
-    ensures output_after { output.new ≡ given_output (distinct (ids_in keys (rows (width_of table_m) m t.now) of (p + 1))) output.old }
-{
-    let mut index = [0u32; MANY];
+    let mut index = [0u32; N];
     give(t, m, used, keys, of, p, &mut index, output)
 }
 
@@ -153,9 +136,9 @@ fn find_in(store: &[u8], z: Shape, token: &[u8], output: &mut [u8]) -> Result<u6
     let keys = EntryKeys { mt, me };
     let of = counts.of;
     if counts.sum <= MOST_ROWS as u64 {
-        return give_few(&store[a..e], m.rows, m.rows - m.free, keys, of, z.p, output);
+        return give_within::<FEW>(&store[a..e], m.rows, m.rows - m.free, keys, of, z.p, output);
     }
-    give_many(&store[a..e], m.rows, m.rows - m.free, keys, of, z.p, output)
+    give_within::<MANY>(&store[a..e], m.rows, m.rows - m.free, keys, of, z.p, output)
 }
 
 // The ids of all shares at the start of the output, and how many: refused by 6, 10, 11, 20, 13 and 18, with

@@ -3,9 +3,9 @@
 // judged by the number of ids kept before any is written.
 #![tactic(auto)]
 
-ghost use Rattle.std.specs.Prelude.{◌≡◌, map, ◌+◌, ◌*◌, ◌-◌, ◌≤◌, ◌<◌, length, get_or, replicate, [], false};
+ghost use Rattle.std.specs.Prelude.{◌≡◌, ◌+◌, ◌*◌, ◌-◌, ◌≤◌, ◌<◌, length, get_or, replicate, [], false};
 ghost use Rattle.answer.specs.Answer.{counted};
-ghost use Rattle.table.specs.Lists.{sum, up_to, distinct, All};
+ghost use Rattle.table.specs.Lists.{distinct, All};
 ghost use Rattle.table.specs.Table.{rows};
 ghost use Rattle.table.specs.Order.{Searchable};
 ghost use Rattle.scheme.specs.Store.{table_m, table_r, width_of, cut};
@@ -30,10 +30,14 @@ use hmac::Keyed;
 use ids::EntryKeys;
 use store::{MOST_ROWS, Shape};
 
-// The most ids where the counts sum to no more than a table has rows, and the most in all shares.
-const FEW: usize = MOST_ROWS;
+// The most ids in all shares.
+const MOST_IDS: usize = 16 * MOST_ROWS;
 
-const MANY: usize = 16 * MOST_ROWS;
+// An index for as many ids as a table has rows, which serves where the counts sum to no more, and one for the
+// most ids, which serves whatever they count.
+const FEW: usize = BUCKETS + MOST_ROWS;
+
+const MANY: usize = BUCKETS + MOST_IDS;
 
 // Sets the flags of those of the ids kept in an index that a part but the one at a place says no to: the
 // parts before it, then those after it. [02:W4.21]
@@ -128,7 +132,7 @@ fn give(
     ensures index_after { index.new ≡ (noted_in keys (rows (width_of table_m) m t.now) of (p + 1) (kept index.old (replicate 65536 0) 0)).index }
 {
     let mut ids = [0u8; FIRST_BYTES];
-    let mut flags = [0u8; MANY];
+    let mut flags = [0u8; MOST_IDS];
     let found = ids::gather(t, m, used, keys, of, p, index, &mut ids);
     sift_others(
         t, m, keys.me, index, &ids, found, labels, r, held, parts, n, at, &mut flags,
@@ -136,8 +140,8 @@ fn give(
     write_unset(t, m, keys.me, index, &ids, found, &flags, output)
 }
 
-// The same, where the counts sum to no more than a table has rows: a small index serves.
-fn give_few(
+// The same, in an index of its own: N entries are room for all.
+fn give_within<const N: usize>(
     t: &[u8],
     m: usize,
     used: usize,
@@ -152,39 +156,12 @@ fn give_few(
     at: usize,
     output: &mut [u8],
 ) -> Result<u64, Refusal>
-    requires t_len { ((length t.now ≡ width_of table_m * m) × Searchable (width_of table_m) used (rows (width_of table_m) m t.now)) × ((m ≤ 4096) × ((p ≤ 15) × (sum (map (λ u. get_or of u 0) (up_to p)) ≤ 4096))) }
+    requires t_len { ((length t.now ≡ width_of table_m * m) × Searchable (width_of table_m) used (rows (width_of table_m) m t.now)) × ((m ≤ 4096) × ((p ≤ 15) × Empty (replicate N 0) (length (distinct (ids_in keys (rows (width_of table_m) m t.now) of (p + 1)))))) }
     requires labels_len { ((length labels.now ≡ width_of table_r * r) × Searchable (width_of table_r) held (rows (width_of table_r) r labels.now)) × ((length parts.now ≡ 128 * n) × ((at < n) × (n ≤ 8))) }
     ensures result_value { counted result ≡ given_answer (kept_of (rows (width_of table_r) r labels.now) at (rows 128 n parts.now) (distinct (ids_in keys (rows (width_of table_m) m t.now) of (p + 1)))) output.old }
     ensures output_after { output.new ≡ given_output (kept_of (rows (width_of table_r) r labels.now) at (rows 128 n parts.now) (distinct (ids_in keys (rows (width_of table_m) m t.now) of (p + 1)))) output.old }
 {
-    let mut index = [0u32; BUCKETS + FEW];
-    give(
-        t, m, used, keys, of, p, labels, r, held, parts, n, at, &mut index, output,
-    )
-}
-
-// The same, whatever the counts: m different ids in each share at the most.
-fn give_many(
-    t: &[u8],
-    m: usize,
-    used: usize,
-    keys: EntryKeys,
-    of: [u64; 16],
-    p: u64,
-    labels: &[u8],
-    r: usize,
-    held: usize,
-    parts: &[u8],
-    n: usize,
-    at: usize,
-    output: &mut [u8],
-) -> Result<u64, Refusal>
-    requires t_len { ((length t.now ≡ width_of table_m * m) × Searchable (width_of table_m) used (rows (width_of table_m) m t.now)) × ((m ≤ 4096) × (p ≤ 15)) }
-    requires labels_len { ((length labels.now ≡ width_of table_r * r) × Searchable (width_of table_r) held (rows (width_of table_r) r labels.now)) × ((length parts.now ≡ 128 * n) × ((at < n) × (n ≤ 8))) }
-    ensures result_value { counted result ≡ given_answer (kept_of (rows (width_of table_r) r labels.now) at (rows 128 n parts.now) (distinct (ids_in keys (rows (width_of table_m) m t.now) of (p + 1)))) output.old }
-    ensures output_after { output.new ≡ given_output (kept_of (rows (width_of table_r) r labels.now) at (rows 128 n parts.now) (distinct (ids_in keys (rows (width_of table_m) m t.now) of (p + 1)))) output.old }
-{
-    let mut index = [0u32; BUCKETS + MANY];
+    let mut index = [0u32; N];
     give(
         t, m, used, keys, of, p, labels, r, held, parts, n, at, &mut index, output,
     )
@@ -228,7 +205,7 @@ fn give_chosen(
     let counts = c.counts;
     let of = counts.of;
     if counts.sum <= MOST_ROWS as u64 {
-        return give_few(
+        return give_within::<FEW>(
             &store[a..e],
             m.rows,
             m.rows - m.free,
@@ -244,7 +221,7 @@ fn give_chosen(
             output,
         );
     }
-    give_many(
+    give_within::<MANY>(
         &store[a..e],
         m.rows,
         m.rows - m.free,

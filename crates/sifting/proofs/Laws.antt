@@ -9,6 +9,8 @@ use native.Mathlib.Omega.{arith}
 use lib.Dec.{eqb}
 use lib.ListN.{length, get_or, set, take, drop, replicate, length-append}
 use lib.Seq.{take-suc, drop-cons}
+use Rattle.std.specs.List.{count_by}
+use Rattle.std.proofs.lemmas.List.Recursion.{is_count_by}
 use Rattle.octets.specs.Part.{written}
 use Rattle.octets.proofs.Parts.{written_none, written_more}
 use Rattle.table.specs.Lists.{bit, select, count, all_of, flat}
@@ -76,6 +78,15 @@ sifted_by-length tests xs (p ∷ ps) fs = sifted_by-length tests xs ps (sifted (
 pub sifted_by_both : (tests : List ℕ → List ℕ → Bool) (xs ps qs : List (List ℕ)) (fs : List ℕ) → sifted_by tests xs qs (sifted_by tests xs ps fs) ≡ sifted_by tests xs (ps ++ qs) fs
 sifted_by_both tests xs [] qs fs = refl
 sifted_by_both tests xs (p ∷ ps) qs fs = sifted_by_both tests xs ps qs (sifted (tests p) xs fs)
+
+-- how many flags are not set, by std's word
+pub unset_is : (n : ℕ) (fs : List ℕ) → unset n fs ≡ count_by (λ f. eqb f 0) (take n fs)
+unfolding unset
+unset_is n fs = is_count_by (count (λ f. eqb f 0)) (λ f. eqb f 0) refl (λ x xs. go (eqb x 0) (count (λ f. eqb f 0) xs)) (take n fs)
+  where
+    go : (b : Bool) (k : ℕ) → bit b + k ≡ cond b (1 + k) k
+    go true k = refl
+    go false k = let e : 0 + k ≡ k = omega arith in e
 
 -- as many as flags that are not set
 pub staying-length : (xs : List (List ℕ)) (fs : List ℕ) → length (staying xs fs) ≡ unset (length xs) fs

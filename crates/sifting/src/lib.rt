@@ -102,17 +102,12 @@ pub fn sift_parts(
 }
 
 // How many of the first n flags are not set.
+#[tactic(auto, using(crate::proofs::Laws::unset_is))]
 pub fn kept(flags: &[u8], n: usize) -> usize
     requires { n ≤ length flags.now }
     ensures { result ≡ unset n flags.now }
 {
-    let mut k: usize = 0;
-    for i in 0..n {
-        if flags[i] == 0 {
-            k += 1;
-        }
-    }
-    k
+    flags[..n].iter().filter(|f| **f == 0).count()
 }
 
 // Writes the id of number i as the one of place k, unless its flag is set; answers the next place.

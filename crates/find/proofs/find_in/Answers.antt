@@ -16,7 +16,7 @@ use Rattle.store.proofs.Laws.{table_m, Fits, fit_range, fits, free_le, part_sear
 use Rattle.ids.specs.declared.EntryKeys.{EntryKeys}
 use Rattle.ids.specs.Ids.{ids_in}
 use Rattle.find.specs.Given.{given_answer, given_output}
-use Rattle.find.proofs.Laws.{Sound, told_damage, told_sound, counts_sum, ids_are, damage_found, given}
+use Rattle.find.proofs.Laws.{Sound, told_damage, told_sound, counts_sum, ids_are, damage_found, given, room_for_few, room_for_many}
 use Rattle.find.proofs.find_in.Goals as goal
 use Rattle.find.proofs.find_in.Goals.{After-prepare-me, Start}
 
@@ -79,51 +79,56 @@ returns-in_default c =
     (told_damage (share_reading program a.store.now (find_cl a.token.now)) a.z.p (sym c.in_default.is ∙ c.counts_in.ensures)) in
     record { result_value = both.0; output_after = both.1 }
 
-pub slice_bounds-give_few-count : goal.slice_bounds-give_few-count
-slice_bounds-give_few-count c =
-    omega (arith, in_m (goal.at.slice_bounds-give_few-count c).Start)
+pub slice_bounds-give_within-count : goal.slice_bounds-give_within-count
+slice_bounds-give_within-count c =
+    omega (arith, in_m (goal.at.slice_bounds-give_within-count c).Start)
 
-pub slice_bounds-give_few-start : goal.slice_bounds-give_few-start
-slice_bounds-give_few-start c =
-    omega (arith, in_m (goal.at.slice_bounds-give_few-start c).Start)
+pub slice_bounds-give_within-start : goal.slice_bounds-give_within-start
+slice_bounds-give_within-start c =
+    omega (arith, in_m (goal.at.slice_bounds-give_within-start c).Start)
 
-pub slice_bounds-give_few-end : goal.slice_bounds-give_few-end
-slice_bounds-give_few-end c =
-    omega (arith, in_m (goal.at.slice_bounds-give_few-end c).Start)
+pub slice_bounds-give_within-end : goal.slice_bounds-give_within-end
+slice_bounds-give_within-end c =
+    omega (arith, in_m (goal.at.slice_bounds-give_within-end c).Start)
 
 pub overflow_sub-m : goal.overflow_sub-m
 overflow_sub-m c =
     free_le c.args.store.now c.args.z c.requires.0 table_m
 
-pub give_few-requires : goal.give_few-requires
-give_few-requires c =
-    let s = (goal.at.give_few-requires c).Start in
-    (((in_m s).long, searched s), (rows_m s, (shares s, omega (arith, c.if-counts.true, total (goal.at.give_few-requires c).After-prepare-me))))
+pub give_within-requires : goal.give_within-requires
+give_within-requires c =
+    let s = (goal.at.give_within-requires c).Start in
+    let k = (goal.at.give_within-requires c).After-prepare-me in
+    let a = s.args in
+    (((in_m s).long, searched s), (rows_m s, (shares s, room_for_few (keys_at k) a.z.m.rows (take (a.z.m.end - a.z.m.start) (drop a.z.m.start a.store.now)) (rows_m s) (of_at k) a.z.p (omega (arith, c.if-counts.true, total k)))))
 
 pub returns-then-counts : goal.returns-then-counts
 returns-then-counts c =
-    let g = gives (goal.at.returns-then-counts c).After-prepare-me in record { result_value = c.give_few.ensures.result_value ∙ g.0; output_after = c.give_few.ensures.output_after ∙ g.1 }
+    let g = gives (goal.at.returns-then-counts c).After-prepare-me in record { result_value = c.give_within.ensures.result_value ∙ g.0; output_after = c.give_within.ensures.output_after ∙ g.1 }
 
-pub slice_bounds-give_many-count : goal.slice_bounds-give_many-count
-slice_bounds-give_many-count c =
-    omega (arith, in_m (goal.at.slice_bounds-give_many-count c).Start)
+pub slice_bounds-give_within-count-2 : goal.slice_bounds-give_within-count-2
+slice_bounds-give_within-count-2 c =
+    omega (arith, in_m (goal.at.slice_bounds-give_within-count-2 c).Start)
 
-pub slice_bounds-give_many-start : goal.slice_bounds-give_many-start
-slice_bounds-give_many-start c =
-    omega (arith, in_m (goal.at.slice_bounds-give_many-start c).Start)
+pub slice_bounds-give_within-start-2 : goal.slice_bounds-give_within-start-2
+slice_bounds-give_within-start-2 c =
+    omega (arith, in_m (goal.at.slice_bounds-give_within-start-2 c).Start)
 
-pub slice_bounds-give_many-end : goal.slice_bounds-give_many-end
-slice_bounds-give_many-end c =
-    omega (arith, in_m (goal.at.slice_bounds-give_many-end c).Start)
+pub slice_bounds-give_within-end-2 : goal.slice_bounds-give_within-end-2
+slice_bounds-give_within-end-2 c =
+    omega (arith, in_m (goal.at.slice_bounds-give_within-end-2 c).Start)
 
 pub overflow_sub-m-2 : goal.overflow_sub-m-2
 overflow_sub-m-2 c =
     free_le c.args.store.now c.args.z c.requires.0 table_m
 
-pub give_many-requires : goal.give_many-requires
-give_many-requires c =
-    let s = (goal.at.give_many-requires c).Start in (((in_m s).long, searched s), (rows_m s, shares s))
+pub give_within-requires-2 : goal.give_within-requires-2
+give_within-requires-2 c =
+    let s = (goal.at.give_within-requires-2 c).Start in
+    let k = (goal.at.give_within-requires-2 c).After-prepare-me in
+    let a = s.args in
+    (((in_m s).long, searched s), (rows_m s, (shares s, room_for_many (keys_at k) a.z.m.rows (take (a.z.m.end - a.z.m.start) (drop a.z.m.start a.store.now)) (rows_m s) (of_at k) a.z.p (shares s))))
 
 pub returns : goal.returns
 returns c =
-    let g = gives (goal.at.returns c).After-prepare-me in record { result_value = c.give_many.ensures.result_value ∙ g.0; output_after = c.give_many.ensures.output_after ∙ g.1 }
+    let g = gives (goal.at.returns c).After-prepare-me in record { result_value = c.give_within-2.ensures.result_value ∙ g.0; output_after = c.give_within-2.ensures.output_after ∙ g.1 }
