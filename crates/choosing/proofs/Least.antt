@@ -1,4 +1,4 @@
--- Chosen part after part, the part is the one at the place of the least number; none where one of the parts is damaged.
+-- Chosen part after part, the part is the one at the place of the least number; or one of the parts is damaged.
 use Prim.Native.Nat.{ℕ, zero, suc, ◌-◌, ◌≤◌, ◌<◌}
 use mathlib.Core.Path.{◌≡◌, refl, sym, ap, ap₂, ◌∙◌}
 use mathlib.Core.Bool.{Bool, true, false, cond, ◌||◌, true≢false, or-true}
@@ -9,7 +9,7 @@ use lib.Dec.{ltb}
 use lib.ListN.{length, get_or, take, length-map}
 use lib.Seq.{take-suc, get_or-take, length-take-le}
 use borrow.Author.Tests.{ltb-true, ltb-false, lt-ltb}
-use Rattle.std.specs.Prelude.{Option, Some, None, is_none}
+use Rattle.std.specs.Prelude.{Option, Some, None, Result, Ok, Err, is_none}
 use Rattle.table.specs.Lists.{any_of}
 use Rattle.table.proofs.Counting.{neither, any_append}
 use Rattle.scheme.specs.JointFind.{least_at}
@@ -76,31 +76,38 @@ sum_in (Some k) = k.sum
 module _ (f : List ℕ → Option Counts) (ps : List (List ℕ)) where
   -- ---- one part more
 
-  pub choice_more : (i : ℕ) (c : Choice) (k : Counts) → 1 ≤ i → Some c ≡ chosen_to f ps (i - 1) → Some k ≡ f (get_or ps i []) → Some (better_of c i k) ≡ chosen_to f ps i
+  pub choice_more : (i : ℕ) (c : Choice) (k : Counts) → 1 ≤ i → Ok c ≡ chosen_to f ps (i - 1) → Some k ≡ f (get_or ps i []) → Ok (better_of c i k) ≡ chosen_to f ps i
   choice_more zero c k h e q = absurd (not-suc-le-zero h)
   choice_more (suc i) c k h e q =
       let n : suc i - 1 ≡ i = omega arith in
-      let p : Some c ≡ chosen_to f ps i = e ∙ ap (λ (j : ℕ). chosen_to f ps j) n in
-      ap₂ (λ (o : Option Choice) (x : Option Counts). next_of o (suc i) x) p q
+      let p : Ok c ≡ chosen_to f ps i = e ∙ ap (λ (j : ℕ). chosen_to f ps j) n in
+      ap₂ (λ (o : Result Choice ℕ) (x : Option Counts). next_of o (suc i) x) p q
 
-  -- none once a part is damaged
-  pub choice_none : (n i : ℕ) → i ≤ n → None ≡ f (get_or ps i []) → None ≡ chosen_to f ps n
-  choice_none zero i h e =
-      let n : i ≡ 0 = omega arith in
-      ap (λ (o : Option Counts). first_of o) (e ∙ ap (λ (j : ℕ). f (get_or ps j [])) n)
-  choice_none (suc n) i h e = go (ltb i (suc n)) refl (λ m. choice_none n i m e)
+  -- a part that is damaged, the first of them
+  choice_stops : (i : ℕ) (c : Choice) → 1 ≤ i → Ok c ≡ chosen_to f ps (i - 1) → None ≡ f (get_or ps i []) → Err i ≡ chosen_to f ps i
+  choice_stops zero c h e q = absurd (not-suc-le-zero h)
+  choice_stops (suc i) c h e q =
+      let n : suc i - 1 ≡ i = omega arith in
+      let p : Ok c ≡ chosen_to f ps i = e ∙ ap (λ (j : ℕ). chosen_to f ps j) n in
+      ap₂ (λ (o : Result Choice ℕ) (x : Option Counts). next_of o (suc i) x) p q
+
+  -- it stays, whatever comes after it
+  stays : (n i j : ℕ) → i ≤ n → Err j ≡ chosen_to f ps i → Err j ≡ chosen_to f ps n
+  stays zero i j h e = let m : i ≡ 0 = omega arith in e ∙ ap (λ (k : ℕ). chosen_to f ps k) m
+  stays (suc n) i j h e = go (ltb i (suc n)) refl (λ m. stays n i j m e)
     where
-      last : (o : Option Choice) → None ≡ next_of o (suc n) None
-      last None = refl
-      last (Some c) = refl
-
-      go : (b : Bool) → ltb i (suc n) ≡ b → (i ≤ n → None ≡ chosen_to f ps n) → None ≡ next_of (chosen_to f ps n) (suc n) (f (get_or ps (suc n) []))
+      go : (b : Bool) → ltb i (suc n) ≡ b → (i ≤ n → Err j ≡ chosen_to f ps n) → Err j ≡ next_of (chosen_to f ps n) (suc n) (f (get_or ps (suc n) []))
       go true q r =
           let h : i < suc n = ltb-true i (suc n) q in
-          ap (λ (o : Option Choice). next_of o (suc n) (f (get_or ps (suc n) []))) (r (omega arith))
+          ap (λ (o : Result Choice ℕ). next_of o (suc n) (f (get_or ps (suc n) []))) (r (omega arith))
       go false q r =
-          let m : i ≡ suc n = omega (arith, ltb-false i (suc n) q) in
-          last (chosen_to f ps n) ∙ ap (λ (x : Option Counts). next_of (chosen_to f ps n) (suc n) x) (e ∙ ap (λ (j : ℕ). f (get_or ps j [])) m)
+          let m : i ≡ suc n = omega (arith, ltb-false i (suc n) q) in e ∙ ap (λ (k : ℕ). chosen_to f ps k) m
+
+  pub first_damaged : (n : ℕ) → None ≡ f (get_or ps 0 []) → Err 0 ≡ chosen_to f ps n
+  first_damaged n e = stays n 0 0 (omega arith) (ap (λ (o : Option Counts). first_of o) e)
+
+  pub later_damaged : (n i : ℕ) (c : Choice) → 1 ≤ i → i ≤ n → Ok c ≡ chosen_to f ps (i - 1) → None ≡ f (get_or ps i []) → Err i ≡ chosen_to f ps n
+  later_damaged n i c h m e q = stays n i i m (choice_stops i c h e q)
 
   -- ---- the part at the place of the least number
 
@@ -117,9 +124,9 @@ module _ (f : List ℕ → Option Counts) (ps : List (List ℕ)) where
     pub counts_are : Some c.counts ≡ f (get_or ps c.at [])
     pub at_most : c.at ≤ i
 
-  abbrev pub Chosen : ℕ → Option Choice → Type 0
-  Chosen i None = damaged_to (suc i) ≡ true
-  Chosen i (Some c) = Sound i c
+  abbrev pub Chosen : ℕ → Result Choice ℕ → Type 0
+  Chosen i (Err j) = damaged_to (suc i) ≡ true
+  Chosen i (Ok c) = Sound i c
 
   module _ (i : ℕ) (h : i < length ps) where
     next_part : take (suc i) ps ≡ take i ps ++ (get_or ps i [] ∷ [])
@@ -141,12 +148,12 @@ module _ (f : List ℕ → Option Counts) (ps : List (List ℕ)) where
       ∙ get_d_map (λ p. sum_in (f p)) (take (suc i) ps) c.at (omega (arith, s.at_most, length-take-le (suc i) ps h))
       ∙ ap (λ (p : List ℕ). sum_in (f p)) (get_or-take (suc i) ps c.at [] (omega (arith, s.at_most))) ∙ ap (λ (k : Option Counts). sum_in k) (sym s.counts_are)
 
-  better_is : (i : ℕ) (o : Option Choice) (k : Option Counts) → suc i < length ps → k ≡ f (get_or ps (suc i) []) → Chosen i o → Chosen (suc i) (next_of o (suc i) k)
+  better_is : (i : ℕ) (o : Result Choice ℕ) (k : Option Counts) → suc i < length ps → k ≡ f (get_or ps (suc i) []) → Chosen i o → Chosen (suc i) (next_of o (suc i) k)
   unfolding better_of
-  better_is i None k h e w = damaged_next (suc i) h ∙ ap (λ (x : Bool). x || (is_none (f (get_or ps (suc i) [])) || false)) w
-  better_is i (Some c) None h e w =
+  better_is i (Err j) k h e w = damaged_next (suc i) h ∙ ap (λ (x : Bool). x || (is_none (f (get_or ps (suc i) [])) || false)) w
+  better_is i (Ok c) None h e w =
       damaged_next (suc i) h ∙ ap (λ (x : Option Counts). damaged_to (suc i) || (is_none x || false)) (sym e) ∙ or-true (damaged_to (suc i))
-  better_is i (Some c) (Some k) h e w = go (ltb k.sum c.counts.sum) refl
+  better_is i (Ok c) (Some k) h e w = go (ltb k.sum c.counts.sum) refl
     where
       none : damaged_to (suc (suc i)) ≡ false
       none = damaged_next (suc i) h ∙ ap₂ (λ (x : Bool) (y : Option Counts). x || (is_none y || false)) w.none_damaged (sym e)

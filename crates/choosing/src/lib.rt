@@ -38,16 +38,20 @@ fn counts_of(store: &[u8], z: Shape, parts: &[u8], n: usize, i: usize) -> Option
     find::counts_in(store, z, &parts[a..e])
 }
 
-// The part with the least count, the earlier on a tie; none where a part is damaged. [02:W4.19 W4.20 W4.22]
-pub fn choose(store: &[u8], z: Shape, parts: &[u8], n: usize) -> Option<Choice>
+// The part with the least count, the earlier on a tie; or the number of the first that is damaged. [02:W4.19 W4.20 W4.22]
+pub fn choose(store: &[u8], z: Shape, parts: &[u8], n: usize) -> Result<Choice, usize>
     requires { (checked_of store.now ≡ Ok z) × ((length parts.now ≡ 128 * n) × ((1 ≤ n) × (n ≤ 8))) }
     ensures { result ≡ chosen_to (part_counts store.now z.p) (rows 128 n parts.now) (n - 1) }
 {
-    let counts = counts_of(store, z, parts, n, 0)?;
+    let Some(counts) = counts_of(store, z, parts, n, 0) else {
+        return Err(0);
+    };
     let mut best = Choice { at: 0, counts };
     for i in 1..n {
-        let counts = counts_of(store, z, parts, n, i)?;
+        let Some(counts) = counts_of(store, z, parts, n, i) else {
+            return Err(i);
+        };
         best = better(best, i, counts);
     }
-    Some(best)
+    Ok(best)
 }

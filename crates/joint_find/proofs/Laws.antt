@@ -29,7 +29,7 @@ use Rattle.scheme.specs.Count.{sum_of_counts}
 use Rattle.scheme.specs.JointFind.{least_at, without, part_damaged, part_sum, part_ids, part_test, chosen_at, chosen_part, ids_kept, joint_verdict, joint_find}
 use Rattle.suite.specs.Program.{program}
 use Rattle.store.specs.declared.Shape.{Shape}
-use Rattle.std.specs.Prelude.{Ok, Err, Option as Outcome, Some, None, is_none}
+use Rattle.std.specs.Prelude.{Result, Ok, Err, Option as Outcome, Some, None, is_none}
 use Rattle.store.specs.Check.{checked_of}
 use Rattle.store.proofs.Laws.{unfit, fit_verdict}
 use Rattle.hmac.specs.declared.Keyed.{Keyed}
@@ -173,7 +173,7 @@ module _ (before : List ℕ) (p : ℕ) (e : p ≡ (sizes_of before).p) where
 
 -- the part chosen of all
 module _ (before parts : List ℕ) (p : ℕ) (e : p ≡ (sizes_of before).p) (h : Fill parts) where
-  chosen : (o : Outcome Choice) → o ≡ chosen_to (counted before p e) (parts_in parts) (part_count parts - 1) → Chosen (counted before p e) (parts_in parts) (part_count parts - 1) o
+  chosen : (o : Result Choice ℕ) → o ≡ chosen_to (counted before p e) (parts_in parts) (part_count parts - 1) → Chosen (counted before p e) (parts_in parts) (part_count parts - 1) o
   chosen o q =
       subst (Chosen (counted before p e) (parts_in parts) (part_count parts - 1)) (sym q)
       (chosen_is (counted before p e) (parts_in parts) (part_count parts - 1) (omega (arith, h.least, rows-length 128 (part_count parts) parts)))
@@ -181,8 +181,8 @@ module _ (before parts : List ℕ) (p : ℕ) (e : p ≡ (sizes_of before).p) (h 
   every : take (suc (part_count parts - 1)) (parts_in parts) ≡ parts_in parts
   every = take_all (suc (part_count parts - 1)) (parts_in parts) (omega (arith, h.least, rows-length 128 (part_count parts) parts))
 
-  pub choice_bad : None ≡ chosen_to (counted before p e) (parts_in parts) (part_count parts - 1) → any_of (part_damaged program before) (parts_in parts) ≡ true
-  choice_bad q = sym (any_damaged before p e (parts_in parts)) ∙ sym (ap (any_of (λ part. is_none (counted before p e part))) every) ∙ chosen None q
+  pub choice_bad : (j : ℕ) → Err j ≡ chosen_to (counted before p e) (parts_in parts) (part_count parts - 1) → any_of (part_damaged program before) (parts_in parts) ≡ true
+  choice_bad j q = sym (any_damaged before p e (parts_in parts)) ∙ sym (ap (any_of (λ part. is_none (counted before p e part))) every) ∙ chosen (Err j) q
 
   pub record Picked (c : Choice) : Type 0 where
     pub none_damaged : any_of (part_damaged program before) (parts_in parts) ≡ false
@@ -190,10 +190,10 @@ module _ (before parts : List ℕ) (p : ℕ) (e : p ≡ (sizes_of before).p) (h 
     pub inside : c.at < part_count parts
     pub sound : Counts.Sound (share_reading program before (find_cl (part_find (get_or (parts_in parts) c.at [])))) p c.counts
 
-  pub choice_sound : (c : Choice) → Some c ≡ chosen_to (counted before p e) (parts_in parts) (part_count parts - 1) → Picked c
+  pub choice_sound : (c : Choice) → Ok c ≡ chosen_to (counted before p e) (parts_in parts) (part_count parts - 1) → Picked c
   unfolding chosen_at part_counts
   choice_sound c q =
-      let s = chosen (Some c) q in
+      let s = chosen (Ok c) q in
       let none = sym (ap (any_of (λ part. is_none (counted before p e part))) every) ∙ s.none_damaged in record {
         none_damaged = sym (any_damaged before p e (parts_in parts)) ∙ none;
         place = s.at_least ∙ ap (λ (l : List (List ℕ)). least_at (map (λ part. sum_in (counted before p e part)) l)) every ∙ ap least_at (sums_are before p e (parts_in parts) none);

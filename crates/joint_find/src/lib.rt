@@ -245,7 +245,7 @@ fn joint_in(store: &[u8], z: Shape, parts: &[u8], output: &mut [u8]) -> Result<u
     ensures output_after { output.new ≡ (joint_find_of program store.now parts.now output.old).output }
 {
     let n = parts.len() / PART_TOKEN;
-    let Some(best) = choosing::choose(store, z, parts, n) else {
+    let Ok(best) = choosing::choose(store, z, parts, n) else {
         return Err(Refusal::Damage);
     };
     give_chosen(store, z, parts, n, best, output)
