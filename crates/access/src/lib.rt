@@ -2,7 +2,7 @@
 // bytes of its store, written after a change alone.
 #![tactic(auto)]
 
-ghost use Rattle.std.specs.Prelude.{◌≡◌, true, false, min};
+ghost use Rattle.std.specs.Prelude.{◌≡◌, true, false, min, IfSome};
 ghost use Rattle.io.specs.Counts.{IsPrefixLen};
 ghost use Rattle.words.specs.Line.{word_at};
 ghost use Rattle.request.specs.Request.{request_of};
@@ -12,28 +12,36 @@ ghost use Rattle.demand.specs.Needs.{takes_key, takes_token, changes};
 ghost use Rattle.access.specs.Unasked.{Unasked};
 
 use demand::Needs;
-use files::Loaded;
 use operands::token;
 use outcome::Outcome;
 use words::line;
 
 const STDERR_FILENO: i32 = 2;
 
+// How many bytes of a file stand at the start of the slice; None where that is not all of them.
+fn load(rt: &HostRuntime, path: &[u8], to: &mut [u8]) -> Option<usize>
+    ensures { IfSome result (λ n. IsPrefixLen n to.new) }
+{
+    let got = files::load(rt, path, to);
+    got.whole.then_some(got.n)
+}
+
 // The bytes of the file that the line's token names, where it names one.
-fn token_of(rt: &HostRuntime, line: &[u8], to: &mut [u8]) -> Loaded
-    ensures prefix_len { IsPrefixLen result.n to.new }
+fn token_of(rt: &HostRuntime, line: &[u8], to: &mut [u8]) -> Option<usize>
+    ensures prefix_len { IfSome result (λ n. IsPrefixLen n to.new) }
     ensures unasked { names_file (word_at 3 line.now) ≡ false → Unasked result }
 {
     let word = line::word(line, 3);
     if !token::names_file(word) {
-        return Loaded { n: 0, whole: true };
+        return Some(0);
     }
-    files::load(rt, &word[1..], to)
+    load(rt, &word[1..], to)
 }
 
-// The bytes of the file with the key or the token, where the request takes one.
-pub fn key_of(rt: &HostRuntime, line: &[u8], to: &mut [u8]) -> Loaded
-    ensures prefix_len { IsPrefixLen result.n to.new }
+// The bytes of the file with the key or the token, where the request takes one. Answers how many bytes stand at the
+// start of the slice; None where not all of them do.
+pub fn key_of(rt: &HostRuntime, line: &[u8], to: &mut [u8]) -> Option<usize>
+    ensures prefix_len { IfSome result (λ n. IsPrefixLen n to.new) }
     ensures unasked { takes_token (request_of line.now) ≡ false → takes_key (request_of line.now) ≡ false → Unasked result }
 {
     let q = request::read(line);
@@ -41,38 +49,36 @@ pub fn key_of(rt: &HostRuntime, line: &[u8], to: &mut [u8]) -> Loaded
         return token_of(rt, line, to);
     }
     if !demand::takes_key(q) {
-        return Loaded { n: 0, whole: true };
+        return Some(0);
     }
-    files::load(rt, line::word(line, 2), to)
+    load(rt, line::word(line, 2), to)
 }
 
 // Room for a store of n bytes, which must not be there.
-fn absent(rt: &HostRuntime, line: &[u8], n: usize, room: usize) -> Loaded
-    ensures { result.n ≡ min n room }
+fn absent(rt: &HostRuntime, line: &[u8], n: usize, room: usize) -> Option<usize>
+    ensures { IfSome result (λ k. k ≡ min n room) }
 {
-    let whole = files::is_missing(rt, line::word(line, 1));
-    if !whole {
+    if !files::is_missing(rt, line::word(line, 1)) {
         io::write_all(
             STDERR_FILENO,
             b"the store is there already, or cannot be looked for: choose another name\n",
         );
+        return None;
     }
-    Loaded {
-        n: octets::least(n, room),
-        whole,
-    }
+    Some(octets::least(n, room))
 }
 
-// The store's bytes, or room for a new one's; none where there is no store.
-pub fn fetch(rt: &HostRuntime, line: &[u8], needs: Needs, to: &mut [u8]) -> Loaded
-    ensures prefix_len { IsPrefixLen result.n to.new }
+// The store's bytes, or room for a new one's; none where there is no store. Answers how many bytes of the slice these
+// are; None where the store is not read whole, or a new one's name is taken.
+pub fn fetch(rt: &HostRuntime, line: &[u8], needs: Needs, to: &mut [u8]) -> Option<usize>
+    ensures prefix_len { IfSome result (λ n. IsPrefixLen n to.new) }
     ensures unasked { needs ≡ Needs.KeyAlone → Unasked result }
 {
     if let Needs::KeyAlone = needs {
-        return Loaded { n: 0, whole: true };
+        return Some(0);
     }
     let Needs::NewStore(n) = needs else {
-        return files::load(rt, line::word(line, 1), to);
+        return load(rt, line::word(line, 1), to);
     };
     absent(rt, line, n, to.len())
 }

@@ -2,11 +2,11 @@
 // no word holds. What is wrong is told to standard error.
 #![tactic(auto)]
 
-ghost use Rattle.std.specs.Prelude.{◌≡◌, ◌-◌, ◌<◌, ◌≤◌, length, slice_index_or};
+ghost use Rattle.std.specs.Prelude.{◌≡◌, ◌-◌, ◌<◌, ◌≤◌, length, slice_index_or, IfSome};
 ghost use Rattle.files.specs.System.{OfSystem};
 ghost use Rattle.io.specs.Counts.{IsPrefixLen};
 
-use files::{Loaded, STDERR};
+use files::STDERR;
 use std::env::FillError;
 use std::rt::Env;
 
@@ -23,35 +23,32 @@ fn count(rt: &HostRuntime) -> usize
     usize::MAX
 }
 
-// Puts word i and a 0 at the start of a slice. Answers how many bytes these are; 0 where the word is not
+// Puts word i and a 0 at the start of a slice. Answers how many bytes these are; None where the word is not
 // there whole.
-fn put_word(rt: &HostRuntime, i: usize, to: &mut [u8]) -> usize
-    ensures { (result ≤ length to.new) × (0 < result → slice_index_or to.new (result - 1) 1 ≡ 0) }
+fn put_word(rt: &HostRuntime, i: usize, to: &mut [u8]) -> Option<usize>
+    ensures { IfSome result (λ n. (0 < n) × (n ≤ length to.new) × (slice_index_or to.new (n - 1) 1 ≡ 0)) }
 {
     let Ok(n) = rt.arg(i, to) else {
         io::write_all(STDERR, b"a word of the command line: File name too long\n");
-        return 0;
+        return None;
     };
     if to.len() <= n {
         io::write_all(STDERR, b"the command line is too long\n");
-        return 0;
+        return None;
     }
     to[n] = 0;
-    n + 1
+    Some(n + 1)
 }
 
-// The words after the program's own name, as far as there is room.
-pub fn gather(rt: &HostRuntime, to: &mut [u8]) -> Loaded
-    ensures { IsPrefixLen result.n to.new }
+// The words after the program's own name, as far as there is room. Answers how many bytes stand at the start of
+// the slice; None where not all the words do.
+pub fn gather(rt: &HostRuntime, to: &mut [u8]) -> Option<usize>
+    ensures { IfSome result (λ n. IsPrefixLen n to.new) }
 {
     let count = count(rt);
     let mut at = 0;
     for i in 1..count {
-        let n = put_word(rt, i, &mut to[at..]);
-        if n == 0 {
-            return Loaded { n: 0, whole: false };
-        }
-        at += n;
+        at += put_word(rt, i, &mut to[at..])?;
     }
-    Loaded { n: at, whole: true }
+    Some(at)
 }

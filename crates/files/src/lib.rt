@@ -29,6 +29,7 @@ const PATH: usize = 4096;
 const NAME: usize = 4120;
 
 // How many bytes of a file stand at the start of the lent slice, and whether that is all that was asked.
+// A flag beside the number, and no Option: of a file that was read in part too, `filled` says that it does not fill the slice.
 #[derive(Clone, Copy)]
 pub struct Loaded {
     pub n: usize,

@@ -1,16 +1,10 @@
--- Where the system stood in the way nothing is claimed; a buffer's front that was filled.
+-- A buffer's front that was filled.
 use Prim.Native.Nat.{ℕ, ◌≤◌}
 use mathlib.Core.Path.{◌≡◌, sym, ap, ◌∙◌}
-use mathlib.Core.Bool.{true≢false}
 use mathlib.Core.List.{List, ◌++◌}
 use native.Mathlib.Omega.{arith}
 use lib.ListN.{length, take, drop, replicate, length-append, length-replicate}
 use lib.Seq.{length-take-le}
-use Rattle.mazhkuri.specs.declared.Served.{Served}
-use Rattle.mazhkuri.specs.Served.{unserved_of, ServedIf}
-
-pub not_served : {line out err out_after err_after : List ℕ} (r : Served) → r ≡ unserved_of → ServedIf line out err r out_after err_after
-not_served r e = λ h. absurd (true≢false (sym h ∙ ap (λ (s : Served). s.kept) e))
 
 -- how long a buffer of zeros is
 pub blank_length : (n : ℕ) (buffer : List ℕ) → buffer ≡ replicate n 0 → length buffer ≡ n

@@ -5,14 +5,12 @@
 // renames it to STORE and removes STORE.lock; the answer is printed after that.
 #![tactic(auto)]
 
-ghost use Rattle.std.specs.Prelude.{◌≡◌, true, false, ◌+◌, ◌≤◌, length, replicate};
+ghost use Rattle.std.specs.Prelude.{◌≡◌, ◌+◌, ◌≤◌, length, replicate, IfSome, IfNone};
 ghost use Rattle.request.specs.Request.{request_of};
-ghost use Rattle.demand.specs.Needs.{changes};
 ghost use Rattle.report.specs.Run.{Ends};
-ghost use Rattle.mazhkuri.specs.Served.{unserved_of, ServedIf, Printable};
+ghost use Rattle.mazhkuri.specs.Served.{Unkept, ServedIf, Printable};
 
 use demand::Needs;
-use outcome::Outcome;
 use report::Ran;
 use words::line;
 
@@ -30,13 +28,6 @@ const ERR: usize = 65792;
 
 // Room for the random bytes of a compaction: a nonce for each of 4,096 rows of S.
 const RANDOM: usize = 49152;
-
-// What a run gave, and whether the system did what was asked of it.
-#[derive(Clone, Copy)]
-struct Served {
-    ran: Ran,
-    kept: bool,
-}
 
 fn space() -> [u8; SPACE]
     ensures { result ≡ replicate 1134603 0 }
@@ -62,21 +53,8 @@ fn random_space() -> [u8; RANDOM]
     [0; RANDOM]
 }
 
-// What the system stood in the way of, which was told to standard error.
-fn unserved() -> Served
-    ensures { result ≡ unserved_of }
-{
-    Served {
-        ran: Ran {
-            outcome: Outcome::BadWords,
-            out: 0,
-            err: 0,
-        },
-        kept: false,
-    }
-}
-
-// A command on bytes, which are kept where it changed them.
+// A command on bytes, which are kept where it changed them. None, here and in the functions below, where the system
+// stood in the way, which was told to standard error.
 fn apply(
     rt: &HostRuntime,
     line: &[u8],
@@ -85,53 +63,59 @@ fn apply(
     random: &[u8],
     out: &mut [u8],
     err: &mut [u8],
-) -> Served
+) -> Option<Ran>
     requires { (135168 ≤ length out.old) × (length line.now + 256 ≤ length err.old) }
-    ensures ends { Ends (request_of line.now) line.now store.old key.now random.now out.old err.old result.ran store.new out.new err.new }
-    ensures kept_value { changes (request_of line.now) result.ran.outcome ≡ false → result.kept ≡ true }
+    ensures ends { IfSome result (λ ran. Ends (request_of line.now) line.now store.old key.now random.now out.old err.old ran store.new out.new err.new) }
+    ensures unkept { IfNone result (Unkept line.now store.old key.now random.now out.old err.old store.new out.new err.new) }
 {
     let ran = tool::run(line, store, key, random, out, err);
     let o = ran.outcome;
     if !demand::changes(request::read(line), o) {
-        return Served { ran, kept: true };
+        return Some(ran);
     }
-    let kept = access::keep(rt, line, store, o);
-    Served { ran, kept }
+    if !access::keep(rt, line, store, o) {
+        return None;
+    }
+    Some(ran)
 }
 
 // A command on a store that is read, with a key that is read and random bytes that are drawn where it
 // takes them.
-fn on_store(rt: &HostRuntime, line: &[u8], needs: Needs, out: &mut [u8], err: &mut [u8]) -> Served
+fn on_store(
+    rt: &HostRuntime,
+    line: &[u8],
+    needs: Needs,
+    out: &mut [u8],
+    err: &mut [u8],
+) -> Option<Ran>
     requires { (135168 ≤ length out.old) × (length line.now + 256 ≤ length err.old) }
     ensures { ServedIf line.now out.old err.old result out.new err.new }
 {
     let mut store = space();
-    let got = access::fetch(rt, line, needs, &mut store);
-    let n = got.n;
-    if !got.whole {
-        return unserved();
-    }
+    let n = access::fetch(rt, line, needs, &mut store)?;
     let mut key = [0u8; 512];
-    let given = access::key_of(rt, line, &mut key);
-    let k = given.n;
-    if !given.whole {
-        return unserved();
-    }
+    let k = access::key_of(rt, line, &mut key)?;
     let mut random = random_space();
     let m = demand::random_for(request::read(line), &store[..n]);
     if !files::randomize(rt, &mut random[..m]) {
-        return unserved();
+        return None;
     }
     apply(rt, line, &mut store[..n], &key[..k], &random[..m], out, err)
 }
 
 // The same, while no other tool changes the store.
-fn locked(rt: &HostRuntime, line: &[u8], needs: Needs, out: &mut [u8], err: &mut [u8]) -> Served
+fn locked(
+    rt: &HostRuntime,
+    line: &[u8],
+    needs: Needs,
+    out: &mut [u8],
+    err: &mut [u8],
+) -> Option<Ran>
     requires { (135168 ≤ length out.old) × (length line.now + 256 ≤ length err.old) }
     ensures { ServedIf line.now out.old err.old result out.new err.new }
 {
     if !files::lock(rt, line::word(line, 1)) {
-        return unserved();
+        return None;
     }
     let r = on_store(rt, line, needs, out, err);
     files::unlock(rt, line::word(line, 1));
@@ -139,22 +123,22 @@ fn locked(rt: &HostRuntime, line: &[u8], needs: Needs, out: &mut [u8], err: &mut
 }
 
 // A key file, whose bytes are the random ones.
-fn on_key(rt: &HostRuntime, line: &[u8], out: &mut [u8], err: &mut [u8]) -> Served
+fn on_key(rt: &HostRuntime, line: &[u8], out: &mut [u8], err: &mut [u8]) -> Option<Ran>
     requires { (135168 ≤ length out.old) × (length line.now + 256 ≤ length err.old) }
     ensures { ServedIf line.now out.old err.old result out.new err.new }
 {
     let mut key = [0u8; 32];
     if !files::randomize(rt, &mut key) {
-        return unserved();
+        return None;
     }
     if !files::make_private(rt, line::word(line, 1), &key) {
-        return unserved();
+        return None;
     }
     on_words(rt, line, out, err)
 }
 
 // A command that needs nothing but its words.
-fn on_words(rt: &HostRuntime, line: &[u8], out: &mut [u8], err: &mut [u8]) -> Served
+fn on_words(rt: &HostRuntime, line: &[u8], out: &mut [u8], err: &mut [u8]) -> Option<Ran>
     requires { (135168 ≤ length out.old) × (length line.now + 256 ≤ length err.old) }
     ensures { ServedIf line.now out.old err.old result out.new err.new }
 {
@@ -162,7 +146,7 @@ fn on_words(rt: &HostRuntime, line: &[u8], out: &mut [u8], err: &mut [u8]) -> Se
     apply(rt, line, &mut none[..0], b"", b"", out, err)
 }
 
-fn serve(rt: &HostRuntime, line: &[u8], out: &mut [u8], err: &mut [u8]) -> Served
+fn serve(rt: &HostRuntime, line: &[u8], out: &mut [u8], err: &mut [u8]) -> Option<Ran>
     requires { (135168 ≤ length out.old) × (length line.now + 256 ≤ length err.old) }
     ensures { ServedIf line.now out.old err.old result out.new err.new }
 {
@@ -178,30 +162,26 @@ fn serve(rt: &HostRuntime, line: &[u8], out: &mut [u8], err: &mut [u8]) -> Serve
 }
 
 // The answer and the message, once the system has done what was asked.
-fn print(r: Served, out: &[u8], err: &[u8])
+fn print(r: Option<Ran>, out: &[u8], err: &[u8])
     requires { Printable r out.now err.now }
     ensures { result ≡ tt }
 {
-    if !r.kept {
+    let Some(ran) = r else {
         io::write_all(STDOUT_FILENO, b"failed\n");
         return;
-    }
-    let n = r.ran.out;
-    let m = r.ran.err;
-    io::write_all(STDOUT_FILENO, &out[..n]);
-    io::write_all(STDERR_FILENO, &err[..m]);
+    };
+    io::write_all(STDOUT_FILENO, &out[..ran.out]);
+    io::write_all(STDERR_FILENO, &err[..ran.err]);
 }
 
 fn main(rt: HostRuntime) {
     let mut words = io::large_buffer();
     let mut out = out_space();
     let mut err = err_space();
-    let got = arguments::gather(&rt, &mut words);
-    let n = got.n;
-    if !got.whole {
+    let Some(n) = arguments::gather(&rt, &mut words) else {
         io::write_all(STDOUT_FILENO, b"failed\n");
         return;
-    }
+    };
     let r = serve(&rt, &words[..n], &mut out, &mut err);
     print(r, &out, &err);
 }
