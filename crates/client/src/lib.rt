@@ -32,7 +32,6 @@ fn test_field(key: &[u8], name: &[u8], value: &[u8]) -> Result<(), Refusal>
 }
 
 // The find token: refused by 1 and 2. [01:KT8 RI2 RI3]
-
 pub fn find_token(
     key: &[u8],
     name: &[u8],
