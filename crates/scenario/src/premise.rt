@@ -110,7 +110,8 @@ fn read_pair(key: &[u8], half: usize, m: &mut [u64], c: &mut [u64])
     let b = records::read_bytes(&mut value);
     let u = records::read_number();
     let mut token = [0u8; FIND_TOKEN];
-    client::find_token(key, &name[..a], &value[..b], &mut token);
+    // a refused field leaves the token of zeros, and its tags are told
+    let _ = client::find_token(key, &name[..a], &value[..b], &mut token);
     pair(keys(&token, u), half, m, c);
 }
 

@@ -5,5 +5,5 @@ use lib.ListN.{length}
 use Rattle.scenario.specs.Given.{Ran}
 use Rattle.scenario.proofs.run.Given as goal
 
-abbrev pub invariant-loop-left : goal.invariant-loop-left
-invariant-loop-left l = (length l.room ≡ length l.initial.room) × (l.n ≤ length l.initial.room) × Ran l.initial.room l.n l.room
+abbrev pub invariant-loop : goal.invariant-loop
+invariant-loop l = (length l.room ≡ length l.initial.room) × (l.n ≤ length l.initial.room) × Ran l.initial.room l.n l.room
