@@ -26,8 +26,8 @@ use Rattle.scheme.specs.Layout.{Span, span_of, Laid}
 use Rattle.scheme.proofs.Plan.{laid_cut, laid_end, laid_inside, laid_long, laid_rows, laid_from}
 use Rattle.store.specs.declared.Shape.{Shape}
 use Rattle.store.specs.declared.Part.{Part}
-use Rattle.std.specs.Prelude.{Some, None, Result, Ok, Err}
-use Rattle.store.specs.Check.{survey_of, surveys_of, table_by, part_by, shape_by, marked_of, checked_of, part_in, span_in, sizes_in}
+use Rattle.std.specs.Prelude.{Result, Ok, Err}
+use Rattle.store.specs.Check.{table_m, table_v, table_c, table_s, table_r, survey_of, surveys_of, table_by, part_by, shape_by, marked_of, checked_of, part_in, span_in, sizes_in}
 pub use Rattle.header.proofs.Laws.{InRange, in_range, length_shares, GoodHeader, good_header, sizes_read}
 pub use Rattle.store.specs.Check.{table_m, table_v, table_c, table_s, table_r}
 
@@ -72,20 +72,20 @@ module _ (b : List ℕ) (start w n most : ℕ) where
   all_rows : lent_rows ≡ rows w n (drop start b)
   all_rows = rows_take w n (start + w * n - start) (drop start b) (omega arith)
 
-  pub surveyed_bad : None ≡ cond (mark_bad most lent_rows) None (Some (free_rows lent_rows)) → Err Mark ≡ survey_of b start w n most
+  pub surveyed_bad : (free : ℕ) → Err free ≡ cond (mark_bad most lent_rows) (Err (free_rows lent_rows)) (Ok (free_rows lent_rows)) → Err Mark ≡ survey_of b start w n most
   unfolding survey_of
-  surveyed_bad e = go (mark_bad most (rows w n (drop start b))) (e ∙ ap (λ (t : Table). cond (mark_bad most t) None (Some (free_rows t))) all_rows)
+  surveyed_bad free e = go (mark_bad most (rows w n (drop start b))) (e ∙ ap (λ (t : Table). cond (mark_bad most t) (Err (free_rows t)) (Ok (free_rows t))) all_rows)
     where
-      go : (h : Bool) → None ≡ cond h None (Some (free_rows (rows w n (drop start b)))) → Err Mark ≡ cond h (Err Mark) (Ok (part_at b start w n))
+      go : (h : Bool) → Err free ≡ cond h (Err (free_rows (rows w n (drop start b)))) (Ok (free_rows (rows w n (drop start b)))) → Err Mark ≡ cond h (Err Mark) (Ok (part_at b start w n))
       go true e = refl
       go false e = absurd (let z : ◌≡◌ {A = ℕ} 0 1 = cc in omega arith)
 
-  pub surveyed : (free : ℕ) → Some free ≡ cond (mark_bad most lent_rows) None (Some (free_rows lent_rows))
+  pub surveyed : (free : ℕ) → Ok free ≡ cond (mark_bad most lent_rows) (Err (free_rows lent_rows)) (Ok (free_rows lent_rows))
       → Ok (record { start = start; end = start + w * n; rows = n; free = free }) ≡ survey_of b start w n most
   unfolding survey_of
-  surveyed free e = go (mark_bad most (rows w n (drop start b))) (e ∙ ap (λ (t : Table). cond (mark_bad most t) None (Some (free_rows t))) all_rows)
+  surveyed free e = go (mark_bad most (rows w n (drop start b))) (e ∙ ap (λ (t : Table). cond (mark_bad most t) (Err (free_rows t)) (Ok (free_rows t))) all_rows)
     where
-      go : (h : Bool) → Some free ≡ cond h None (Some (free_rows (rows w n (drop start b))))
+      go : (h : Bool) → Ok free ≡ cond h (Err (free_rows (rows w n (drop start b)))) (Ok (free_rows (rows w n (drop start b))))
           → Ok (record { start = start; end = start + w * n; rows = n; free = free }) ≡ cond h (Err Mark) (Ok (part_at b start w n))
       go true e = absurd (let z : ◌≡◌ {A = ℕ} 0 1 = cc in omega arith)
       go false e = let q : free ≡ free_rows (rows w n (drop start b)) = cc in ap (λ (k : ℕ). Ok (record { start = start; end = start + w * n; rows = n; free = k })) q
@@ -124,6 +124,43 @@ module _ (b : List ℕ) (z : Sizes) where
   pub good_surveys : (x : Shape) → bad_marks ≡ false → x ≡ shape_by b z → Ok x ≡ surveys_of b z
   unfolding surveys_of
   good_surveys x e f = rw e (ap Ok f)
+
+-- the shape of a store by the surveys of its tables, or the first refusal of one
+abbrev all_of : ℕ → Result Part Refusal → Result Part Refusal → Result Part Refusal → Result Part Refusal → Result Part Refusal → Result Shape Refusal
+all_of p (Err e) v c s r = Err e
+all_of p (Ok m) (Err e) c s r = Err e
+all_of p (Ok m) (Ok v) (Err e) s r = Err e
+all_of p (Ok m) (Ok v) (Ok c) (Err e) r = Err e
+all_of p (Ok m) (Ok v) (Ok c) (Ok s) (Err e) = Err e
+all_of p (Ok m) (Ok v) (Ok c) (Ok s) (Ok r) = Ok (record { p = p; m = m; v = v; c = c; s = s; r = r })
+
+-- the tables one after the other
+pub all_surveyed : (b : List ℕ) (z : Sizes) (r_m r_v r_c r_s r_r : Result Part Refusal)
+    → r_m ≡ survey_of b (start_of z table_m) (width_of table_m) (rows_of z table_m) (greatest_mark table_m)
+    → r_v ≡ survey_of b (start_of z table_v) (width_of table_v) (rows_of z table_v) (greatest_mark table_v)
+    → r_c ≡ survey_of b (start_of z table_c) (width_of table_c) (rows_of z table_c) (greatest_mark table_c)
+    → r_s ≡ survey_of b (start_of z table_s) (width_of table_s) (rows_of z table_s) (greatest_mark table_s)
+    → r_r ≡ survey_of b (start_of z table_r) (width_of table_r) (rows_of z table_r) (greatest_mark table_r)
+    → all_of z.p r_m r_v r_c r_s r_r ≡ surveys_of b z
+unfolding survey_of surveys_of
+all_surveyed b z r_m r_v r_c r_s r_r e_m e_v e_c e_s e_r =
+    rw (e_m, e_v, e_c, e_s, e_r) (go (bad table_m) (bad table_v) (bad table_c) (bad table_s) (bad table_r))
+  where
+    bad : Which → Bool
+    bad k = mark_bad (greatest_mark k) (table_by b z k)
+
+    surveyed_as : Bool → Which → Result Part Refusal
+    surveyed_as h k = cond h (Err Mark) (Ok (part_by b z k))
+
+    go : (h_m h_v h_c h_s h_r : Bool)
+        → all_of z.p (surveyed_as h_m table_m) (surveyed_as h_v table_v) (surveyed_as h_c table_c) (surveyed_as h_s table_s) (surveyed_as h_r table_r)
+        ≡ cond (h_m || (h_v || (h_c || (h_s || (h_r || false))))) (Err Mark) (Ok (shape_by b z))
+    go true h_v h_c h_s h_r = refl
+    go false true h_c h_s h_r = refl
+    go false false true h_s h_r = refl
+    go false false false true h_r = refl
+    go false false false false true = refl
+    go false false false false false = refl
 
 module _ (b : List ℕ) where
   pub checked_header : header_bad b ≡ true → Err Header ≡ marked_of b

@@ -86,7 +86,7 @@ fn survey(store: &[u8], start: usize, w: usize, n: usize, most: u8) -> Result<Pa
     ensures { result ≡ survey_of store.now start w n most }
 {
     let end = start + w * n;
-    let Some(free) = table::survey(&store[start..end], w, n, most) else {
+    let Ok(free) = table::survey(&store[start..end], w, n, most) else {
         return Err(Refusal::Mark);
     };
     Ok(Part {

@@ -1,4 +1,4 @@
-use Rattle.std.proofs.Common.{ap, refl, sym, Some, arith, ◌∙◌, ◌*◌, eqb, slice_index}
+use Rattle.std.proofs.Common.{ap, sym, Ok, Err, arith, ◌∙◌, ◌*◌, eqb, slice_index}
 use Rattle.octets.proofs.Compare.{bit_from}
 use Rattle.table.specs.Table.{is_free}
 use Rattle.table.proofs.Walk.{count_turn, count_end, bad_turn, bad_end}
@@ -17,7 +17,9 @@ pub returns-then-bad : goal.returns-then-bad
 returns-then-bad c =
     let l = c.loop-i in
     let s = c.args in
-    rw (sym (bad_end s.most s.w s.n l.i s.t.now l.bad _ c.loop-i-test.false l.invariant.1) ∙ c.if-bad.true) refl
+    let h = c.loop-i-test.false in
+    rw (sym (bad_end s.most s.w s.n l.i s.t.now l.bad _ h l.invariant.1) ∙ c.if-bad.true)
+    (ap Err (count_end is_free s.w s.n l.i l.free _ s.t.now h l.invariant.2))
 
 pub returns-else-bad : goal.returns-else-bad
 returns-else-bad c =
@@ -25,4 +27,4 @@ returns-else-bad c =
     let s = c.args in
     let h = c.loop-i-test.false in
     rw (sym (bad_end s.most s.w s.n l.i s.t.now l.bad _ h l.invariant.1) ∙ c.if-bad.false)
-    (ap Some (count_end is_free s.w s.n l.i l.free _ s.t.now h l.invariant.2))
+    (ap Ok (count_end is_free s.w s.n l.i l.free _ s.t.now h l.invariant.2))
