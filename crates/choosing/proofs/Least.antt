@@ -76,38 +76,12 @@ sum_in (Some k) = k.sum
 module _ (f : List ℕ → Option Counts) (ps : List (List ℕ)) where
   -- ---- one part more
 
-  pub choice_more : (i : ℕ) (c : Choice) (k : Counts) → 1 ≤ i → Ok c ≡ chosen_to f ps (i - 1) → Some k ≡ f (get_or ps i []) → Ok (better_of c i k) ≡ chosen_to f ps i
-  choice_more zero c k h e q = absurd (not-suc-le-zero h)
-  choice_more (suc i) c k h e q =
+  pub choice_next : (i : ℕ) (o : Result Choice ℕ) (x : Option Counts) → 1 ≤ i → o ≡ chosen_to f ps (i - 1) → x ≡ f (get_or ps i []) → next_of o i x ≡ chosen_to f ps i
+  choice_next zero o x h e q = absurd (not-suc-le-zero h)
+  choice_next (suc i) o x h e q =
       let n : suc i - 1 ≡ i = omega arith in
-      let p : Ok c ≡ chosen_to f ps i = e ∙ ap (λ (j : ℕ). chosen_to f ps j) n in
-      ap₂ (λ (o : Result Choice ℕ) (x : Option Counts). next_of o (suc i) x) p q
-
-  -- a part that is damaged, the first of them
-  choice_stops : (i : ℕ) (c : Choice) → 1 ≤ i → Ok c ≡ chosen_to f ps (i - 1) → None ≡ f (get_or ps i []) → Err i ≡ chosen_to f ps i
-  choice_stops zero c h e q = absurd (not-suc-le-zero h)
-  choice_stops (suc i) c h e q =
-      let n : suc i - 1 ≡ i = omega arith in
-      let p : Ok c ≡ chosen_to f ps i = e ∙ ap (λ (j : ℕ). chosen_to f ps j) n in
-      ap₂ (λ (o : Result Choice ℕ) (x : Option Counts). next_of o (suc i) x) p q
-
-  -- it stays, whatever comes after it
-  stays : (n i j : ℕ) → i ≤ n → Err j ≡ chosen_to f ps i → Err j ≡ chosen_to f ps n
-  stays zero i j h e = let m : i ≡ 0 = omega arith in e ∙ ap (λ (k : ℕ). chosen_to f ps k) m
-  stays (suc n) i j h e = go (ltb i (suc n)) refl (λ m. stays n i j m e)
-    where
-      go : (b : Bool) → ltb i (suc n) ≡ b → (i ≤ n → Err j ≡ chosen_to f ps n) → Err j ≡ next_of (chosen_to f ps n) (suc n) (f (get_or ps (suc n) []))
-      go true q r =
-          let h : i < suc n = ltb-true i (suc n) q in
-          ap (λ (o : Result Choice ℕ). next_of o (suc n) (f (get_or ps (suc n) []))) (r (omega arith))
-      go false q r =
-          let m : i ≡ suc n = omega (arith, ltb-false i (suc n) q) in e ∙ ap (λ (k : ℕ). chosen_to f ps k) m
-
-  pub first_damaged : (n : ℕ) → None ≡ f (get_or ps 0 []) → Err 0 ≡ chosen_to f ps n
-  first_damaged n e = stays n 0 0 (omega arith) (ap (λ (o : Option Counts). first_of o) e)
-
-  pub later_damaged : (n i : ℕ) (c : Choice) → 1 ≤ i → i ≤ n → Ok c ≡ chosen_to f ps (i - 1) → None ≡ f (get_or ps i []) → Err i ≡ chosen_to f ps n
-  later_damaged n i c h m e q = stays n i i m (choice_stops i c h e q)
+      let p : o ≡ chosen_to f ps i = e ∙ ap (λ (j : ℕ). chosen_to f ps j) n in
+      ap₂ (λ (r : Result Choice ℕ) (y : Option Counts). next_of r (suc i) y) p q
 
   -- ---- the part at the place of the least number
 
