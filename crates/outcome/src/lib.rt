@@ -2,9 +2,9 @@
 // and a compaction may have been made with another key than the store's.
 #![tactic(auto)]
 
-ghost use Rattle.std.specs.Prelude.{◌≡◌, List, [], ◌∷◌, ℕ};
+ghost use Rattle.std.specs.Prelude.{◌≡◌, List, [], ◌∷◌, ℕ, IfOk};
 ghost use Rattle.answer.specs.Answer.{done, answered, faults_of, totals_of, compaction_answer};
-ghost use Rattle.outcome.specs.Told.{told, is_wrong_key, with_room};
+ghost use Rattle.outcome.specs.Told.{told, is_wrong_key, compacted, with_room};
 
 use advice::Room;
 use answer::{CompactionError, Faults, Refusal, Tallied, Tally};
@@ -87,7 +87,12 @@ fn is_wrong_key(logged: usize, t: Tally) -> bool
 impl Told for Tally {
     ghost values = { totals_of };
 
-    fn outcome(self, room: Room) -> Outcome {
+    // A compaction: the wrong key's where rows were logged and no anchor was written.
+    fn outcome(self, room: Room) -> Outcome
+        ensures result_value { told result ≡ done (totals_of self) }
+        ensures value { result ≡ with_room room result }
+        ensures compaction { result ≡ compacted room.logged self }
+    {
         if is_wrong_key(room.logged, self) {
             Outcome::WrongKey(self)
         } else {
@@ -110,6 +115,7 @@ pub fn of<T: Told>(r: Result<T, Refusal>, room: Room) -> Outcome
 pub fn of_compaction(r: Result<Tally, CompactionError>, room: Room) -> Outcome
     ensures result_value { told result ≡ compaction_answer r }
     ensures value { result ≡ with_room room result }
+    ensures compaction { IfOk r (λ t. result ≡ compacted room.logged t) }
 {
     match r {
         Ok(t) => t.outcome(room),
