@@ -2,7 +2,7 @@
 // no word holds. What is wrong is told to standard error.
 #![tactic(auto)]
 
-ghost use Rattle.std.specs.Prelude.{◌≡◌, ◌-◌, ◌<◌, ◌≤◌, length, slice_index_or, IfSome};
+ghost use Rattle.std.specs.Prelude.{◌≡◌, ◌-◌, ◌<◌, ◌≤◌, length, slice_index_or, IfSome, MatchResult};
 ghost use Rattle.files.specs.System.{OfSystem};
 ghost use Rattle.io.specs.Counts.{IsPrefixLen};
 
@@ -41,14 +41,17 @@ fn put_word(rt: &HostRuntime, i: usize, to: &mut [u8]) -> Option<usize>
 }
 
 // The words after the program's own name, as far as there is room. Answers how many bytes stand at the start of
-// the slice; None where not all the words do.
-pub fn gather(rt: &HostRuntime, to: &mut [u8]) -> Option<usize>
-    ensures { IfSome result (λ n. IsPrefixLen n to.new) }
+// the slice: as an Err, of none, where not all the words do.
+pub fn gather(rt: &HostRuntime, to: &mut [u8]) -> Result<usize, usize>
+    ensures { MatchResult result (λ n. IsPrefixLen n to.new) (λ n. IsPrefixLen n to.new) }
 {
     let count = count(rt);
     let mut at = 0;
     for i in 1..count {
-        at += put_word(rt, i, &mut to[at..])?;
+        let Some(n) = put_word(rt, i, &mut to[at..]) else {
+            return Err(0);
+        };
+        at += n;
     }
-    Some(at)
+    Ok(at)
 }
