@@ -63,6 +63,17 @@ word_at : (at t : ℕ) (m : List ℕ) → word (drop (at + 4 * t) m) 0 ≡ word 
 word_at at t m =
     ap (λ (l : List ℕ). word l 0) (sym (drop-drop (4 * t) at m)) ∙ word-drop t 0 (drop at m) ∙ ap (word (drop at m)) (add-zero t)
 
+-- sixteen words by fours
+pub block_words : (at : ℕ) (m : List ℕ) →
+    first_words 4 (drop at m) ++ (first_words 4 (drop (at + 16) m) ++ (first_words 4 (drop (at + 32) m) ++ first_words 4 (drop (at + 48) m))) ≡ first_words 16 (take 64 (drop at m))
+block_words at m = sym (words_front 16 64 (drop at m) (omega arith) ∙ words_add 4 12 (drop at m) ∙ ap (λ (l : List ℕ). first_words 4 (drop at m) ++ l)
+    (ap (first_words 12) (drop-drop 16 at m) ∙ words_add 4 8 (drop (at + 16) m) ∙ ap (λ (l : List ℕ). first_words 4 (drop (at + 16) m) ++ l)
+    (ap (first_words 8) (place (at + 16) (at + 32) (omega arith)) ∙ words_add 4 4 (drop (at + 32) m)
+    ∙ ap (λ (l : List ℕ). first_words 4 (drop (at + 32) m) ++ l) (ap (first_words 4) (place (at + 32) (at + 48) (omega arith))))))
+  where
+    place : (a e : ℕ) → a + 16 ≡ e → drop 16 (drop a m) ≡ drop e m
+    place a e h = drop-drop 16 a m ∙ ap (λ (k : ℕ). drop k m) h
+
 -- ---- the schedule, sixteen words of it at a time
 
 length_words : (n : ℕ) (b : List ℕ) → length (first_words n b) ≡ n
