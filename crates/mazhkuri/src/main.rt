@@ -92,9 +92,13 @@ fn on_store(
     ensures { ServedIf line.now out.old err.old result out.new err.new }
 {
     let mut store = space();
-    let n = access::fetch(rt, line, needs, &mut store)?;
+    let Ok(n) = access::fetch(rt, line, needs, &mut store) else {
+        return None;
+    };
     let mut key = [0u8; 512];
-    let k = access::key_of(rt, line, &mut key)?;
+    let Ok(k) = access::key_of(rt, line, &mut key) else {
+        return None;
+    };
     let mut random = random_space();
     let m = demand::random_for(request::read(line), &store[..n]);
     if !files::randomize(rt, &mut random[..m]) {
@@ -178,7 +182,7 @@ fn main(rt: HostRuntime) {
     let mut words = io::large_buffer();
     let mut out = out_space();
     let mut err = err_space();
-    let Some(n) = arguments::gather(&rt, &mut words) else {
+    let Ok(n) = arguments::gather(&rt, &mut words) else {
         io::write_all(STDOUT_FILENO, b"failed\n");
         return;
     };
