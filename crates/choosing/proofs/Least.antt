@@ -83,6 +83,25 @@ module _ (f : List ℕ → Option Counts) (ps : List (List ℕ)) where
       let p : o ≡ chosen_to f ps i = e ∙ ap (λ (j : ℕ). chosen_to f ps j) n in
       ap₂ (λ (r : Result Choice ℕ) (y : Option Counts). next_of r (suc i) y) p q
 
+  -- ---- a part that is damaged, the first of them: it stays, whatever comes after it
+
+  stays : (n i j : ℕ) → i ≤ n → Err j ≡ chosen_to f ps i → Err j ≡ chosen_to f ps n
+  stays zero i j h e = let m : i ≡ 0 = omega arith in e ∙ ap (λ (k : ℕ). chosen_to f ps k) m
+  stays (suc n) i j h e = go (ltb i (suc n)) refl (λ m. stays n i j m e)
+    where
+      go : (b : Bool) → ltb i (suc n) ≡ b → (i ≤ n → Err j ≡ chosen_to f ps n) → Err j ≡ next_of (chosen_to f ps n) (suc n) (f (get_or ps (suc n) []))
+      go true q r =
+          let h : i < suc n = ltb-true i (suc n) q in
+          ap (λ (o : Result Choice ℕ). next_of o (suc n) (f (get_or ps (suc n) []))) (r (omega arith))
+      go false q r =
+          let m : i ≡ suc n = omega (arith, ltb-false i (suc n) q) in e ∙ ap (λ (k : ℕ). chosen_to f ps k) m
+
+  pub first_damaged : (n : ℕ) → None ≡ f (get_or ps 0 []) → Err 0 ≡ chosen_to f ps n
+  first_damaged n e = stays n 0 0 (omega arith) (ap (λ (o : Option Counts). first_of o) e)
+
+  pub later_damaged : (n i : ℕ) (c : Choice) → 1 ≤ i → i ≤ n → Ok c ≡ chosen_to f ps (i - 1) → None ≡ f (get_or ps i []) → Err i ≡ chosen_to f ps n
+  later_damaged n i c h m e q = stays n i i m (choice_next i (Ok c) None h e q)
+
   -- ---- the part at the place of the least number
 
   abbrev damaged_to : ℕ → Bool
